@@ -1,0 +1,84 @@
+-- What the mailbox core of one controller keeps (RM0008, bxCAN, "Transmission handling").
+use Rattle.std.specs.Prelude.{ℕ, suc, ◌==◌, Option, Some, None, List, [], ◌∷◌, map, replicate, Bool, true, false, if◌then◌else◌}
+use Rattle.std.specs.List.{slice_index_or}
+use Rattle.bx_core.specs.declared.entry.Entry.{Entry}
+use Rattle.bx_core.specs.declared.waiting.Waiting.{Waiting}
+use Rattle.bx_core.specs.declared.status.Status.{Status}
+use Rattle.bx_core.specs.declared.status.Status.TheVariants.{Pending, Scheduled, Transmitting}
+
+-- what became of a route's requests, each list in the order of its events
+pub record RouteLists : Type 0 where
+  -- every request, with its frame
+  pub requested : List Entry
+  -- those that were sent
+  pub done : List Entry
+  -- those that were aborted before their transmission began
+  pub aborted : List ℕ
+  -- those that were aborted after a transmission that failed
+  pub reaped : List ℕ
+
+pub record State : Type 0 where
+  -- of each mailbox, the route that fills it
+  pub claims : List (Option ℕ)
+  -- the requests that wait in a mailbox, the oldest first
+  pub queue : List Waiting
+  -- of each route, its lists
+  pub routes : List RouteLists
+
+-- a route that requested nothing yet
+abbrev pub no_lists : RouteLists
+no_lists = record { requested = []; done = []; aborted = []; reaped = [] }
+
+-- three empty mailboxes, and this many routes that requested nothing yet
+abbrev pub opening : ℕ → State
+opening routes = record { claims = replicate 3 None; queue = []; routes = replicate routes no_lists }
+
+-- the route that fills a mailbox
+abbrev pub claim_of : State → ℕ → Option ℕ
+claim_of s mailbox = slice_index_or s.claims mailbox None
+
+-- the lists of a route
+abbrev pub lists_of : State → ℕ → RouteLists
+lists_of s route = slice_index_or s.routes route no_lists
+
+-- a request waits in this mailbox
+abbrev pub is_at : ℕ → Waiting → Bool
+is_at mailbox w = w.mailbox == mailbox
+
+-- the request that waits in a mailbox
+abbrev pub at_mailbox : ℕ → List Waiting → Option Waiting
+at_mailbox mailbox [] = None
+at_mailbox mailbox (w ∷ ws) = if is_at mailbox w then Some w else at_mailbox mailbox ws
+
+-- its place in the queue, from 0, or the queue's length where the mailbox holds none
+abbrev pub place_of : ℕ → List Waiting → ℕ
+place_of mailbox [] = 0
+place_of mailbox (w ∷ ws) = if is_at mailbox w then 0 else suc (place_of mailbox ws)
+
+-- a waiting request as its route's lists keep it
+abbrev pub entry_of : Waiting → Entry
+entry_of w = record { number = w.number; frame = w.frame }
+
+-- the numbers of requests
+abbrev pub numbers : List Entry → List ℕ
+numbers = map (λ (e : Entry). e.number)
+
+-- the numbers of a route's requests that wait, the oldest first
+abbrev pub waits_of : ℕ → List Waiting → List ℕ
+waits_of route [] = []
+waits_of route (w ∷ ws) = if w.route == route then w.number ∷ waits_of route ws else waits_of route ws
+
+abbrev pub is_pending : Status → Bool
+is_pending Pending = true
+is_pending Scheduled = false
+is_pending Transmitting = false
+
+abbrev pub is_scheduled : Status → Bool
+is_scheduled Pending = false
+is_scheduled Scheduled = true
+is_scheduled Transmitting = false
+
+abbrev pub is_transmitting : Status → Bool
+is_transmitting Pending = false
+is_transmitting Scheduled = false
+is_transmitting Transmitting = true

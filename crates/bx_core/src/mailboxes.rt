@@ -1,0 +1,487 @@
+//! The core: the mailboxes' claims, the requests that wait in them, and each route's lists.
+ghost use Rattle.std.specs.Prelude.{◌≡◌, ◌<◌, ◌≤◌, length, true, IsTrue, ◌↔◌, OnOk, OnErr, Err, None, Some, IfSome, option_map};
+ghost use Rattle.std.specs.List.{slice_index_or};
+ghost use Rattle.bx_core.specs.declared.waiting.Waiting.{Waiting};
+ghost use Rattle.bx_core.specs.States.{State, opening, claim_of, lists_of, at_mailbox, place_of, waits_of};
+ghost use Rattle.bx_core.specs.Steps.{last_number, Steps, IsRequest, InRange, Leads, after, claimed, withdrawn, requested, scheduled, started, completed, failed, aborted, reaped, is_claim_of, may_follow, with_claim, with_waiting, with_request, without};
+ghost use Rattle.bx_core.specs.End.{ended_lists};
+ghost use Rattle.bx_core.specs.Room.{lists_view};
+ghost use Rattle.bx_core.specs.Law.{Law, Reached};
+
+use crate::end::End;
+use crate::entry::Entry;
+use crate::event::Event;
+use crate::lists::Lists;
+use crate::queue;
+use crate::refused::Refused;
+use crate::status::Status;
+use crate::waiting::Waiting;
+use arrayvec::ArrayVec;
+use can_frame::Frame;
+use std::alloc::{AllocError, Global};
+use std::marker::Model;
+
+/// The three transmit mailboxes of one controller, shared by up to eight routes
+/// (RM0008, bxCAN, "Transmission handling", with the priority by order of request: TXFP set).
+#[derive(Drop)]
+pub struct Core {
+    claims: [Option<u8>; 3],
+    queue: ArrayVec<Waiting, 3>,
+    routes: [Lists; 8],
+    count: u8,
+}
+
+impl Model for Core {
+    ghost use Rattle.bx_core.specs.States.{State};
+
+    ghost Value = { State };
+
+    ghost use Rattle.bx_core.specs.Mailboxes.{core_view, IsKept};
+
+    ghost view = { core_view };
+
+    ghost invariant = { IsKept };
+}
+
+impl Core {
+    /// Three empty mailboxes, and 1 to 8 routes that requested nothing yet. Takes no memory.
+    pub fn new(alloc: Global, routes: u8) -> Core
+        requires few { routes ≤ 8 }
+        requires some { 1 ≤ routes }
+        ensures { result ≡ opening routes }
+    {
+        Core {
+            claims: [None; 3],
+            queue: ArrayVec::new(),
+            routes: [
+                Lists::new(alloc),
+                Lists::new(alloc),
+                Lists::new(alloc),
+                Lists::new(alloc),
+                Lists::new(alloc),
+                Lists::new(alloc),
+                Lists::new(alloc),
+                Lists::new(alloc),
+            ],
+            count: routes,
+        }
+    }
+
+    /// Takes one event, or says why not: of the refusals that hold, the first in the order that
+    /// `Event` names them in. A refused event changes nothing.
+    ///
+    /// Only a request takes memory, for itself and for each way in which it may end. It answers
+    /// `Memory` only where that growth was refused, and nothing else refuses it.
+    /// The test for the condition is `is_in_range`.
+    pub fn apply(&mut self, event: Event) -> Result<(), Refused>
+        requires { InRange self.old event }
+        ensures step { Steps (IsRequest event) self.old (after self.old event) result self.new }
+        ensures refused { OnErr result (self.new ≡ self.old) }
+        ensures memory { result ≡ Err Refused.Memory → IsRequest event }
+
+        ensures law { Law self.new }
+        ensures routes { length self.new.routes ≡ length self.old.routes }
+    {
+        self.keep_law();
+        let answer = self.take(event);
+        self.keep_law();
+        answer
+    }
+
+    /// Does nothing. Its contract says what holds of every core: events led to its state, and the
+    /// core law holds.
+    pub fn keep_law(&self)
+        ensures reached { Reached self.now }
+        ensures law { Law self.now }
+    {
+        let _ = &self.queue;
+    }
+
+    /// Whether an event names one of the three mailboxes and, where it names a route, one of the
+    /// core's.
+    pub fn is_in_range(&self, event: &Event) -> bool
+        ensures { IsTrue result ↔ InRange self.now event.now }
+    {
+        match *event {
+            Event::Claim { route, mailbox }
+            | Event::Withdraw { route, mailbox }
+            | Event::Abort { route, mailbox } => self.has_place(route, mailbox),
+            Event::Request { route, mailbox, .. } => self.has_place(route, mailbox),
+            Event::Schedule { mailbox }
+            | Event::Start { mailbox }
+            | Event::Complete { mailbox }
+            | Event::Fail { mailbox }
+            | Event::Reap { mailbox } => mailbox < 3,
+        }
+    }
+
+    fn has_place(&self, route: u8, mailbox: u8) -> bool
+        ensures { IsTrue result ↔ ((route < length self.now.routes) × (mailbox < 3)) }
+    {
+        route < self.routes() && mailbox < 3
+    }
+
+    /// How many routes there are, 1 to 8.
+    pub fn routes(&self) -> u8
+        ensures { result ≡ length self.now.routes }
+    {
+        self.count
+    }
+
+    /// All that a route requested, in order.
+    pub fn requested(&self, route: u8) -> &[Entry]
+        requires { route < length self.now.routes }
+        ensures { result.now ≡ (lists_of self.now route).requested }
+    {
+        self.lists(route).requested.as_slice()
+    }
+
+    /// Those of a route's requests that were sent, in order.
+    pub fn done(&self, route: u8) -> &[Entry]
+        requires { route < length self.now.routes }
+        ensures { result.now ≡ (lists_of self.now route).done }
+    {
+        self.lists(route).done.as_slice()
+    }
+
+    /// The numbers of a route's requests that were aborted while they were pending or scheduled, in
+    /// the order of the aborts.
+    pub fn aborted(&self, route: u8) -> &[u32]
+        requires { route < length self.now.routes }
+        ensures { result.now ≡ (lists_of self.now route).aborted }
+    {
+        self.lists(route).aborted.as_slice()
+    }
+
+    /// The numbers of a route's requests whose abort was asked while they were transmitting, and
+    /// whose transmission then failed, in the order of their ends.
+    pub fn reaped(&self, route: u8) -> &[u32]
+        requires { route < length self.now.routes }
+        ensures { result.now ≡ (lists_of self.now route).reaped }
+    {
+        self.lists(route).reaped.as_slice()
+    }
+
+    /// The numbers of a route's requests that wait in a mailbox, the oldest first. Of a route that
+    /// isn't there: none.
+    pub fn waiting(&self, route: u8) -> ArrayVec<u32, 3>
+        ensures { result.items ≡ waits_of route self.now.queue }
+    {
+        queue::waits(self.queue.as_slice(), route)
+    }
+
+    /// The newest number that a route requested, or 0 where it requested nothing yet.
+    pub fn last_number(&self, route: u8) -> u32
+        requires { route < length self.now.routes }
+        ensures { result ≡ last_number (lists_of self.now route).requested }
+    {
+        self.lists(route).last_number()
+    }
+
+    fn lists(&self, route: u8) -> &Lists
+        requires { route < length self.now.routes }
+        ensures { lists_view result.now ≡ lists_of self.now route }
+    {
+        &self.routes[usize::from(route)]
+    }
+
+    fn take(&mut self, event: Event) -> Result<(), Refused>
+        requires { InRange self.old event }
+        ensures { Steps (IsRequest event) self.old (after self.old event) result self.new }
+    {
+        match event {
+            Event::Claim { route, mailbox } => self.claim(route, mailbox),
+            Event::Request {
+                route,
+                mailbox,
+                number,
+                frame,
+            } => self.request(route, mailbox, number, frame),
+            Event::Withdraw { route, mailbox } => self.withdraw(route, mailbox),
+            Event::Schedule { mailbox } => self.schedule(mailbox),
+            Event::Start { mailbox } => self.start(mailbox),
+            Event::Complete { mailbox } => self.complete(mailbox),
+            Event::Fail { mailbox } => self.fail(mailbox),
+            Event::Abort { route, mailbox } => self.abort(route, mailbox),
+            Event::Reap { mailbox } => self.reap(mailbox),
+        }
+    }
+
+    #[tactic(auto, unfolding(crate::specs::Steps::claimed))]
+    fn claim(&mut self, route: u8, mailbox: u8) -> Result<(), Refused>
+        requires in_range { route < length self.old.routes }
+        requires in_mailboxes { mailbox < 3 }
+        ensures { Steps ⊥ self.old (claimed self.old route mailbox) result self.new }
+    {
+        if self.claim_at(mailbox).is_some() {
+            return Err(Refused::NotEmpty);
+        }
+        if self.find(mailbox).is_some() {
+            return Err(Refused::NotEmpty);
+        }
+        self.set_claim(mailbox, Some(route));
+        Ok(())
+    }
+
+    #[tactic(auto, unfolding(crate::specs::Steps::withdrawn))]
+    fn withdraw(&mut self, route: u8, mailbox: u8) -> Result<(), Refused>
+        requires in_range { route < length self.old.routes }
+        requires in_mailboxes { mailbox < 3 }
+        ensures { Steps ⊥ self.old (withdrawn self.old route mailbox) result self.new }
+    {
+        if !self.is_claimed_by(mailbox, route) {
+            return Err(Refused::NotOwner);
+        }
+        self.set_claim(mailbox, None);
+        Ok(())
+    }
+
+    #[tactic(auto, unfolding(crate::specs::Steps::requested))]
+    fn request(&mut self, route: u8, mailbox: u8, number: u32, frame: Frame) -> Result<(), Refused>
+        requires in_range { route < length self.old.routes }
+        requires in_mailboxes { mailbox < 3 }
+        ensures { Steps (Unit {0}) self.old (requested self.old route mailbox number frame) result self.new }
+    {
+        if !self.is_claimed_by(mailbox, route) {
+            return Err(Refused::NotOwner);
+        }
+        if !self.may_follow(route, number) {
+            return Err(Refused::NumberOrder);
+        }
+        match self.add_request(route, mailbox, number, frame) {
+            Ok(()) => Ok(()),
+            Err(_) => Err(Refused::Memory),
+        }
+    }
+
+    #[tactic(auto, unfolding(crate::specs::Steps::scheduled))]
+    fn schedule(&mut self, mailbox: u8) -> Result<(), Refused>
+        requires in_mailboxes { mailbox < 3 }
+        ensures { Steps ⊥ self.old (scheduled self.old mailbox) result self.new }
+    {
+        match self.find(mailbox) {
+            None => Err(Refused::WrongState),
+            Some((place, waiting)) => {
+                if !waiting.status.is_pending() {
+                    return Err(Refused::WrongState);
+                }
+                if place != 0 {
+                    return Err(Refused::NotOldest);
+                }
+                self.set_waiting(
+                    place,
+                    Waiting {
+                        status: Status::Scheduled,
+                        ..waiting
+                    },
+                );
+                Ok(())
+            }
+        }
+    }
+
+    #[tactic(auto, unfolding(crate::specs::Steps::started))]
+    fn start(&mut self, mailbox: u8) -> Result<(), Refused>
+        requires in_mailboxes { mailbox < 3 }
+        ensures { Steps ⊥ self.old (started self.old mailbox) result self.new }
+    {
+        match self.find(mailbox) {
+            None => Err(Refused::WrongState),
+            Some((place, waiting)) => {
+                if !waiting.may_start() {
+                    return Err(Refused::WrongState);
+                }
+                self.set_waiting(
+                    place,
+                    Waiting {
+                        status: Status::Transmitting,
+                        ..waiting
+                    },
+                );
+                Ok(())
+            }
+        }
+    }
+
+    #[tactic(auto, unfolding(crate::specs::Steps::completed))]
+    fn complete(&mut self, mailbox: u8) -> Result<(), Refused>
+        requires in_mailboxes { mailbox < 3 }
+        ensures { Steps ⊥ self.old (completed self.old mailbox) result self.new }
+    {
+        match self.find(mailbox) {
+            None => Err(Refused::WrongState),
+            Some((place, waiting)) => {
+                if !waiting.status.is_transmitting() {
+                    return Err(Refused::WrongState);
+                }
+                self.end(place, waiting, End::Done);
+                Ok(())
+            }
+        }
+    }
+
+    #[tactic(auto, unfolding(crate::specs::Steps::failed))]
+    fn fail(&mut self, mailbox: u8) -> Result<(), Refused>
+        requires in_mailboxes { mailbox < 3 }
+        ensures { Steps ⊥ self.old (failed self.old mailbox) result self.new }
+    {
+        match self.find(mailbox) {
+            None => Err(Refused::WrongState),
+            Some((place, waiting)) => {
+                if !waiting.status.is_transmitting() {
+                    return Err(Refused::WrongState);
+                }
+                self.set_waiting(
+                    place,
+                    Waiting {
+                        status: Status::Scheduled, // the frame is tried again
+                        ..waiting
+                    },
+                );
+                Ok(())
+            }
+        }
+    }
+
+    #[tactic(auto, unfolding(crate::specs::Steps::aborted))]
+    fn abort(&mut self, route: u8, mailbox: u8) -> Result<(), Refused>
+        requires in_range { route < length self.old.routes }
+        requires in_mailboxes { mailbox < 3 }
+        ensures { Steps ⊥ self.old (aborted self.old route mailbox) result self.new }
+    {
+        match self.find(mailbox) {
+            None => {
+                if !self.is_claimed_by(mailbox, route) {
+                    return Err(Refused::NotOwner);
+                }
+                Err(Refused::WrongState)
+            }
+            Some((place, waiting)) => {
+                if waiting.route != route {
+                    return Err(Refused::NotOwner);
+                }
+                if waiting.abort_asked {
+                    return Err(Refused::WrongState);
+                }
+                if waiting.status.is_transmitting() {
+                    self.set_waiting(
+                        place,
+                        Waiting {
+                            abort_asked: true,
+                            ..waiting
+                        },
+                    );
+                } else {
+                    self.end(place, waiting, End::Aborted);
+                }
+                Ok(())
+            }
+        }
+    }
+
+    #[tactic(auto, unfolding(crate::specs::Steps::reaped))]
+    fn reap(&mut self, mailbox: u8) -> Result<(), Refused>
+        requires in_mailboxes { mailbox < 3 }
+        ensures { Steps ⊥ self.old (reaped self.old mailbox) result self.new }
+    {
+        match self.find(mailbox) {
+            None => Err(Refused::WrongState),
+            Some((place, waiting)) => {
+                if !waiting.may_reap() {
+                    return Err(Refused::WrongState);
+                }
+                self.end(place, waiting, End::Reaped);
+                Ok(())
+            }
+        }
+    }
+
+    fn is_claimed_by(&self, mailbox: u8, route: u8) -> bool
+        requires { mailbox < 3 }
+        ensures { result ≡ is_claim_of (claim_of self.now mailbox) route }
+    {
+        match self.claim_at(mailbox) {
+            Some(owner) => owner == route,
+            None => false,
+        }
+    }
+
+    fn may_follow(&self, route: u8, number: u32) -> bool
+        requires { route < length self.now.routes }
+        ensures { result ≡ may_follow self.now route number }
+    {
+        self.routes[usize::from(route)].last_number() < number && number <= 16_777_215
+    }
+
+    fn claim_at(&self, mailbox: u8) -> Option<u8>
+        requires { mailbox < 3 }
+        ensures { result ≡ claim_of self.now mailbox }
+    {
+        self.claims[usize::from(mailbox)]
+    }
+
+    fn find(&self, mailbox: u8) -> Option<(usize, Waiting)>
+        ensures place { IfSome result (λ found. found.0 ≡ place_of mailbox self.now.queue) }
+        ensures within { IfSome result (λ found. found.0 < length self.now.queue) }
+        ensures waiting { option_map (λ found. found.1) result ≡ at_mailbox mailbox self.now.queue }
+    {
+        queue::find(self.queue.as_slice(), mailbox)
+    }
+
+    fn set_claim(&mut self, mailbox: u8, claim: Option<u8>)
+        requires mailbox { mailbox < 3 }
+        requires leads { Leads self.old (with_claim self.old mailbox claim) }
+        ensures { self.new ≡ with_claim self.old mailbox claim }
+    {
+        self.claims[usize::from(mailbox)] = claim;
+    }
+
+    fn set_waiting(&mut self, place: usize, waiting: Waiting)
+        requires place { place < length self.old.queue }
+        requires route { (w : Waiting) → (slice_index_or self.old.queue place w).route ≡ waiting.route }
+        requires leads { Leads self.old (with_waiting self.old place waiting) }
+        ensures { self.new ≡ with_waiting self.old place waiting }
+    {
+        queue::set_waiting(&mut self.queue, place, waiting);
+    }
+
+    /// Puts a request in the place of its claim, with room for what it may become.
+    fn add_request(
+        &mut self,
+        route: u8,
+        mailbox: u8,
+        number: u32,
+        frame: Frame,
+    ) -> Result<(), AllocError>
+        requires in_range { route < length self.old.routes }
+        requires in_mailboxes { mailbox < 3 }
+        requires claimed { is_claim_of (claim_of self.old mailbox) route ≡ true }
+        requires leads { Leads self.old (with_request self.old route mailbox number frame) }
+        ensures ok { OnOk result (self.new ≡ with_request self.old route mailbox number frame) }
+        ensures err { OnErr result (self.new ≡ self.old) }
+    {
+        let lists = &mut self.routes[usize::from(route)];
+        lists.add_requested(Entry { number, frame })?;
+        self.claims[usize::from(mailbox)] = None;
+        self.queue.push(Waiting {
+            route,
+            number,
+            frame,
+            mailbox,
+            status: Status::Pending,
+            abort_asked: false,
+        });
+        Ok(())
+    }
+
+    /// Takes a request out of the queue, into one of its route's lists.
+    fn end(&mut self, place: usize, waiting: Waiting, end: End)
+        requires place { place < length self.old.queue }
+        requires waiting { (w : Waiting) → slice_index_or self.old.queue place w ≡ waiting }
+        requires leads { Leads self.old (without self.old place waiting.route (ended_lists (lists_of self.old waiting.route) waiting end)) }
+        ensures { self.new ≡ without self.old place waiting.route (ended_lists (lists_of self.old waiting.route) waiting end) }
+    {
+        self.queue.remove(place);
+        self.routes[usize::from(waiting.route)].add_ended(&waiting, end);
+    }
+}

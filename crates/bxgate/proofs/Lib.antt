@@ -1,0 +1,4 @@
+pub mod FaultLaws
+pub mod Lists
+pub mod Hexadecimal
+pub mod ReportLaws

@@ -1,0 +1,9 @@
+pub mod Faults
+pub mod Fields
+pub mod Frames
+pub mod EventLists
+pub mod Documents
+pub mod FrameTexts
+pub mod Reports
+pub mod Words
+pub mod Outcomes

@@ -1,0 +1,41 @@
+//! A gateway between CAN segments: the program.
+#![tactic(auto)]
+
+mod command;
+mod event_list;
+mod failure;
+mod fields;
+mod frame_text;
+mod frames;
+mod input;
+mod program;
+mod report;
+mod script_fault;
+
+use crate::program::{refused_arguments, tool};
+use std::io;
+use std::process::ExitCode;
+
+fn words_of(rt: &HostRuntime) -> io::Result<Vec<String>> {
+    let words = std::env::args(rt)?.collect(rt.alloc())?;
+    Ok(words)
+}
+
+fn main(rt: HostRuntime) -> ExitCode {
+    let mut faults = rt.stderr();
+    let status = match words_of(&rt) {
+        Ok(words) => tool(
+            &rt,
+            rt.alloc(),
+            words.as_slice(),
+            &mut rt.stdin(),
+            &mut rt.stdout(),
+            &mut faults,
+        ),
+        Err(error) => refused_arguments(&error, &mut faults),
+    };
+    ExitCode::from(status)
+}
+
+#[cfg(test)]
+mod tests;

@@ -1,0 +1,16 @@
+pub mod Polynomials
+pub mod Bits
+pub mod Stuffed
+pub mod Numbers
+pub mod OneStuffing
+pub mod FieldTexts
+pub mod OneCheck
+pub mod Regions
+pub mod FrontLaws
+pub mod Tails
+pub mod Undecided
+pub mod Steps
+pub mod Nexts
+pub mod ReaderLaws
+pub mod Spellings
+pub mod Runs

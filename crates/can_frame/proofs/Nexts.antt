@@ -1,0 +1,122 @@
+-- What a reader holds next.
+use Rattle.std.proofs.Common.{◌≡◌, ℕ, ◌+◌, ◌≤◌, ◌<◌, Bool, true, false, List, [], ◌∷◌, ◌++◌, length, reverse, refl, sym, subst, ◌∙◌, arith}
+use Rattle.std.proofs.lemmas.List.{append-nil}
+use Rattle.can_frame.specs.Frames.{FrameValue}
+use Rattle.can_frame.specs.Stuffing.{five_equal}
+use Rattle.can_frame.specs.FieldReading.{fields_length, frame_at}
+use Rattle.can_frame.specs.Destuffing.{Pushes}
+use Rattle.can_frame.specs.Answers.{Answers, IsLast, IsUndecided}
+use Rattle.can_frame.specs.Reading.{Inside, InRegion, InTail, TailNext, HasEnded, StandsAt, IsOpen, Leaves, Next, Judges}
+use Rattle.can_frame.specs.declared.destuffing.Piece.{Piece}
+use Rattle.can_frame.specs.declared.destuffing.Piece.TheVariants as piece
+use Rattle.can_frame.specs.declared.step.FaultKind.TheVariants.{Stuff, Form}
+use Rattle.can_frame.specs.declared.step.Step.{Step}
+use Rattle.can_frame.specs.declared.step.Step.TheVariants.{More, StuffBit, Body, Tail, Taken, Fault}
+use Rattle.can_frame.specs.declared.reader.Place.{Place}
+use Rattle.can_frame.specs.declared.reader.Place.TheVariants.{Region, AfterBody, Ended}
+use Rattle.can_frame.specs.declared.reader.Reader.{Reader}
+use Rattle.can_frame.proofs.Stuffed.{after_five, not_five}
+use Rattle.can_frame.proofs.Regions.{completes, length_few}
+use Rattle.can_frame.proofs.Undecided.{region_undecided, tail_undecided}
+use Rattle.can_frame.proofs.Steps.{stuff_fault, sof_fault, after_data, after_stuff, body_tail, still_inside, Kept}
+
+ended : (step : Step) (text : List Bool) (level : Bool) → IsUndecided text → Answers step text level → IsLast step → HasEnded step (text ++ level ∷ [])
+ended step text level u h l = record { before = text; level = level; more = []; whole = sym (append-nil (text ++ level ∷ [])); undecided = u; answer = h; last = l }
+
+-- `Leaves` by the place alone
+abbrev LeavesAt : Step → Place → Type 0
+LeavesAt More place = IsOpen place
+LeavesAt StuffBit place = IsOpen place
+LeavesAt (Body frame right) place = IsOpen place
+LeavesAt Tail place = IsOpen place
+LeavesAt (Taken frame) place = place ≡ Ended (Taken frame)
+LeavesAt (Fault kind) place = place ≡ Ended (Fault kind)
+
+leaves_at : (step : Step) (new : Reader) → LeavesAt step new.place → Leaves step new
+leaves_at More new h = h
+leaves_at StuffBit new h = h
+leaves_at (Body frame right) new h = h
+leaves_at Tail new h = h
+leaves_at (Taken frame) new h = h
+leaves_at (Fault kind) new h = h
+
+next_by : (step : Step) (new : Reader) (p : Place) (text : List Bool) (level : Bool) → new.place ≡ p → Answers step text level →
+    StandsAt p new.destuffer.run new.destuffer.last new.levels.items (text ++ level ∷ []) → LeavesAt step p → Next step new text level
+next_by step new p text level e a s l = record {
+  answer = a;
+  stands = subst (λ q. StandsAt q new.destuffer.run new.destuffer.last new.levels.items (text ++ level ∷ [])) (sym e) s;
+  leaves = leaves_at step new (subst (LeavesAt step) (sym e) l);
+}
+
+pub tail_goes_on : (step : Step) (f : FrameValue) (right : Bool) (seen : ℕ) (text : List Bool) (level : Bool) (new : Reader) → step ≡ Tail → new.place ≡ AfterBody f right (seen + 1) →
+    TailNext step f right seen text level → Next step new text level
+tail_goes_on step f right seen text level new e place h =
+    let t = subst (λ s. TailNext s f right seen text level) e h in
+    subst (λ s. Next s new text level) (sym e) (next_by Tail new (AfterBody f right (seen + 1)) text level place t.answer t.goes tt)
+
+pub tail_few : (step : Step) (f : FrameValue) (right : Bool) (seen : ℕ) (text : List Bool) (level : Bool) → step ≡ Tail → TailNext step f right seen text level → seen + 1 ≤ 8
+tail_few step f right seen text level e h = let t = subst (λ s. TailNext s f right seen text level) e h in t.goes.few
+
+pub tail_ends : (step : Step) (f : FrameValue) (right : Bool) (seen : ℕ) (text : List Bool) (level : Bool) (new : Reader) → (step ≡ Tail → ⊥) → new.place ≡ Ended step → InTail f right seen text →
+    TailNext step f right seen text level → Next step new text level
+tail_ends More f right seen text level new other place t h = absurd h.goes
+tail_ends StuffBit f right seen text level new other place t h = absurd h.goes
+tail_ends (Body frame ok) f right seen text level new other place t h = absurd h.goes
+tail_ends Tail f right seen text level new other place t h = absurd (other refl)
+tail_ends (Taken frame) f right seen text level new other place t h =
+    next_by (Taken frame) new (Ended (Taken frame)) text level place h.answer (ended (Taken frame) text level (tail_undecided f right seen text t) h.answer tt) refl
+tail_ends (Fault kind) f right seen text level new other place t h =
+    next_by (Fault kind) new (Ended (Fault kind)) text level place h.answer (ended (Fault kind) text level (tail_undecided f right seen text t) h.answer tt) refl
+
+pub next_sof : (run : ℕ) (last : Bool) (u text : List Bool) (level : Bool) (new : Reader) → InRegion run last u text → u ≡ [] → level ≡ true → new.place ≡ Ended (Fault Form) → Next (Fault Form) new text level
+next_sof run last u text level new h none e place =
+    let a = sof_fault text u level h.inside none e in
+    next_by (Fault Form) new (Ended (Fault Form)) text level place a (ended (Fault Form) text level (region_undecided text u h.inside) a tt) refl
+
+pub next_sixth : (run next : ℕ) (last newer : Bool) (u text : List Bool) (level : Bool) (new : Reader) (p : Piece) → InRegion run last u text → p ≡ piece.Fault →
+    Pushes p (reverse text) level next newer → new.place ≡ Ended (Fault Stuff) → Next (Fault Stuff) new text level
+next_sixth run next last newer u text level new p h is push place =
+    let sixth = subst (λ q. Pushes q (reverse text) level next newer) is push in
+    let a = stuff_fault text u level h.inside sixth in
+    next_by (Fault Stuff) new (Ended (Fault Stuff)) text level place a (ended (Fault Stuff) text level (region_undecided text u h.inside) a tt) refl
+
+-- the answer at the end of a region
+abbrev pub Bodies : Step → Place → List Bool → Type 0
+Bodies step place u = (right : Bool) × Judges right u × (step ≡ Body (frame_at u) right) × (place ≡ AfterBody (frame_at u) right 0)
+
+pub next_stuff_body : (run next : ℕ) (last newer : Bool) (u text : List Bool) (level : Bool) (new : Reader) (p : Piece) (step : Step) → InRegion run last u text → p ≡ piece.Stuff →
+    Pushes p (reverse text) level next newer → length u ≡ fields_length u + 15 → Bodies step new.place u → Next step new text level
+next_stuff_body run next last newer u text level new p step h is push full b =
+    let a = after_stuff run next last newer u text level h (subst (λ q. Pushes q (reverse text) level next newer) is push) in
+    let both = body_tail (text ++ level ∷ []) u b.0 a.kept full a.ended b.1 in
+    subst (λ s. Next s new text level) (sym b.2) (next_by (Body (frame_at u) b.0) new (AfterBody (frame_at u) b.0 0) text level b.3 both.0 both.1 tt)
+
+pub next_stuff : (run : ℕ) (last : Bool) (u text : List Bool) (level : Bool) (new : Reader) (p : Piece) → InRegion run last u text → p ≡ piece.Stuff →
+    Pushes p (reverse text) level new.destuffer.run new.destuffer.last → (length u ≡ fields_length u + 15 → ⊥) → new.levels.items ≡ u → new.place ≡ Region → Next StuffBit new text level
+next_stuff run last u text level new p h is push part items place =
+    let a = after_stuff run new.destuffer.run last new.destuffer.last u text level h (subst (λ q. Pushes q (reverse text) level new.destuffer.run new.destuffer.last) is push) in
+    let inside = still_inside (text ++ level ∷ []) u a.kept (λ full. absurd (part full)) in
+    let stands : InRegion new.destuffer.run new.destuffer.last new.levels.items (text ++ level ∷ []) =
+    record { destuffed = a.destuffed; inside = subst (Inside (text ++ level ∷ [])) (sym items) inside } in
+    next_by StuffBit new Region text level place (completes (text ++ level ∷ []) u inside, a.five) stands tt
+
+pub next_data_body : (run next : ℕ) (last newer : Bool) (u v text : List Bool) (level : Bool) (new : Reader) (p : Piece) (step : Step) → InRegion run last u text → p ≡ piece.Data →
+    Pushes p (reverse text) level next newer → (u ≡ [] → level ≡ false) → (length u < 118 → v ≡ u ++ level ∷ []) → length v ≡ fields_length v + 15 → next < 5 → Bodies step new.place v → Next step new text level
+next_data_body run next last newer u v text level new p step h is push sof keeps full few b =
+    let a = after_data run next last newer u text level h (subst (λ q. Pushes q (reverse text) level next newer) is push) sof in
+    let e : v ≡ u ++ level ∷ [] = keeps (omega (arith, a.short, length_few u)) in
+    let ended : five_equal (reverse (text ++ level ∷ [])) ≡ false = not_five (reverse (text ++ level ∷ [])) (omega (arith, a.destuffed.run_is, few)) in
+    let both = body_tail (text ++ level ∷ []) v b.0 (subst (Kept (text ++ level ∷ [])) (sym e) a.kept) full ended b.1 in
+    subst (λ s. Next s new text level) (sym b.2) (next_by (Body (frame_at v) b.0) new (AfterBody (frame_at v) b.0 0) text level b.3 both.0 both.1 tt)
+
+pub next_more : (run : ℕ) (last : Bool) (u text : List Bool) (level : Bool) (new : Reader) (p : Piece) → InRegion run last u text → p ≡ piece.Data →
+    Pushes p (reverse text) level new.destuffer.run new.destuffer.last → (u ≡ [] → level ≡ false) → (length u < 118 → new.levels.items ≡ u ++ level ∷ []) →
+    (length new.levels.items ≡ fields_length new.levels.items + 15 → 5 ≤ new.destuffer.run) → new.place ≡ Region → Next More new text level
+next_more run last u text level new p h is push sof keeps part place =
+    let a = after_data run new.destuffer.run last new.destuffer.last u text level h (subst (λ q. Pushes q (reverse text) level new.destuffer.run new.destuffer.last) is push) sof in
+    let e : new.levels.items ≡ u ++ level ∷ [] = keeps (omega (arith, a.short, length_few u)) in
+    let w = text ++ level ∷ [] in
+    let inside = still_inside w new.levels.items (subst (Kept w) (sym e) a.kept)
+    (λ full. after_five (reverse w) (a.destuffed.run_is ∙ omega (arith, part full, a.destuffed.short))) in
+    let stands : InRegion new.destuffer.run new.destuffer.last new.levels.items w = record { destuffed = a.destuffed; inside = inside } in
+    next_by More new Region text level place (completes w new.levels.items inside, a.plain) stands tt

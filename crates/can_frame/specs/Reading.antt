@@ -1,0 +1,121 @@
+-- What a reader holds after a text, and what a push does. Contracts cite `StandsAfter`, `IsReading`,
+-- `HasAnswered` and `IsPush`; the rest is how a reader keeps them.
+use Rattle.std.specs.Prelude.{◌≡◌, ◌⊎◌, ℕ, ◌+◌, ◌≤◌, ◌<◌, Bool, true, false, List, [], ◌∷◌, ◌++◌, length, reverse, take, drop, get_or}
+use Rattle.can_frame.specs.Frames.{FrameValue}
+use Rattle.can_frame.specs.Fields.{Unchecked, fields}
+use Rattle.can_frame.specs.Crc.{IsCrc}
+use Rattle.can_frame.specs.Stuffing.{five_equal, IsStuffed, unstuffed}
+use Rattle.can_frame.specs.Destuffing.{HasRead}
+use Rattle.can_frame.specs.Fronts.{IsRegion, front_tail}
+use Rattle.can_frame.specs.FieldReading.{fields_length}
+use Rattle.can_frame.specs.Answers.{Answers, IsLast, IsUndecided}
+use Rattle.can_frame.specs.declared.step.Step.{Step}
+use Rattle.can_frame.specs.declared.step.Step.TheVariants.{More, StuffBit, Body, Tail, Taken, Fault}
+use Rattle.can_frame.specs.declared.reader.Place.{Place}
+use Rattle.can_frame.specs.declared.reader.Place.TheVariants.{Region, AfterBody, Ended}
+use Rattle.can_frame.specs.declared.reader.Reader.{Reader}
+
+-- w is within the stuffed region, and stands for u
+pub record Inside (w u : List Bool) : Type 0 where
+  pub stuffed : IsStuffed (reverse w)
+  pub stands : unstuffed (reverse w) ≡ reverse u
+  pub start : get_or u 0 false ≡ false
+  pub unfinished : (length u < fields_length u + 15) ⊎ ((length u ≡ fields_length u + 15) × (five_equal (reverse w) ≡ true))
+
+-- within the stuffed region: the destuffer has read the text, and `levels` are what it stands for
+pub record InRegion (run : ℕ) (last : Bool) (levels text : List Bool) : Type 0 where
+  pub destuffed : HasRead run last (reverse text)
+  pub inside : Inside text levels
+
+-- behind the stuffed region of f, with `seen` of the levels that follow
+pub record InTail (f : FrameValue) (right : Bool) (seen : ℕ) (text : List Bool) : Type 0 where
+  pub x : Unchecked
+  pub check : List Bool
+  pub region : List Bool
+  pub ack : Bool
+  pub is_region : IsRegion f x check region
+  pub is_right : right ≡ true → IsCrc (fields f x) check
+  pub is_wrong : right ≡ false → IsCrc (fields f x) check → ⊥
+  pub few : seen ≤ 8
+  pub whole : text ≡ region ++ take seen (front_tail ack)
+  pub good : right ≡ true → 2 ≤ seen → ack ≡ false
+  pub bad : right ≡ false → seen ≤ 2
+
+-- the answer came at a beginning of the text, and was the first of its kind
+pub record HasEnded (step : Step) (text : List Bool) : Type 0 where
+  pub before : List Bool
+  pub level : Bool
+  pub more : List Bool
+  pub whole : text ≡ (before ++ level ∷ []) ++ more
+  pub undecided : IsUndecided before
+  pub answer : Answers step before level
+  pub last : IsLast step
+
+-- what the place says of the text
+abbrev pub StandsAt : Place → ℕ → Bool → List Bool → List Bool → Type 0
+StandsAt Region run last levels text = InRegion run last levels text
+StandsAt (AfterBody frame right seen) run last levels text = InTail frame right seen text
+StandsAt (Ended step) run last levels text = HasEnded step text
+
+-- the reader stands after this text: it may have been pushed these levels since it was new
+abbrev pub StandsAfter : Reader → List Bool → Type 0
+StandsAfter r text = StandsAt r.place r.destuffer.run r.destuffer.last r.levels.items text
+
+-- neither Taken nor a Fault came yet
+abbrev pub IsOpen : Place → Type 0
+IsOpen Region = Unit {0}
+IsOpen (AfterBody frame right seen) = Unit {0}
+IsOpen (Ended step) = ⊥
+
+-- the reader has given no last answer
+abbrev pub IsReading : Reader → Type 0
+IsReading r = IsOpen r.place
+
+-- the reader has ended with this answer, and gives it again
+abbrev pub HasAnswered : Reader → Step → Type 0
+HasAnswered r step = r.place ≡ Ended step
+
+-- its last answer is that it takes f
+abbrev pub HasTaken : Reader → FrameValue → Type 0
+HasTaken r f = HasAnswered r (Taken f)
+
+-- Taken and Fault are the last answers; after the others the reader is still reading
+abbrev pub Leaves : Step → Reader → Type 0
+Leaves More new = IsReading new
+Leaves StuffBit new = IsReading new
+Leaves (Body frame right) new = IsReading new
+Leaves Tail new = IsReading new
+Leaves (Taken frame) new = HasAnswered new (Taken frame)
+Leaves (Fault kind) new = HasAnswered new (Fault kind)
+
+-- the answer of a reader that was reading, and where that leaves it
+pub record Next (step : Step) (new : Reader) (text : List Bool) (level : Bool) : Type 0 where
+  pub answer : Answers step text level
+  pub stands : StandsAfter new (text ++ level ∷ [])
+  pub leaves : Leaves step new
+
+-- What a push does, whatever text the reader stands after. While it is reading, its answer is the one
+-- that fits that text; a reader that has ended gives its last answer again.
+pub record IsPush (old : Reader) (level : Bool) (step : Step) (new : Reader) : Type 0 where
+  pub next : (text : List Bool) → IsReading old → StandsAfter old text → Next step new text level
+  pub stands : (text : List Bool) → StandsAfter old text → StandsAfter new (text ++ level ∷ [])
+  pub again : (given : Step) → HasAnswered old given → (step ≡ given) × HasAnswered new given
+
+-- where an answer behind the region leaves the reader
+abbrev pub TailGoes : Step → FrameValue → Bool → ℕ → List Bool → Type 0
+TailGoes More f right seen text = ⊥
+TailGoes StuffBit f right seen text = ⊥
+TailGoes (Body frame ok) f right seen text = ⊥
+TailGoes Tail f right seen text = InTail f right (seen + 1) text
+TailGoes (Taken frame) f right seen text = Unit {0}
+TailGoes (Fault kind) f right seen text = Unit {0}
+
+-- an answer behind the region fits, and where it leaves the reader
+pub record TailNext (step : Step) (f : FrameValue) (right : Bool) (seen : ℕ) (text : List Bool) (level : Bool) : Type 0 where
+  pub answer : Answers step text level
+  pub goes : TailGoes step f right seen (text ++ level ∷ [])
+
+-- whether the fifteen levels behind the fields are their CRC
+pub record Judges (right : Bool) (text : List Bool) : Type 0 where
+  pub is_right : right ≡ true → IsCrc (take (fields_length text) text) (drop (fields_length text) text)
+  pub is_wrong : right ≡ false → IsCrc (take (fields_length text) text) (drop (fields_length text) text) → ⊥

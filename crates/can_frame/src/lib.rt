@@ -1,0 +1,26 @@
+//! Frames of classical CAN and their form on the bus: identifiers, data and remote frames, the CRC,
+//! a sender's levels, and a receiver's reading of them level by level.
+#![tactic(auto)]
+
+mod crc;
+mod destuffing;
+mod error;
+mod frame;
+mod identifier;
+pub mod laws;
+mod reader;
+mod reading;
+mod sending;
+mod step;
+mod stuffing;
+
+pub use crate::crc::crc15;
+pub use crate::error::FrameError;
+pub use crate::frame::Frame;
+pub use crate::identifier::Id;
+pub use crate::reader::Reader;
+pub use crate::sending::wire;
+pub use crate::step::{FaultKind, Step};
+
+#[cfg(test)]
+mod tests;

@@ -1,0 +1,186 @@
+//! A receiver's reading of a frame, from SOF on.
+
+ghost use Rattle.std.specs.Prelude.{◌≡◌, ◌<◌, ◌+◌, ◌∷◌, ◌++◌, [], Bool, true, false, List, length};
+ghost use Rattle.can_frame.specs.FieldReading.{fields_length, frame_at};
+ghost use Rattle.can_frame.specs.Reading.{
+  InRegion,
+  InTail,
+  StandsAfter,
+  IsReading,
+  IsPush,
+  Next,
+  TailNext,
+  Judges,
+};
+
+use crate::crc::crc15;
+use crate::destuffing::{Destuffer, Piece};
+use crate::frame::Frame;
+use crate::reading::{fields_len, frame_of, number_of};
+use crate::step::{FaultKind, Step};
+use arrayvec::ArrayVec;
+
+/// How far a reader has come.
+#[derive(Clone, Copy)]
+enum Place {
+    /// In the stuffed region.
+    Region,
+    /// Behind it: the frame, whether its CRC is right, and how many levels came since, at most eight.
+    AfterBody(Frame, bool, u8),
+    /// At its last answer.
+    Ended(Step),
+}
+
+/// A receiver's reading of one frame, from SOF on (Bosch CAN Specification 2.0, part B, 3.2.1 DATA FRAME,
+/// 5 MESSAGE VALIDATION, 6 CODING and 7.1 Error Detection). It is pushed the level of the bus once a bit
+/// time and tells of each level what it is. It checks neither SRR nor r1 and r0, and takes a data length
+/// code of 9 to 15 as 8.
+#[derive(Drop)]
+pub struct Reader {
+    destuffer: Destuffer,
+    // the unstuffed levels so far: fields of at most 103 and fifteen of the CRC
+    levels: ArrayVec<bool, 118>,
+    place: Place,
+}
+
+impl Reader {
+    /// A reader that has read nothing: the first level that it is pushed is SOF.
+    pub fn new() -> Reader
+        ensures stands { StandsAfter result [] }
+        ensures reading { IsReading result }
+    {
+        Reader {
+            destuffer: Destuffer::new(),
+            levels: ArrayVec::new(),
+            place: Place::Region,
+        }
+    }
+
+    /// What the next level of the bus is, true being recessive. `More`, `StuffBit`, `Body` and `Tail` say
+    /// that frames go on with it; `Taken` and `Fault` are last answers, and each later push gives the same
+    /// one again and looks at no level.
+    ///
+    /// The contract gives for each text so far, and each level, the one answer that fits
+    /// (`laws::answers_are_exact`, `laws::faults_are_exact`).
+    pub fn push(&mut self, level: bool) -> Step
+        ensures { IsPush self.old level result self.new }
+    {
+        let place = self.place;
+        match place {
+            Place::Region => self.push_region(level),
+            Place::AfterBody(frame, right, seen) => self.push_tail(frame, right, seen, level),
+            Place::Ended(step) => step,
+        }
+    }
+
+    /// A level of the stuffed region.
+    fn push_region(&mut self, level: bool) -> Step
+        ensures { (text : List Bool) → self.old.place ≡ Place.Region
+            → InRegion self.old.destuffer.run self.old.destuffer.last self.old.levels.items text
+            → Next result self.new text level }
+    {
+        if level && self.levels.is_empty() {
+            self.place = Place::Ended(Step::Fault(FaultKind::Form));
+            return Step::Fault(FaultKind::Form);
+        }
+        match self.destuffer.push(level) {
+            Piece::Fault => {
+                self.place = Place::Ended(Step::Fault(FaultKind::Stuff));
+                Step::Fault(FaultKind::Stuff)
+            }
+            Piece::Stuff => {
+                if is_complete(self.levels.as_slice()) {
+                    return body(self.levels.as_slice(), &mut self.place);
+                }
+                Step::StuffBit
+            }
+            Piece::Data => {
+                keep(&mut self.levels, level);
+                let complete = is_complete(self.levels.as_slice());
+                // five equal levels want a stuff bit, also behind the last bit of the CRC
+                let wants_stuff_bit = self.destuffer.run() >= 5;
+                if complete && !wants_stuff_bit {
+                    return body(self.levels.as_slice(), &mut self.place);
+                }
+                Step::More
+            }
+        }
+    }
+
+    /// A level behind the stuffed region.
+    fn push_tail(&mut self, frame: Frame, right: bool, seen: u8, level: bool) -> Step
+        ensures { (text : List Bool) → InTail frame right seen text
+            → Next result self.new text level }
+    {
+        let step = tail_step(frame, right, seen, level);
+        self.place = match step {
+            Step::Tail => Place::AfterBody(frame, right, if seen < 8 { seen + 1 } else { 8 }),
+            _ => Place::Ended(step),
+        };
+        step
+    }
+}
+
+/// The answer at the end of the stuffed region, where frame and CRC are read.
+fn body(text: &[bool], place: &mut Place) -> Step
+    ensures { length text.now ≡ fields_length text.now + 15
+        → (right : Bool) × Judges right text.now × (result ≡ Step.Body (frame_at text.now) right)
+        × (place.new ≡ Place.AfterBody (frame_at text.now) right 0) }
+{
+    let frame = frame_of(text);
+    let right = is_right(text);
+    *place = Place::AfterBody(frame, right, 0);
+    Step::Body(frame, right)
+}
+
+/// Keeps a level while there is room, which there is in every text that a reader stands after.
+fn keep(levels: &mut ArrayVec<bool, 118>, level: bool)
+    ensures { length levels.old.items < 118 → levels.new.items ≡ levels.old.items ++ level ∷ [] }
+{
+    if levels.len() < 118 {
+        levels.push(level);
+    }
+}
+
+/// Whether the fields and the fifteen levels of the CRC stand there.
+fn is_complete(text: &[bool]) -> bool
+    ensures whole { result ≡ true → length text.now ≡ fields_length text.now + 15 }
+    ensures part { result ≡ false → length text.now ≡ fields_length text.now + 15 → ⊥ }
+{
+    text.len() == fields_len(text) + 15
+}
+
+/// Whether the last fifteen levels of a whole text are the CRC.
+fn is_right(text: &[bool]) -> bool
+    ensures { length text.now ≡ fields_length text.now + 15 → Judges result text.now }
+{
+    let end = fields_len(text);
+    if end > text.len() {
+        return false;
+    }
+    u32::from(crc15(&text[..end])) == number_of(text, end, 15)
+}
+
+/// What a level behind the region is.
+fn tail_step(frame: Frame, right: bool, seen: u8, level: bool) -> Step
+    ensures { (text : List Bool) → InTail frame right seen text
+        → TailNext result frame right seen text level }
+{
+    // the ACK slot; after a wrong CRC either level goes on, since that fault is signalled later
+    if seen == 1 {
+        if right && level {
+            return Step::Fault(FaultKind::Ack);
+        }
+        return Step::Tail;
+    }
+    if !level {
+        return Step::Fault(FaultKind::Form);
+    }
+    if seen == 2 && !right {
+        return Step::Fault(FaultKind::Crc);
+    }
+    if seen == 8 {
+        return Step::Taken(frame);
+    }
+    Step::Tail
+}
