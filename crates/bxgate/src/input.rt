@@ -5,16 +5,15 @@ ghost use Rattle.bxgate.specs.Documents.{greatest_length};
 
 use std::alloc::Global;
 use std::io::{ErrorKind, Read};
-use thiserror::Error;
 
 /// Why the input was not read to its end.
-#[derive(Clone, Copy, Debug, PartialEq, Eq, Error)]
+#[derive(Clone, Copy, Debug, PartialEq, Eq)]
 pub enum InputFault {
-    #[error("too long")]
+    /// There are more bytes than `LIMIT`.
     TooLong,
-    #[error("memory")]
+    /// Memory ran out.
     Memory,
-    #[error("read fault")]
+    /// A read failed, or `READS` of them brought no end.
     Read,
 }
 

@@ -342,6 +342,43 @@ fn tells_of_a_read_and_of_a_write_fault(rt: HostRuntime) -> Result<(), Fail> {
     Ok(())
 }
 
+/// Accepts the report or the refusal of memory, and nothing else: for runs in which an allocation fails.
+#[test]
+fn answers_or_wants_memory(rt: HostRuntime) {
+    let alloc = rt.alloc();
+    let Ok(mut output) = Vec::with_capacity(alloc, 4096) else {
+        return;
+    };
+    let Ok(mut faults) = Vec::with_capacity(alloc, 4096) else {
+        return;
+    };
+    let words = ["bxgate", "core"];
+    let mut input = SENDS_ONE_FRAME.as_bytes();
+    let status = tool(
+        &rt,
+        alloc,
+        words.as_slice(),
+        &mut input,
+        &mut output,
+        &mut faults,
+    );
+    if status == 0 {
+        assert!(rt;
+            output
+                .as_slice()
+                .starts_with(b"event 2 refused C4\ndone 0 1 000 data - ".as_slice())
+        );
+        assert!(rt; faults.is_empty());
+    } else {
+        assert_eq!(rt; status, 3);
+        assert!(rt; output.is_empty());
+        assert!(rt;
+            faults.as_slice() == b"bxgate: G1 Memory\n".as_slice()
+                || faults.as_slice() == b"bxgate: J10 Memory\n".as_slice()
+        );
+    }
+}
+
 #[test]
 fn asks_for_a_command(rt: HostRuntime) {
     for (words, status) in [
