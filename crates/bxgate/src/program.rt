@@ -1,7 +1,9 @@
 //! The program over any reader and writers.
 
-ghost use Rattle.std.specs.Prelude.{◌≡◌, ◌∷◌, [], List, ℕ, codes, map, IfOk, IfErr, string_bytes};
+ghost use Rattle.std.specs.Prelude.{◌≡◌, ◌≢◌, ◌∷◌, [], List, ℕ, codes, map, IfOk, IfErr, string_bytes};
 ghost use Rattle.std.specs.Io.KnownBytes.{Keeps};
+ghost use Rattle.std.specs.IoError.{error_kind};
+ghost use Rattle.std.specs.declared.io.ErrorKind.TheVariants.{OutOfMemory};
 ghost use Rattle.clap.specs.Words.{kind_of};
 ghost use Rattle.bxgate.specs.Outcomes.{IsAnswer, IsFailureOn, Ends, EndsWith};
 
@@ -98,7 +100,10 @@ fn usage<E: Write>(faults: &mut E) -> u8
 }
 
 /// Tells why the words could not be gathered: for want of memory, or since one of them is no text.
-pub fn refused_arguments<E: Write>(error: &io::Error, faults: &mut E) -> u8 {
+pub fn refused_arguments<E: Write>(error: &io::Error, faults: &mut E) -> u8
+    ensures memory { error_kind error.now ≡ OutOfMemory → result ≡ 3 }
+    ensures text { error_kind error.now ≢ OutOfMemory → result ≡ 64 }
+{
     if error.kind() == io::ErrorKind::OutOfMemory {
         tell(faults, Failure::Memory);
         return 3;
