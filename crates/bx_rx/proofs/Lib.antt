@@ -1,0 +1,4 @@
+pub mod Masks
+pub mod Places
+pub mod Choices
+pub mod Relays

@@ -1,0 +1,10 @@
+pub mod Images
+pub mod Bank
+pub mod BankParts
+pub mod Banks
+pub mod BanksParts
+pub mod Rule
+pub mod RxIn
+pub mod RxInParts
+pub mod RxOut
+pub mod RxOutParts

@@ -1,0 +1,51 @@
+//! The side of a receive FIFO where frames come in.
+ghost use Rattle.std.specs.Prelude.{◌≡◌};
+ghost use Rattle.bx_rx.specs.RxIn.{IsOffered};
+
+use crate::log::Log;
+use crate::offered::Offered;
+use crate::rule::{Line, Stores};
+use crate::rx_frame::RxFrame;
+use crossbeam_queue::Pass;
+use std::alloc::Global;
+use std::marker::Model;
+use std::sync::{Arc, Wait};
+
+/// The offering side of a receive FIFO. Contracts see which FIFO it belongs to, and all the frames
+/// that it stored, the first one first.
+#[derive(Drop)]
+pub struct RxIn {
+    pub(crate) line: Arc<Line, Global>,
+    pub(crate) pass: Pass<RxFrame, Log>,
+}
+
+impl Model for RxIn {
+    ghost use Rattle.bx_rx.specs.RxIn.{Inlet};
+
+    ghost Value = { Inlet };
+
+    ghost use Rattle.bx_rx.specs.RxInParts.{in_view, IsIn};
+
+    ghost view = { in_view };
+
+    ghost invariant = { IsIn };
+}
+
+impl RxIn {
+    /// Offers a frame to the FIFO, which stores it behind the others or, where it is full, discards it
+    /// (RM0008, bxCAN, "Reception handling", "Overrun"; the FIFO is locked). Takes no memory. May wait
+    /// while the other side is in the middle of a release.
+    ///
+    /// `Overrun` comes only where the FIFO held three frames at one moment of the call. Proved of that
+    /// is what this side can know: three frames or more were stored before, and those three were the
+    /// last of them. That later offers are stored wherever there is room is shown by tests alone.
+    pub fn offer<R: Wait>(&mut self, rt: &R, frame: RxFrame) -> Offered
+        ensures queue { self.new.queue ≡ self.old.queue }
+        ensures offered { IsOffered self.old.stored frame result self.new.stored }
+    {
+        match self.line.push_as::<Stores, R>(rt, &mut self.pass, frame) {
+            Ok(()) => Offered::Stored,
+            Err(_) => Offered::Overrun,
+        }
+    }
+}

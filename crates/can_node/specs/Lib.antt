@@ -1,0 +1,10 @@
+pub mod Confinement
+pub mod Counters
+pub mod Pairs
+pub mod Sends
+pub mod Takes
+pub mod Flags
+pub mod Waits
+pub mod Phases
+pub mod Episodes
+pub mod Histories
