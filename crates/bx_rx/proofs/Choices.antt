@@ -1,5 +1,5 @@
 -- The best filter of the banks passed so far, and that at most one filter is the chosen one.
-use Rattle.std.proofs.Common.{◌≡◌, ℕ, zero, suc, ◌+◌, ◌<◌, ◌≤◌, true, false, true≢false, List, [], ◌∷◌, length, take, get_or, Option, None, Some, refl, sym, ap, ◌∙◌, subst, inl, inr, ◌⊎◌, lit≤, arith}
+use Rattle.std.proofs.Common.{◌≡◌, ℕ, zero, suc, ◌+◌, ◌<◌, true, false, true≢false, List, length, take, get_or, Option, None, Some, refl, sym, ap, ◌∙◌, subst, inl, inr, ◌⊎◌, arith}
 use Rattle.std.specs.Prelude.{slice_get}
 use Rattle.std.proofs.lemmas.Option.{slice_get_within, slice_get-get_or}
 use Rattle.can_frame.specs.Frames.{FrameValue}
@@ -7,7 +7,7 @@ use Rattle.bx_rx.specs.declared.scale.Scale.{Scale}
 use Rattle.bx_rx.specs.declared.scale.Scale.TheVariants.{Bits32, Bits16}
 use Rattle.bx_rx.specs.declared.mode.Mode.{Mode}
 use Rattle.bx_rx.specs.declared.mode.Mode.TheVariants.{Mask, List as Identifiers}
-use Rattle.bx_rx.specs.Bank.{BankValue, Filter, AdmitsAt, filters, filters_of, at_scale, IsFirstAmong, IsFirstMatch, MatchesAt, Outranks}
+use Rattle.bx_rx.specs.Bank.{BankValue, filters_of, at_scale, IsFirstAmong, IsFirstMatch, MatchesAt, Outranks}
 use Rattle.bx_rx.specs.Images.{image32, image16}
 use Rattle.bx_rx.specs.Banks.{Placed, IsMatching, Precedes, IsBest, IsFound, OneChosen, bank_count, count_of}
 
@@ -157,26 +157,9 @@ module _ (banks : List BankValue) (frame : FrameValue) (n : ℕ) (d : BankValue)
   step-kept kept at best after o some e none h = let h' = subst (IsBest banks frame n) some h in
       subst (IsBest banks frame (n + 1)) (sym e) (best-kept banks frame n bank (get_or banks kept o) (kept, at) (slice_get-get_or banks n d within) (slice_get-get_or banks kept o (kept_within kept at h')) none h')
 
-admits-within : (fs : List Filter) (image place : ℕ) → AdmitsAt fs image place → place < length fs
-admits-within [] image place a = absurd a
-admits-within (f ∷ fs) image zero a = omega arith
-admits-within (f ∷ fs) image (suc place) a = let h = admits-within fs image place a in omega arith
-
-few_filters : (s : Scale) (m : Mode) (r1 r2 : ℕ) → length (filters s m r1 r2) ≤ 4
-few_filters Bits32 Mask r1 r2 = lit≤ tt
-few_filters Bits32 Identifiers r1 r2 = lit≤ tt
-few_filters Bits16 Mask r1 r2 = lit≤ tt
-few_filters Bits16 Identifiers r1 r2 = lit≤ tt
-
-pub few_places : (b : BankValue) (frame : FrameValue) (place : ℕ) → MatchesAt b frame place → place < 4
-few_places b frame place a = let h = few_filters b.scale b.mode b.r1 b.r2 in let w = admits-within (filters_of b) _ place a in omega arith
-
--- the place of what was found is below 4
-pub few_found : (banks : List BankValue) (frame : FrameValue) (n place : ℕ) → IsBest banks frame bank_count (Some (n, place)) → place < 4
-few_found banks frame n place h = subst (λ k. k < 4) (sym (ap (λ (f : ℕ × ℕ). f.1) h.1)) (few_places h.0.bank frame h.0.place h.3.matches)
-
+-- the best filter is of one of the banks
 pub found_number : (banks : List BankValue) (frame : FrameValue) (n place : ℕ) → IsBest banks frame bank_count (Some (n, place)) → n < bank_count
-found_number banks frame n place h = subst (λ k. k < 14) (sym (ap (λ (f : ℕ × ℕ). f.0) h.1)) h.2
+found_number banks frame n place h = subst (λ k. k < bank_count) (sym (ap (λ (f : ℕ × ℕ). f.0) h.1)) h.2
 
 -- the best of all banks is what is found
 pub found-none : (banks : List BankValue) (frame : FrameValue) → length banks ≡ bank_count → IsBest banks frame bank_count None → IsFound banks frame None

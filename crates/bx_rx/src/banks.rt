@@ -43,7 +43,7 @@ impl Banks {
         }
     }
 
-    /// Sets one bank, and leaves the others. The number of a bank is 0 to 13.
+    /// Sets one bank, by its number, and leaves the others. The banks are numbered from 0 on.
     pub fn set(&mut self, bank: u8, settings: Bank)
         requires { bank < bank_count }
         ensures { self.new ≡ slice_set self.old bank settings }
