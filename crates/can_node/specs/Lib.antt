@@ -8,4 +8,3 @@ pub mod Waits
 pub mod Phases
 pub mod Episodes
 pub mod Histories
-pub mod Machine

@@ -3,10 +3,7 @@
 
 mod confinement;
 mod counters;
-mod flag;
 mod outcome;
-mod state;
-mod turns;
 
 pub use crate::confinement::{ErrorEvent, ErrorState, Role};
 pub use crate::counters::Counters;
