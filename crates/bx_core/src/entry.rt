@@ -2,7 +2,7 @@
 use can_frame::Frame;
 
 /// A request: a frame, and the number that its route gave it.
-#[derive(Clone, Copy, PartialEq, Eq)]
+#[derive(Clone, Copy, Debug, PartialEq, Eq)]
 pub struct Entry {
     /// From 1 to 16,777,215. It is never sent: it tells requests of equal frames apart.
     pub number: u32,

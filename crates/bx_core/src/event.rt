@@ -4,7 +4,7 @@ use can_frame::Frame;
 /// One event of a controller's mailboxes (RM0008, bxCAN, "Transmission handling").
 /// Routes make the events that name a route, the bus side makes the others.
 /// A route is below the core's number of routes, and a mailbox is 0, 1 or 2.
-#[derive(Clone, Copy, PartialEq, Eq)]
+#[derive(Clone, Copy, Debug, PartialEq, Eq)]
 pub enum Event {
     /// A route takes an empty mailbox, to fill it. Refused: `NotEmpty`.
     Claim {

@@ -8,7 +8,7 @@ use crate::status::Status;
 use can_frame::Frame;
 
 /// A request in its mailbox, from the request until the mailbox is empty again.
-#[derive(Clone, Copy, Default, PartialEq, Eq)]
+#[derive(Clone, Copy, Debug, Default, PartialEq, Eq)]
 pub struct Waiting {
     /// The route that requested it.
     pub route: u8,
