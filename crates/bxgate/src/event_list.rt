@@ -177,7 +177,8 @@ fn event_of(value: &Value, routes: u8) -> Result<Event, ScriptFault>
 /// The elements of the list, front to back.
 fn events_of(alloc: Global, items: &Vec<Value>, routes: u8) -> Result<Vec<Event>, ScriptFault>
     requires { 1 ≤ routes }
-    ensures value { ReadsUnlessMemory (λ v. v.items) result (each (event_of routes) (items_view items.now.items)) }
+    ensures value { ReadsUnlessMemory (λ v. v.items) result
+        (each (event_of routes) (items_view items.now.items)) }
     ensures range { IfOk result (λ v. Each (InRoutes routes) v.items) }
 {
     let mut events = Vec::new(alloc);

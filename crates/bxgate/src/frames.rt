@@ -59,7 +59,8 @@ fn identifier_of(from: &Value) -> Result<Id, ScriptFault>
 /// The bytes in a list of at most eight.
 fn bytes_of(items: &Vec<Value>) -> Result<ArrayVec<u8, 8>, ScriptFault>
     requires { length items.now.items ≤ 8 }
-    ensures { Reads (λ bytes. bytes.items) result (each (whole_of (codes "data") 0 255) (items_view items.now.items)) }
+    ensures { Reads (λ bytes. bytes.items) result
+        (each (whole_of (codes "data") 0 255) (items_view items.now.items)) }
 {
     let mut bytes = ArrayVec::new();
     for item in items {

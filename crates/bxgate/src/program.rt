@@ -114,7 +114,8 @@ pub fn refused_arguments<E: Write>(error: &io::Error, faults: &mut E) -> u8
 
 /// Tells of words that were refused, or gives the help that they ask for.
 fn refused_words<W: Write, E: Write>(error: &clap::Error, output: &mut W, faults: &mut E) -> u8
-    ensures memory { kind_of error.now ≡ ErrorKind.OutOfMemory → (result ≡ 3) × Keeps (W.contents output.old) (W.contents output.new) }
+    ensures memory { kind_of error.now ≡ ErrorKind.OutOfMemory
+        → (result ≡ 3) × Keeps (W.contents output.old) (W.contents output.new) }
     ensures usage { result ≡ 64 → Keeps (W.contents output.old) (W.contents output.new) }
 {
     match error.kind() {

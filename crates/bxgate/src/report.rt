@@ -35,7 +35,8 @@ fn apply_one(
     event: Event,
 ) -> Result<(), AllocError>
     requires { InRange core.old event }
-    ensures text { OnOk result (string_bytes text.new ≡ string_bytes text.old ++ refused_line place (after core.old event)) }
+    ensures text { OnOk result
+        (string_bytes text.new ≡ string_bytes text.old ++ refused_line place (after core.old event)) }
     ensures core { OnOk result (core.new ≡ left_by core.old (after core.old event)) }
     ensures routes { length core.new.routes ≡ length core.old.routes }
 {
@@ -52,7 +53,8 @@ fn apply_one(
 /// Applies the events in turn.
 fn apply_all(text: &mut String, core: &mut Core, events: &[Event]) -> Result<(), AllocError>
     requires { Each (InRoutes (length core.old.routes)) events.now }
-    ensures text { OnOk result (string_bytes text.new ≡ string_bytes text.old ++ refused_lines core.old 0 events.now) }
+    ensures text { OnOk result
+        (string_bytes text.new ≡ string_bytes text.old ++ refused_lines core.old 0 events.now) }
     ensures core { OnOk result (core.new ≡ run core.old events.now) }
     ensures routes { length core.new.routes ≡ length core.old.routes }
 {
@@ -118,7 +120,8 @@ fn push_route(text: &mut String, core: &Core, route: u8) -> Result<(), AllocErro
 }
 
 fn push_routes(text: &mut String, core: &Core) -> Result<(), AllocError>
-    ensures { OnOk result (AppendsRoutes core.now (length core.now.routes) (string_bytes text.old) (string_bytes text.new)) }
+    ensures { OnOk result
+        (AppendsRoutes core.now (length core.now.routes) (string_bytes text.old) (string_bytes text.new)) }
 {
     for route in 0..core.routes() {
         push_route(text, core, route)?;
