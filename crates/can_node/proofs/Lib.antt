@@ -1,0 +1,9 @@
+pub mod Starts
+pub mod Moves
+pub mod Places
+pub mod TakeMoves
+pub mod FlagMoves
+pub mod PassiveMoves
+pub mod ErrorMoves
+pub mod Bits
+pub mod Samples

@@ -1,7 +1,6 @@
 -- Fault confinement: the error counts and the state after a list of events. Bosch CAN Specification 2.0,
--- part B, 8 FAULT CONFINEMENT; ISO 11898-1. The numbers of the rules there do not all agree with how nodes
--- are built; the table here is this project's profile of them. It speaks of events alone: which bits
--- bring them is said in Episodes.
+-- part B, 8 FAULT CONFINEMENT; ISO 11898-1. The table is this project's profile of the counting rules there.
+-- It speaks of events alone: which bits bring them is said in Episodes.
 use Rattle.std.specs.Prelude.{ℕ, ◌+◌, ◌-◌, ◌||◌, min, nat_lt, nat_le, Bool, List, fold, if◌then◌else◌}
 use Rattle.can_node.specs.declared.confinement.Role.{Role}
 use Rattle.can_node.specs.declared.confinement.Role.TheVariants.{Sender, Receiver}

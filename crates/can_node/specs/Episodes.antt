@@ -19,8 +19,9 @@ use Rattle.can_node.specs.Confinement.{is_off, counts_after, state_after}
 use Rattle.can_node.specs.Pairs.{Pair, listening, dominating, driving, recessive, dominant}
 use Rattle.can_node.specs.Sends.{IsSend, IsSendBit, IsArbitration, IsArbitrationStuffBit}
 use Rattle.can_node.specs.Takes.{IsReadOn, Reads, name_of, IsFirstFault}
-use Rattle.can_node.specs.Flags.{FlagKind, flag_bits, EndsInSix, IsWithoutSix, owed_events, dominant_end, dominant_events}
-use Rattle.can_node.specs.Flags.FlagKind.{ActiveError, PassiveError, Overload}
+use Rattle.can_node.specs.Flags.{flag_bits, EndsInSix, IsWithoutSix, owed_events, dominant_end, dominant_events}
+use Rattle.can_node.specs.declared.flag.FlagKind.{FlagKind}
+use Rattle.can_node.specs.declared.flag.FlagKind.TheVariants.{ActiveError, PassiveError, Overload}
 use Rattle.can_node.specs.Waits.{Broken, Recoveries}
 use Rattle.can_node.specs.Phases.{Phase, flag_of, suspends}
 use Rattle.can_node.specs.Phases.Phase.{Sync, Idle, Send, Take, LastBit, ActiveFlag, OverloadFlag, PassiveFlag, Delimiter, Intermission, Suspend, BusOff}

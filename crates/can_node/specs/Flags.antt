@@ -1,17 +1,13 @@
 -- Flags, and what is counted in and behind them. Bosch CAN Specification 2.0, part B, 3.2.3 ERROR FRAME,
 -- 3.2.4 OVERLOAD FRAME and 8 FAULT CONFINEMENT.
-use Rattle.std.specs.Prelude.{◌≡◌, ℕ, zero, suc, ◌+◌, ◌-◌, ◌%◌, ◌==◌, ◌&&◌, nat_le, not, Bool, true, false, List, [], ◌∷◌, ◌++◌, length, reverse, replicate, take_while, if◌then◌else◌}
-use Rattle.std.specs.List.{flat_map, list_any}
+use Rattle.std.specs.Prelude.{◌≡◌, ℕ, zero, suc, ◌+◌, ◌-◌, ◌%◌, ◌==◌, ◌&&◌, nat_le, not, Bool, true, false, List, [], ◌∷◌, ◌++◌, replicate, if◌then◌else◌}
+use Rattle.std.specs.List.{flat_map, list_any, suffix_len}
+use Rattle.can_node.specs.declared.flag.FlagKind.{FlagKind}
+use Rattle.can_node.specs.declared.flag.FlagKind.TheVariants.{ActiveError, PassiveError, Overload}
 use Rattle.can_node.specs.declared.confinement.Role.{Role}
 use Rattle.can_node.specs.declared.confinement.Role.TheVariants.{Sender, Receiver}
 use Rattle.can_node.specs.declared.confinement.ErrorEvent.{ErrorEvent}
 use Rattle.can_node.specs.declared.confinement.ErrorEvent.TheVariants.{ReceiverDominant, FlagBit, DominantRun}
-
--- the flag that a delimiter follows
-pub data FlagKind : Type 0 where
-  ActiveError : FlagKind
-  PassiveError : FlagKind
-  Overload : FlagKind
 
 -- a recessive sample in a flag that drives dominant is counted, and the flag goes on
 abbrev pub flag_bit : Role → Bool → List ErrorEvent
@@ -36,7 +32,7 @@ owed_events owed text = if list_any not text then owed else []
 
 -- how many dominant levels in a row the text ends in
 abbrev pub dominant_end : List Bool → ℕ
-dominant_end text = length (take_while not (reverse text))
+dominant_end text = suffix_len not text
 
 -- The first dominant sample in a row that is counted: the 14th from the start of an active error flag or an
 -- overload flag, the 8th behind a passive error flag.

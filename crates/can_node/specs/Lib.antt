@@ -8,3 +8,5 @@ pub mod Waits
 pub mod Phases
 pub mod Episodes
 pub mod Histories
+pub mod Machine
+pub mod Node

@@ -2,7 +2,7 @@
 use Rattle.std.specs.Prelude.{ℕ, Bool, true, false, List, []}
 use Rattle.can_frame.specs.Frames.{FrameValue}
 use Rattle.can_node.specs.Pairs.{Pair}
-use Rattle.can_node.specs.Flags.{FlagKind}
+use Rattle.can_node.specs.declared.flag.FlagKind.{FlagKind}
 use Rattle.can_node.specs.declared.confinement.Role.{Role}
 use Rattle.can_node.specs.declared.confinement.Role.TheVariants.{Sender, Receiver}
 use Rattle.can_node.specs.declared.confinement.ErrorEvent.{ErrorEvent}

@@ -42,7 +42,7 @@ impl Counters {
     }
 
     /// Whether a node with these counts is in bus off.
-    fn is_off(&self) -> bool
+    pub(crate) fn is_off(&self) -> bool
         ensures { result ≡ is_off (counts_of self.now) }
     {
         self.tec >= 256

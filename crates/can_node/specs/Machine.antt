@@ -1,0 +1,199 @@
+-- How a node's state agrees with the episode that it is in, and what a sampled level makes of it. Private
+-- clauses cite it.
+use Rattle.std.specs.Prelude.{◌≡◌, ℕ, ◌+◌, ◌*◌, ◌<◌, ◌≤◌, ◌==◌, Bool, true, false, not, Option, Some, None, List, [], ◌∷◌, ◌++◌, length}
+use Rattle.std.specs.List.{list_any, suffix_len}
+use Rattle.can_frame.specs.Frames.{FrameValue}
+use Rattle.can_frame.specs.Fronts.{BeginsRegion}
+use Rattle.can_frame.specs.Reading.{InTail, Next, StandsAfter as ReaderStandsAfter, IsReading}
+use Rattle.can_frame.specs.declared.step.Step.{Step}
+use Rattle.can_frame.specs.declared.reader.Reader.{Reader}
+use Rattle.can_node.specs.declared.confinement.Role.{Role}
+use Rattle.can_node.specs.declared.confinement.ErrorEvent.{ErrorEvent}
+use Rattle.can_node.specs.declared.confinement.ErrorEvent.TheVariants.{SenderError}
+use Rattle.can_node.specs.declared.confinement.ErrorState.{ErrorState}
+use Rattle.can_node.specs.declared.flag.FlagKind.{FlagKind}
+use Rattle.can_node.specs.declared.flag.FlagKind.TheVariants.{ActiveError, Overload}
+use Rattle.can_node.specs.declared.outcome.Outcome.{Outcome}
+use Rattle.can_node.specs.declared.outcome.Outcome.TheVariants.{Nothing}
+use Rattle.can_node.specs.declared.state.State.{State}
+use Rattle.can_node.specs.declared.state.State.TheVariants.{Syncing, Idling, Taking, Closing, Flagging, PassiveFlagging, Waiting, Delimiting, Resting, Suspending, Recovering}
+use Rattle.can_node.specs.declared.state.Stage.{Stage}
+use Rattle.can_node.specs.declared.state.Stage.TheVariants.{Region, AfterRegion, Slot, AfterSlot}
+use Rattle.can_node.specs.declared.state.Turn.{Turn}
+use Rattle.can_node.specs.declared.counters.Counters.{Counters}
+use Rattle.can_node.specs.Counters.{StandsAfter}
+use Rattle.can_node.specs.Confinement.{state_after}
+use Rattle.can_node.specs.Pairs.{Pair, listening, dominating, recessive, dominant}
+use Rattle.can_node.specs.Takes.{IsReadOn, Reads}
+use Rattle.can_node.specs.Flags.{IsWithoutSix, owed_events, flag_bits, dominant_end, dominant_events, first_counted}
+use Rattle.can_node.specs.Waits.{Broken, Recoveries}
+use Rattle.can_node.specs.Phases.{Phase, wants_start}
+use Rattle.can_node.specs.Phases.Phase.{Sync, Idle, Take, LastBit, ActiveFlag, OverloadFlag, PassiveFlag, Delimiter, Intermission, Suspend, BusOff}
+use Rattle.can_node.specs.Episodes.{Course, AreOn, AreOff}
+use Rattle.can_node.specs.Histories.{Past, Whole, with_episode, IsOnOutside, noted}
+
+-- so many more dominant samples in a row are counted, behind a run of `run` in the flag and n behind it
+pub record IsDue (kind : FlagKind) (run n until : ℕ) : Type 0 where
+  pub eighths : ℕ
+  pub due : run + n + until ≡ first_counted kind + 8 * eighths
+  pub some : 0 < until
+  pub near : (eighths ≡ 0 → ⊥) → until ≤ 8
+
+-- a passive error flag with these samples goes on: how it ends, and what it owes still
+pub record IsPassive (owes : Bool) (ones zeros : ℕ) (owed : List ErrorEvent) (levels : List Bool) : Type 0 where
+  pub without_six : IsWithoutSix levels
+  pub ones_is : suffix_len (λ level. level) levels ≡ ones
+  pub zeros_is : dominant_end levels ≡ zeros
+  pub owes_error : owes ≡ true → (owed ≡ SenderError ∷ []) × (list_any not levels ≡ false)
+  pub none_yet : owes ≡ true → zeros ≡ 0
+  pub owes_nothing : owes ≡ false → (more : List Bool) → owed_events owed (levels ++ more) ≡ owed_events owed levels
+
+-- where the text of a frame ends: within the stuffed region, or with so many of the levels behind it
+abbrev pub IsAt : Stage → List Bool → Type 0
+IsAt Region text = BeginsRegion text
+IsAt (AfterRegion right) text = (frame : FrameValue) × InTail frame right 0 text
+IsAt (Slot right) text = (frame : FrameValue) × InTail frame right 1 text
+IsAt AfterSlot text = (frame : FrameValue) × (right : Bool) × (seen : ℕ) × (2 ≤ seen) × InTail frame right seen text
+
+-- the next level is that of the ACK slot of a frame whose CRC is right
+abbrev pub is_own_slot : Stage → Bool
+is_own_slot Region = false
+is_own_slot (AfterRegion right) = false
+is_own_slot (Slot right) = right
+is_own_slot AfterSlot = false
+
+-- The node in this state, whose reader has read this text if it reads, has made these pairs of an episode of
+-- this phase that began at this bit, and they brought these events.
+pub data Agrees : State → (text : List Bool) → (at : ℕ) → Phase → List Pair → List ErrorEvent → Type 0 where
+  in_sync : {text : List Bool} {at n : ℕ} (broken : List Bool) → Broken broken → n < 11 →
+      Agrees (Syncing n) text at Sync (listening (broken ++ recessive n)) []
+  in_idle : {text : List Bool} {at : ℕ} (n : ℕ) →
+      Agrees Idling text at Idle (listening (recessive n)) []
+  in_take : {text : List Bool} {at start : ℕ} {may_start : Bool} {stage : Stage} (given levels : List Bool) (may_begin : Bool) (pairs : List Pair) (events : List ErrorEvent) →
+      text ≡ given ++ levels → IsReadOn text → Reads given levels pairs events →
+      may_start ≡ wants_start (Take start given may_begin) pairs →
+      IsAt stage text →
+      Agrees (Taking start may_start stage) text at (Take start given may_begin) pairs events
+  in_last : {text : List Bool} {at : ℕ} →
+      Agrees Closing text at LastBit [] []
+  in_active : {text : List Bool} {at sent until : ℕ} {role : Role} (levels : List Bool) →
+      length levels ≡ sent → sent < 6 → dominant_end levels + until ≡ 14 → dominant_end levels ≤ sent →
+      Agrees (Flagging ActiveError role sent until) text at (ActiveFlag role) (dominating levels) (flag_bits role levels)
+  in_overload : {text : List Bool} {at sent until : ℕ} {role : Role} (levels : List Bool) →
+      length levels ≡ sent → sent < 6 → dominant_end levels + until ≡ 14 → dominant_end levels ≤ sent →
+      Agrees (Flagging Overload role sent until) text at (OverloadFlag role) (dominating levels) (flag_bits role levels)
+  in_passive : {text : List Bool} {at ones zeros : ℕ} {owes : Bool} {role : Role} (owed : List ErrorEvent) (levels : List Bool) →
+      IsPassive owes ones zeros owed levels →
+      Agrees (PassiveFlagging role owes ones zeros) text at (PassiveFlag owed role) (listening levels) (owed_events owed levels)
+  in_wait : {text : List Bool} {at until : ℕ} {first : Bool} {kind : FlagKind} {role : Role} (run n : ℕ) →
+      first ≡ (n == 0) → (n ≡ 0 → 8 ≤ until) → IsDue kind run n until →
+      Agrees (Waiting kind role until first) text at (Delimiter kind role run) (listening (dominant n)) (dominant_events kind role run n)
+  in_delimiter : {text : List Bool} {at k : ℕ} {role : Role} (kind : FlagKind) (run n : ℕ) → 0 < k → k < 8 →
+      Agrees (Delimiting role k) text at (Delimiter kind role run) (listening (dominant n ++ recessive k)) (dominant_events kind role run n)
+  in_rest : {text : List Bool} {at k : ℕ} {role : Role} → k < 3 →
+      Agrees (Resting role k) text at (Intermission role) (listening (recessive k)) []
+  in_suspend : {text : List Bool} {at k : ℕ} → k < 8 →
+      Agrees (Suspending k) text at Suspend (listening (recessive k)) []
+  in_off : {text : List Bool} {at runs n : ℕ} (rest broken : List Bool) → runs < 128 → Recoveries runs rest → Broken broken → n < 11 →
+      Agrees (Recovering runs n) text at BusOff (listening (rest ++ broken ++ recessive n)) []
+
+-- the level that a node in this state drives
+abbrev pub level_of : State → Bool
+level_of (Flagging kind role sent until) = false
+level_of (Taking start may_start stage) = not (is_own_slot stage)
+level_of state = true
+
+-- a node in this state reads a frame
+abbrev pub is_taking : State → Bool
+is_taking (Taking start may_start stage) = true
+is_taking state = false
+
+-- a node in this state may begin to send a frame at the next bit
+abbrev pub may_start : State → Bool
+may_start Idling = true
+may_start (Taking start may_begin stage) = may_begin
+may_start state = false
+
+-- if a node in this state reads a frame, its reader has read this text of it and reads on
+pub record ReaderStands (state : State) (reader : Reader) (text : List Bool) : Type 0 where
+  pub stands : is_taking state ≡ true → ReaderStandsAfter reader text
+  pub reading : is_taking state ≡ true → IsReading reader
+
+-- what a node in this state makes of a bit at which it samples this level
+abbrev pub pair_of : State → Bool → Pair
+pair_of state level = record { driven = level_of state; sampled = level }
+
+-- the event, if there is one
+abbrev pub listed : Option ErrorEvent → List ErrorEvent
+listed None = []
+listed (Some event) = event ∷ []
+
+-- Where a bit leaves a node, if its event does not lead to bus off: the episode goes on, or it has run its
+-- course. A reader has read the text `after` then.
+pub data Lands (new : State) (outcome : Outcome) (after : List Bool) (at : ℕ) (before : List ErrorEvent) (phase : Phase) (pairs : List Pair) (events : List ErrorEvent) : Type 0 where
+  goes_on : Agrees new after at phase pairs events → outcome ≡ Nothing → Lands new outcome after at before phase pairs events
+  is_over : (next : Phase) → Course at before phase pairs events outcome next → ((later : ℕ) → Agrees new after later next [] []) →
+      Lands new outcome after at before phase pairs events
+
+-- A node in this state, at this bit and with this error state, that samples this level makes this turn,
+-- whatever its episode was so far. It reads no frame yet; a reader that begins then has read SOF.
+abbrev pub Goes : State → ℕ → ErrorState → Bool → Turn → Type 0
+Goes state now errors level turn =
+    (text : List Bool) (at : ℕ) (before : List ErrorEvent) (phase : Phase) (part : List Pair) (events : List ErrorEvent) →
+    now ≡ at + length part → errors ≡ state_after (before ++ events) → Agrees state text at phase part events →
+    Lands turn.state turn.outcome (false ∷ []) at before phase (part ++ pair_of state level ∷ []) (events ++ listed turn.event)
+
+-- The same of a node that reads a frame, where its reader gives this answer to the level. If it reads on, so
+-- does its reader.
+abbrev pub GoesReading : State → ErrorState → Step → Bool → Turn → Type 0
+GoesReading state errors step level turn =
+    (reader : Reader) (text : List Bool) (at : ℕ) (before : List ErrorEvent) (phase : Phase) (part : List Pair) (events : List ErrorEvent) →
+    errors ≡ state_after (before ++ events) → Agrees state text at phase part events → Next step reader text level →
+    Lands turn.state turn.outcome (text ++ level ∷ []) at before phase (part ++ pair_of state level ∷ []) (events ++ listed turn.event)
+    × (is_taking turn.state ≡ true → IsReading reader)
+
+-- where a bit leaves the state and the reader
+pub record LandsWith (turn : Turn) (reader : Reader) (at : ℕ) (before : List ErrorEvent) (phase : Phase) (pairs : List Pair) (events : List ErrorEvent) : Type 0 where
+  pub after : List Bool
+  pub lands : Lands turn.state turn.outcome after at before phase pairs events
+  pub reads : ReaderStands turn.state reader after
+
+-- A node in this state and with this reader, at this bit and with this error state, that samples this level
+-- makes this turn, and has this reader then.
+abbrev pub Advances : State → Reader → ℕ → ErrorState → Bool → Turn → Reader → Type 0
+Advances state old now errors level turn new =
+    (text : List Bool) (at : ℕ) (before : List ErrorEvent) (phase : Phase) (part : List Pair) (events : List ErrorEvent) →
+    now ≡ at + length part → errors ≡ state_after (before ++ events) → Agrees state text at phase part events → ReaderStands state old text →
+    LandsWith turn new at before phase (part ++ pair_of state level ∷ []) (events ++ listed turn.event)
+
+-- what an event leads to behind the events before it, and whether that is bus off
+pub data LeadsTo (events : List ErrorEvent) : Option ErrorEvent → Bool → Type 0 where
+  no_event : LeadsTo events None false
+  stays_on : (event : ErrorEvent) → AreOn (events ++ event ∷ []) → LeadsTo events (Some event) false
+  goes_off : (event : ErrorEvent) → AreOff (events ++ event ∷ []) → LeadsTo events (Some event) true
+
+-- the counters have counted the event too, if there is one
+pub record Counts (old new : Counters) (event : Option ErrorEvent) (off : Bool) (events : List ErrorEvent) : Type 0 where
+  pub stands : StandsAfter old events → StandsAfter new (events ++ listed event)
+  pub leads : StandsAfter old events → LeadsTo events event off
+
+-- a past and one more bit
+abbrev pub with_bit : Past → Pair → Option ErrorEvent → Outcome → Past
+with_bit past pair event outcome = record {
+  first = past.first;
+  pairs = past.pairs ++ pair ∷ [];
+  events = past.events ++ listed event;
+  begun = past.begun;
+  outcomes = past.outcomes ++ noted (past.first + length past.pairs) outcome;
+}
+
+-- the state stands after this past: whole episodes, and one that it agrees with
+pub record InState (state : State) (text : List Bool) (past : Past) : Type 0 where
+  pub done : Past
+  pub phase : Phase
+  pub part : List Pair
+  pub counting : List ErrorEvent
+  pub whole : Whole done phase
+  pub agrees : Agrees state text (done.first + length done.pairs) phase part counting
+  pub on : IsOnOutside phase (done.events ++ counting)
+  pub past_is : past ≡ with_episode done phase part counting Nothing

@@ -1,0 +1,114 @@
+//! One bit of a node: what its level makes of state, reader and counters.
+
+ghost use Rattle.std.specs.Prelude.{◌≡◌, Bool, List, false, ◌∷◌, []};
+ghost use Rattle.can_frame.specs.Reading.{StandsAfter, IsReading};
+ghost use Rattle.can_node.specs.Machine.{Goes, Advances, Counts, is_taking, level_of, may_start};
+
+use crate::confinement::{ErrorEvent, ErrorState};
+use crate::counters::Counters;
+use crate::state::{State, Turn};
+use crate::takes::after_taking;
+use crate::turns::{
+    after_closing, after_delimiting, after_flag, after_idle, after_passive_flag, after_recovering,
+    after_resting, after_suspending, after_sync, after_waiting, plain,
+};
+use can_frame::Reader;
+
+/// The level that a node in this state drives.
+pub(crate) fn level_of(state: State) -> bool
+    ensures { result ≡ level_of state }
+{
+    match state {
+        State::Flagging(_, _, _, _) => false,
+        State::Taking(_, _, stage) => !stage.is_own_slot(),
+        _ => true,
+    }
+}
+
+/// Whether a node in this state may begin to send at the next bit.
+pub(crate) fn may_start(state: State) -> bool
+    ensures { result ≡ may_start state }
+{
+    match state {
+        State::Idling => true,
+        State::Taking(_, may_begin, _) => may_begin,
+        _ => false,
+    }
+}
+
+/// Whether a node in this state reads a frame.
+fn is_taking(state: State) -> bool
+    ensures { result ≡ is_taking state }
+{
+    matches!(state, State::Taking(_, _, _))
+}
+
+/// What a level makes of a state that reads no frame.
+fn turn_of(state: State, now: u64, errors: ErrorState, level: bool) -> Turn
+    ensures { is_taking state ≡ false → Goes state now errors level result }
+{
+    match state {
+        State::Syncing(ones) => after_sync(ones, now, errors, level),
+        State::Idling => after_idle(now, errors, level),
+        // for its reader to say
+        State::Taking(_, _, _) => plain(state),
+        State::Closing => after_closing(now, errors, level),
+        State::Flagging(kind, role, sent, until) => {
+            after_flag(kind, role, sent, until, now, errors, level)
+        }
+        State::PassiveFlagging(role, owes, ones, zeros) => {
+            after_passive_flag(role, owes, ones, zeros, now, errors, level)
+        }
+        State::Waiting(kind, role, until, first) => {
+            after_waiting(kind, role, until, first, now, errors, level)
+        }
+        State::Delimiting(role, ones) => after_delimiting(role, ones, now, errors, level),
+        State::Resting(role, ones) => after_resting(role, ones, now, errors, level),
+        State::Suspending(ones) => after_suspending(ones, now, errors, level),
+        State::Recovering(runs, ones) => after_recovering(runs, ones, now, errors, level),
+    }
+}
+
+/// A reader of the frame whose SOF was just sampled.
+fn reader_after_sof() -> Reader
+    ensures stands { StandsAfter result (false ∷ []) }
+    ensures reading { IsReading result }
+{
+    let mut reader = Reader::new();
+    let _more = reader.push(false);
+    reader
+}
+
+/// What a level makes of the state. If a frame is read, its reader is pushed that level.
+pub(crate) fn advance(
+    state: State,
+    reader: &mut Reader,
+    now: u64,
+    errors: ErrorState,
+    level: bool,
+) -> Turn
+    ensures { Advances state reader.old now errors level result reader.new }
+{
+    if let State::Taking(start, _, stage) = state {
+        let step = reader.push(level);
+        return after_taking(start, stage, errors, step, level);
+    }
+    let turn = turn_of(state, now, errors, level);
+    if is_taking(turn.state) {
+        *reader = reader_after_sof();
+    }
+    turn
+}
+
+/// Counts an event, if there is one, and tells whether it leads to bus off.
+pub(crate) fn count(counters: &mut Counters, event: Option<ErrorEvent>) -> bool
+    ensures { (events : List ErrorEvent) → Counts counters.old counters.new event result events }
+{
+    match event {
+        None => false,
+        Some(event) => {
+            counters.apply(event);
+            counters.is_off()
+        }
+    }
+}

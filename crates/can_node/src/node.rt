@@ -1,0 +1,91 @@
+//! A node of one segment.
+
+ghost use Rattle.std.specs.Prelude.{◌≡◌, ℕ, ◌+◌, ◌<◌};
+ghost use Rattle.can_node.specs.Counters.{StandsAfter as CountersStandAfter};
+ghost use Rattle.can_node.specs.Histories.{Past, no_past, IsHistory};
+ghost use Rattle.can_node.specs.Node.{StandsAfter, IsSample, IsWanting, bit_of, driven_by};
+
+use crate::counters::Counters;
+use crate::machine::{advance, count, level_of, may_start};
+use crate::outcome::Outcome;
+use crate::state::State;
+use can_frame::Reader;
+
+/// A node of classical CAN, bit by bit (Bosch CAN Specification 2.0, part B; ISO 11898-1). At each bit it
+/// drives a level, and then samples one, which may be any.
+///
+/// It keeps no list of what it did: the contracts speak of every past after which it may stand, and
+/// each of these is a history by the rules of docs/NODE.md.
+#[derive(Drop)]
+pub struct Node {
+    state: State,
+    // of the frame that is read; without use else
+    reader: Reader,
+    counters: Counters,
+    // the number of the next bit
+    clock: u64,
+}
+
+impl Node {
+    /// A node that is switched on: its first bit is that of this number.
+    pub fn new(from_bit: u64) -> Node
+        ensures stands { StandsAfter result (no_past from_bit) }
+        ensures bit { bit_of result ≡ from_bit }
+    {
+        Node {
+            state: State::Syncing(0),
+            reader: Reader::new(),
+            counters: Counters::new(),
+            clock: from_bit,
+        }
+    }
+
+    /// The number of the next bit.
+    pub fn bit(&self) -> u64
+        ensures { result ≡ bit_of self.now }
+    {
+        self.clock
+    }
+
+    /// The error counters.
+    pub fn counters(&self) -> Counters
+        ensures { (past : Past) → StandsAfter self.now past → CountersStandAfter result past.events }
+    {
+        self.counters
+    }
+
+    /// Whether the node may begin to send at the next bit: it is idle, or has just sampled a dominant
+    /// third bit of intermission and need not wait.
+    pub fn wants_start(&self) -> bool
+        ensures { (past : Past) → StandsAfter self.now past → IsWanting past result }
+    {
+        may_start(self.state)
+    }
+
+    /// The level that the node drives at the next bit, true being recessive.
+    pub fn drive(&self) -> bool
+        ensures { result ≡ driven_by self.now }
+    {
+        level_of(self.state)
+    }
+
+    /// The node samples this level, and has driven the one of `drive`. It tells what this bit brings to
+    /// an end.
+    pub fn sample(&mut self, level: bool) -> Outcome
+        requires { bit_of self.old < u64.MAX }
+        ensures bit { bit_of self.new ≡ bit_of self.old + 1 }
+        ensures stands { IsSample self.old level result self.new }
+        ensures history { (past : Past) → StandsAfter self.new past → IsHistory past }
+    {
+        let errors = self.counters.state();
+        let turn = advance(self.state, &mut self.reader, self.clock, errors, level);
+        let went_off = count(&mut self.counters, turn.event);
+        self.clock += 1;
+        if went_off {
+            self.state = State::Recovering(0, 0);
+            return Outcome::WentOff;
+        }
+        self.state = turn.state;
+        turn.outcome
+    }
+}

@@ -1,0 +1,72 @@
+//! What the reader's answer makes of a node that reads a frame.
+
+ghost use Rattle.std.specs.Prelude.{◌≡◌, Bool};
+ghost use Rattle.can_frame.specs.declared.step.Step.TheVariants.{Tail};
+ghost use Rattle.can_node.specs.Machine.{GoesReading};
+ghost use Rattle.can_node.specs.Takes.{name_of};
+
+use crate::confinement::{ErrorEvent, ErrorState, Role};
+use crate::outcome::{ErrorKind, Outcome};
+use crate::state::{Stage, State, Turn};
+use crate::turns::{counted, error_flag, plain};
+use can_frame::{FaultKind, Step};
+
+/// What a receiver calls its error.
+fn error_kind(kind: FaultKind) -> ErrorKind
+    ensures { result ≡ name_of kind }
+{
+    match kind {
+        FaultKind::Stuff => ErrorKind::Stuff,
+        FaultKind::Form => ErrorKind::Form,
+        // the node itself drives the ACK slot dominant, so a recessive level there is a bit error
+        FaultKind::Ack => ErrorKind::Bit,
+        FaultKind::Crc => ErrorKind::Crc,
+    }
+}
+
+/// A level behind the stuffed region with which the frame goes on.
+fn after_tail(start: u64, stage: Stage, errors: ErrorState, level: bool) -> Turn
+    ensures { (may_start : Bool) → GoesReading (State.Taking start may_start stage) errors Tail level result }
+{
+    match stage {
+        Stage::AfterRegion(right) => plain(State::Taking(start, false, Stage::Slot(right))),
+        Stage::Slot(right) => {
+            let behind = State::Taking(start, false, Stage::AfterSlot);
+            if right {
+                return counted(behind, ErrorEvent::Received);
+            }
+            plain(behind)
+        }
+        Stage::AfterSlot => plain(State::Taking(start, false, Stage::AfterSlot)),
+        // the reader answers otherwise within the region
+        Stage::Region => plain(State::Taking(start, false, Stage::AfterSlot)),
+    }
+}
+
+/// Reading a frame: what the reader answers to the level decides.
+pub(crate) fn after_taking(
+    start: u64,
+    stage: Stage,
+    errors: ErrorState,
+    step: Step,
+    level: bool,
+) -> Turn
+    ensures { (may_start : Bool) → GoesReading (State.Taking start may_start stage) errors step level result }
+{
+    match step {
+        Step::More => plain(State::Taking(start, false, Stage::Region)),
+        Step::StuffBit => plain(State::Taking(start, false, Stage::Region)),
+        Step::Body(_, right) => plain(State::Taking(start, false, Stage::AfterRegion(right))),
+        Step::Tail => after_tail(start, stage, errors, level),
+        Step::Taken(frame) => Turn {
+            state: State::Closing,
+            event: None,
+            outcome: Outcome::Took { start, frame },
+        },
+        Step::Fault(kind) => Turn {
+            state: error_flag(Role::Receiver, errors),
+            event: Some(ErrorEvent::ReceiverError),
+            outcome: Outcome::Errored(error_kind(kind)),
+        },
+    }
+}

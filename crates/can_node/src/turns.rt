@@ -1,0 +1,288 @@
+//! What one sampled level makes of a node that reads no frame: one function for each state.
+
+ghost use Rattle.std.specs.Prelude.{◌≡◌, ℕ, List, Bool, [], Some, None};
+ghost use Rattle.can_node.specs.Phases.{suspends, flag_of};
+ghost use Rattle.can_node.specs.Flags.{behind_flag};
+ghost use Rattle.can_node.specs.Machine.{Agrees, Goes, listed};
+ghost use Rattle.can_node.specs.Episodes.{error_of};
+
+use crate::confinement::{ErrorEvent, ErrorState, Role};
+use crate::flag::FlagKind;
+use crate::outcome::{ErrorKind, Outcome};
+use crate::state::{Stage, State, Turn};
+
+/// A turn that counts nothing and ends nothing that is told.
+pub(crate) fn plain(state: State) -> Turn
+    ensures { result ≡ record { state = state; event = None; outcome = Outcome.Nothing } }
+{
+    Turn {
+        state,
+        event: None,
+        outcome: Outcome::Nothing,
+    }
+}
+
+/// A turn that counts an event and ends nothing that is told.
+pub(crate) fn counted(state: State, event: ErrorEvent) -> Turn
+    ensures { result ≡ record { state = state; event = Some event; outcome = Outcome.Nothing } }
+{
+    Turn {
+        state,
+        event: Some(event),
+        outcome: Outcome::Nothing,
+    }
+}
+
+/// Switched on: the eleventh recessive level in a row makes the node idle.
+pub(crate) fn after_sync(ones: u8, now: u64, errors: ErrorState, level: bool) -> Turn
+    ensures { Goes (State.Syncing ones) now errors level result }
+{
+    if !level {
+        return plain(State::Syncing(0));
+    }
+    if ones < 10 {
+        return plain(State::Syncing(ones + 1));
+    }
+    plain(State::Idling)
+}
+
+/// Idle: a dominant level is SOF.
+pub(crate) fn after_idle(now: u64, errors: ErrorState, level: bool) -> Turn
+    ensures { Goes State.Idling now errors level result }
+{
+    if level {
+        return plain(State::Idling);
+    }
+    plain(State::Taking(now, false, Stage::Region))
+}
+
+/// The last bit of EOF of a frame that was taken.
+pub(crate) fn after_closing(now: u64, errors: ErrorState, level: bool) -> Turn
+    ensures { Goes State.Closing now errors level result }
+{
+    if level {
+        return plain(State::Resting(Role::Receiver, 0));
+    }
+    plain(State::Flagging(FlagKind::Overload, Role::Receiver, 0, 14))
+}
+
+/// A flag that drives dominant: a recessive level counts, and the sixth bit is the last one.
+pub(crate) fn after_flag(
+    kind: FlagKind,
+    role: Role,
+    sent: u8,
+    until: u8,
+    now: u64,
+    errors: ErrorState,
+    level: bool,
+) -> Turn
+    ensures { Goes (State.Flagging kind role sent until) now errors level result }
+{
+    if level {
+        if sent < 5 {
+            return counted(
+                State::Flagging(kind, role, sent + 1, 14),
+                ErrorEvent::FlagBit(role),
+            );
+        }
+        return counted(
+            State::Waiting(kind, role, 14, true),
+            ErrorEvent::FlagBit(role),
+        );
+    }
+    if sent < 5 {
+        return plain(State::Flagging(kind, role, sent + 1, until.saturating_sub(1)));
+    }
+    plain(State::Waiting(kind, role, until.saturating_sub(1), true))
+}
+
+/// A passive error flag: the sixth equal level in a row is the last one.
+pub(crate) fn after_passive_flag(
+    role: Role,
+    owes: bool,
+    ones: u8,
+    zeros: u8,
+    now: u64,
+    errors: ErrorState,
+    level: bool,
+) -> Turn
+    ensures { Goes (State.PassiveFlagging role owes ones zeros) now errors level result }
+{
+    if level {
+        if ones < 5 {
+            return plain(State::PassiveFlagging(role, owes, ones + 1, 0));
+        }
+        return plain(State::Waiting(FlagKind::PassiveError, role, 8, true));
+    }
+    if zeros < 5 {
+        if owes {
+            return counted(
+                State::PassiveFlagging(role, false, 0, zeros + 1),
+                ErrorEvent::SenderError,
+            );
+        }
+        return plain(State::PassiveFlagging(role, false, 0, zeros + 1));
+    }
+    plain(State::Waiting(FlagKind::PassiveError, role, 8, true))
+}
+
+/// The state at the start of an error flag, by the error state before the error.
+pub(crate) fn error_flag(role: Role, errors: ErrorState) -> State
+    ensures { (text : List Bool) (later : ℕ) → Agrees result text later (flag_of errors [] role) [] [] }
+{
+    match errors {
+        ErrorState::Active => State::Flagging(FlagKind::ActiveError, role, 0, 14),
+        ErrorState::Passive => State::PassiveFlagging(role, false, 0, 0),
+        ErrorState::Off => State::Recovering(0, 0),
+    }
+}
+
+/// What a node of this role counts at an error.
+fn error_event(role: Role) -> ErrorEvent
+    ensures { result ≡ error_of role }
+{
+    match role {
+        Role::Sender => ErrorEvent::SenderError,
+        Role::Receiver => ErrorEvent::ReceiverError,
+    }
+}
+
+/// A delimiter from its second recessive level on.
+pub(crate) fn after_delimiting(
+    role: Role,
+    ones: u8,
+    now: u64,
+    errors: ErrorState,
+    level: bool,
+) -> Turn
+    ensures { Goes (State.Delimiting role ones) now errors level result }
+{
+    if level {
+        if ones < 7 {
+            return plain(State::Delimiting(role, ones + 1));
+        }
+        return plain(State::Resting(role, 0));
+    }
+    if ones < 7 {
+        return Turn {
+            state: error_flag(role, errors),
+            event: Some(error_event(role)),
+            outcome: Outcome::Errored(ErrorKind::Form),
+        };
+    }
+    plain(State::Flagging(FlagKind::Overload, role, 0, 14))
+}
+
+/// What a dominant level right behind a flag counts.
+fn behind(kind: FlagKind, role: Role) -> Option<ErrorEvent>
+    ensures { listed result ≡ behind_flag kind role }
+{
+    match role {
+        Role::Sender => None,
+        Role::Receiver => match kind {
+            FlagKind::ActiveError => Some(ErrorEvent::ReceiverDominant),
+            FlagKind::PassiveError => Some(ErrorEvent::ReceiverDominant),
+            FlagKind::Overload => None,
+        },
+    }
+}
+
+/// Behind a flag, before the first recessive level.
+pub(crate) fn after_waiting(
+    kind: FlagKind,
+    role: Role,
+    until: u8,
+    first: bool,
+    now: u64,
+    errors: ErrorState,
+    level: bool,
+) -> Turn
+    ensures { Goes (State.Waiting kind role until first) now errors level result }
+{
+    if level {
+        return plain(State::Delimiting(role, 1));
+    }
+    if until <= 1 {
+        return counted(
+            State::Waiting(kind, role, 8, false),
+            ErrorEvent::DominantRun(role),
+        );
+    }
+    if first {
+        return Turn {
+            state: State::Waiting(kind, role, until - 1, false),
+            event: behind(kind, role),
+            outcome: Outcome::Nothing,
+        };
+    }
+    plain(State::Waiting(kind, role, until - 1, false))
+}
+
+/// Whether a node waits behind the intermission.
+fn is_suspended(role: Role, errors: ErrorState) -> bool
+    ensures { result ≡ suspends role errors }
+{
+    match role {
+        Role::Receiver => false,
+        Role::Sender => matches!(errors, ErrorState::Passive),
+    }
+}
+
+/// Intermission: what comes behind it is decided at its third bit.
+pub(crate) fn after_resting(role: Role, ones: u8, now: u64, errors: ErrorState, level: bool) -> Turn
+    ensures { Goes (State.Resting role ones) now errors level result }
+{
+    if ones < 2 {
+        if level {
+            return plain(State::Resting(role, ones + 1));
+        }
+        return plain(State::Flagging(FlagKind::Overload, role, 0, 14));
+    }
+    let waits = is_suspended(role, errors);
+    if !level {
+        return plain(State::Taking(now, !waits, Stage::Region));
+    }
+    if waits {
+        return plain(State::Suspending(0));
+    }
+    plain(State::Idling)
+}
+
+/// Suspend transmission: a dominant level is SOF of a frame that is read.
+pub(crate) fn after_suspending(ones: u8, now: u64, errors: ErrorState, level: bool) -> Turn
+    ensures { Goes (State.Suspending ones) now errors level result }
+{
+    if !level {
+        return plain(State::Taking(now, false, Stage::Region));
+    }
+    if ones < 7 {
+        return plain(State::Suspending(ones + 1));
+    }
+    plain(State::Idling)
+}
+
+/// Bus off: the 128th run of eleven recessive levels brings the node back.
+pub(crate) fn after_recovering(
+    runs: u8,
+    ones: u8,
+    now: u64,
+    errors: ErrorState,
+    level: bool,
+) -> Turn
+    ensures { Goes (State.Recovering runs ones) now errors level result }
+{
+    if !level {
+        return plain(State::Recovering(runs, 0));
+    }
+    if ones < 10 {
+        return plain(State::Recovering(runs, ones + 1));
+    }
+    if runs < 127 {
+        return plain(State::Recovering(runs + 1, 0));
+    }
+    Turn {
+        state: State::Idling,
+        event: Some(ErrorEvent::Recovered),
+        outcome: Outcome::CameBack,
+    }
+}
