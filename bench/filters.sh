@@ -4,6 +4,7 @@
 # temporary folder, and proves, builds and runs it there.
 set -eu
 cd "$(dirname "$0")/.."
+. bench/build.sh
 work=$(mktemp -d)
 trap 'rm -rf "$work"' EXIT
 mkdir -p "$work/crates/filter_bench/src"
@@ -83,9 +84,5 @@ fn main(rt: HostRuntime) -> io::Result<()> {
     Ok(())
 }
 RATTLE
-(cd "$work" && git init -q .)
-if ! (cd "$work/crates/filter_bench" && rt run) > "$work/log" 2>&1; then
-  cat "$work/log"
-  exit 1
-fi
+build filter_bench
 "$work/crates/filter_bench/out/filter_bench" | awk '{ for (i = 1; i < NF; i++) if ($(i + 1) == "ns") n = $i; sub(/:.*/, ""); printf "%s: %.1f million a second\n", $0, 2000000 * 1000 / n }'

@@ -3,6 +3,7 @@
 # program beside a copy of can_frame in a temporary folder, and proves, builds and runs it there.
 set -eu
 cd "$(dirname "$0")/.."
+. bench/build.sh
 work=$(mktemp -d)
 trap 'rm -rf "$work"' EXIT
 mkdir -p "$work/crates/frame_bench/src"
@@ -82,9 +83,5 @@ fn main(rt: HostRuntime) -> io::Result<()> {
     println!(rt; "push: {bits} bits in {nanos} ns, {taken} frames taken")
 }
 RATTLE
-(cd "$work" && git init -q .)
-if ! (cd "$work/crates/frame_bench" && rt run) > "$work/log" 2>&1; then
-  cat "$work/log"
-  exit 1
-fi
+build frame_bench
 "$work/crates/frame_bench/out/frame_bench" | awk '{ printf "%s %.1f million bits a second%s\n", $1, $2 * 1000 / $5, (NF > 6) ? ", " $7 " frames taken" : "" }'
