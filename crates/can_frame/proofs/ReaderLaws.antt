@@ -262,7 +262,7 @@ pub reading_is_undecided : ReadingIsUndecided
 reading_is_undecided reader text h o = reading_at reader.place reader.destuffer.run reader.destuffer.last reader.levels.items text h o
 
 -- a last answer comes at a front or a fault
-fault_is : (kind : FaultKind) (text : List Bool) (level : Bool) → FaultAnswers kind text level → IsFaulty (text ++ level ∷ [])
+pub fault_is : (kind : FaultKind) (text : List Bool) (level : Bool) → FaultAnswers kind text level → IsFaulty (text ++ level ∷ [])
 fault_is Stuff text level h = inl h.3
 fault_is Form text level h = inl h.0
 fault_is Ack text level h = inr (inl h)

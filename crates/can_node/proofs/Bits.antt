@@ -1,23 +1,30 @@
 -- One more bit of a history: what a turn makes of the past that a state stands after.
-use Rattle.std.proofs.Common.{◌≡◌, ℕ, ◌+◌, ◌-◌, Bool, Option, Some, List, [], ◌∷◌, ◌++◌, length, refl, sym, ap, subst, arith, ◌∙◌, length-append}
+use Rattle.std.proofs.Common.{◌≡◌, ℕ, ◌+◌, ◌-◌, Bool, true, false, Option, Some, List, [], ◌∷◌, ◌++◌, length, refl, sym, ap, subst, arith, ◌∙◌, length-append}
 use Rattle.std.proofs.lemmas.List.{append_assoc, append-nil}
 use Rattle.can_frame.specs.Frames.{FrameValue}
 use Rattle.can_node.specs.declared.confinement.ErrorEvent.{ErrorEvent}
+use Rattle.can_node.specs.declared.confinement.Role.{Role}
+use Rattle.can_node.specs.declared.confinement.Role.TheVariants.{Receiver}
+use Rattle.can_node.specs.declared.confinement.ErrorState.{ErrorState}
+use Rattle.can_node.specs.declared.confinement.ErrorState.TheVariants.{Active, Passive, Off}
 use Rattle.can_node.specs.declared.outcome.Outcome.{Outcome}
 use Rattle.can_node.specs.declared.outcome.Outcome.TheVariants.{Nothing, WentOff}
 use Rattle.can_node.specs.declared.state.State.{State}
+use Rattle.can_node.specs.declared.spelling.Spelling.{Spelling}
 use Rattle.can_node.specs.declared.state.State.TheVariants.{Recovering}
 use Rattle.can_node.specs.Pairs.{Pair}
 use Rattle.can_node.specs.Takes.{IsReadOn}
-use Rattle.can_node.specs.Phases.{Phase}
+use Rattle.can_node.specs.Phases.{Phase, flag_of}
 use Rattle.can_node.specs.Phases.Phase.{Sync, Idle, Send, Take, LastBit, ActiveFlag, OverloadFlag, PassiveFlag, Delimiter, Intermission, Suspend, BusOff}
-use Rattle.can_node.specs.Episodes.{Begun, Episode, AreOn, AreOff}
-use Rattle.can_node.specs.Episodes.Begun.{syncing, idling, taking, last_bit, active_flag, overload_flag, passive_flag, delimiting, resting, suspended, recovering}
+use Rattle.can_node.specs.Episodes.{Begun, Course, Episode, AreOn, AreOff}
+use Rattle.can_node.specs.Episodes.Course.{synced, woken, completed, lost, stuff_lost, unacknowledged, bit_differs, took, spoiled, quiet_end, late_overload, flagged, overload_flagged, passive_flagged, delimited, cut_short, overloaded, rested, rested_sender, pressed, hurried, waited, overtaken, recovered}
+use Rattle.can_node.specs.Episodes.Begun.{syncing, idling, sending, taking, last_bit, active_flag, overload_flag, passive_flag, delimiting, resting, suspended, recovering}
 use Rattle.can_node.specs.Episodes.Episode.{ends, off_within, off_at_end}
+use Rattle.can_node.specs.Sending.{Holds}
 use Rattle.can_node.specs.Histories.{Past, with_episode, IsOnOutside, IsHistory, noted, begins}
 use Rattle.can_node.specs.Histories.Whole.{then}
-use Rattle.can_node.specs.Machine.{Agrees, Lands, InState, with_bit, listed}
-use Rattle.can_node.specs.Machine.Agrees.{in_sync, in_idle, in_take, in_last, in_active, in_overload, in_passive, in_wait, in_delimiter, in_rest, in_suspend, in_off}
+use Rattle.can_node.specs.Machine.{Agrees, Lands, InState, with_bit, listed, is_sending}
+use Rattle.can_node.specs.Machine.Agrees.{in_sync, in_idle, in_take, in_send, in_last, in_active, in_overload, in_passive, in_wait, in_delimiter, in_rest, in_suspend, in_off}
 use Rattle.can_node.specs.Machine.Lands.{goes_on, is_over}
 use Rattle.can_node.proofs.ErrorMoves.{off_begins}
 
@@ -26,7 +33,8 @@ pub agrees_begun : {state : State} {text : List Bool} {at : ℕ} {phase : Phase}
     Agrees state text at phase part events → Begun phase part events
 agrees_begun (in_sync broken b below) = syncing broken _ b below
 agrees_begun (in_idle n) = idling n
-agrees_begun (in_take given levels may_begin pairs events is read_on reads may place) = taking _ given may_begin levels pairs events (subst IsReadOn is read_on) reads
+agrees_begun (in_take given levels may_begin pairs events is read_on reads may sof place) = taking _ given may_begin levels pairs events (subst IsReadOn is read_on) reads
+agrees_begun (in_send given frame before seen driven expected is bit place) = sending _ given frame before seen driven expected bit
 agrees_begun in_last = last_bit
 agrees_begun (in_active levels size below runs few) = active_flag _ levels (omega (arith, size, below))
 agrees_begun (in_overload levels size below runs few) = overload_flag _ levels (omega (arith, size, below))
@@ -37,25 +45,93 @@ agrees_begun (in_rest below) = resting _ _ below
 agrees_begun (in_suspend below) = suspended _ below
 agrees_begun (in_off rest broken below counted b short) = recovering _ rest broken _ below counted b short
 
--- a state that agrees with an episode sends nothing
-no_begins : {state : State} {text : List Bool} {at : ℕ} {phase : Phase} {part : List Pair} {events : List ErrorEvent} →
-    Agrees state text at phase part events → (n : ℕ) → begins n phase ≡ []
-no_begins (in_sync broken b below) n = refl
-no_begins (in_idle k) n = refl
-no_begins (in_take given levels may_begin pairs events is read_on reads may place) n = refl
-no_begins in_last n = refl
-no_begins (in_active levels size below runs few) n = refl
-no_begins (in_overload levels size below runs few) n = refl
-no_begins (in_passive owed levels h) n = refl
-no_begins (in_wait run k is far due) n = refl
-no_begins (in_delimiter kind run k some below) n = refl
-no_begins (in_rest below) n = refl
-no_begins (in_suspend below) n = refl
-no_begins (in_off rest broken below counted b short) n = refl
+-- a phase in which a frame is sent
+pub is_send : Phase → Bool
+is_send (Send start given frame) = true
+is_send phase = false
+
+-- no frame is begun with such a phase, and it asks for no spelling
+pub record IsQuiet (phase : Phase) : Type 0 where
+  pub no_send : is_send phase ≡ false
+  pub begins_nothing : (n : ℕ) → begins n phase ≡ []
+  pub holds : (spelling : Spelling) → Holds phase spelling
+
+quiet : (phase : Phase) → is_send phase ≡ false → IsQuiet phase
+unfolding is_send
+quiet (Send start given frame) no_send = absurd (cc no_send)
+quiet Sync no_send = record { no_send = refl; begins_nothing = λ n. refl; holds = λ s. tt }
+quiet Idle no_send = record { no_send = refl; begins_nothing = λ n. refl; holds = λ s. tt }
+quiet (Take start given may_begin) no_send = record { no_send = refl; begins_nothing = λ n. refl; holds = λ s. tt }
+quiet LastBit no_send = record { no_send = refl; begins_nothing = λ n. refl; holds = λ s. tt }
+quiet (ActiveFlag role) no_send = record { no_send = refl; begins_nothing = λ n. refl; holds = λ s. tt }
+quiet (OverloadFlag role) no_send = record { no_send = refl; begins_nothing = λ n. refl; holds = λ s. tt }
+quiet (PassiveFlag owed role) no_send = record { no_send = refl; begins_nothing = λ n. refl; holds = λ s. tt }
+quiet (Delimiter kind role run) no_send = record { no_send = refl; begins_nothing = λ n. refl; holds = λ s. tt }
+quiet (Intermission role) no_send = record { no_send = refl; begins_nothing = λ n. refl; holds = λ s. tt }
+quiet Suspend no_send = record { no_send = refl; begins_nothing = λ n. refl; holds = λ s. tt }
+quiet BusOff no_send = record { no_send = refl; begins_nothing = λ n. refl; holds = λ s. tt }
+
+quiet_flag : (e : ErrorState) (owed : List ErrorEvent) (role : Role) → IsQuiet (flag_of e owed role)
+unfolding is_send
+quiet_flag Active owed role = quiet (ActiveFlag role) refl
+quiet_flag Passive owed role = quiet (PassiveFlag owed role) refl
+quiet_flag Off owed role = quiet BusOff refl
+
+-- a course that a bit ends does not lead to sending
+pub course_quiet : {at : ℕ} {before : List ErrorEvent} {phase next : Phase} {pairs : List Pair} {events : List ErrorEvent} {outcome : Outcome} →
+    Course at before phase pairs events outcome next → IsQuiet next
+unfolding is_send
+course_quiet (synced broken b) = quiet _ refl
+course_quiet (woken n) = quiet _ refl
+course_quiet (completed start given frame driven sampled send) = quiet _ refl
+course_quiet (lost start given frame driven seen bit place) = quiet _ refl
+course_quiet (stuff_lost start given frame driven seen bit place) = quiet_flag _ _ _
+course_quiet (unacknowledged start given frame driven seen bit) = quiet_flag _ _ _
+course_quiet (bit_differs start given frame driven seen level bit no_loss no_stuff) = quiet_flag _ _ _
+course_quiet (took start given may_begin levels pairs events frame reads front) = quiet _ refl
+course_quiet (spoiled start given may_begin levels level pairs events kind reads fault) = quiet_flag _ _ _
+course_quiet quiet_end = quiet _ refl
+course_quiet late_overload = quiet _ refl
+course_quiet (flagged role levels size) = quiet _ refl
+course_quiet (overload_flagged role levels size) = quiet _ refl
+course_quiet (passive_flagged owed role levels level before six) = quiet _ refl
+course_quiet (delimited kind role run n) = quiet _ refl
+course_quiet (cut_short kind role run n k some below) = quiet_flag _ _ _
+course_quiet (overloaded kind role run n) = quiet _ refl
+course_quiet (rested role goes) = quiet _ refl
+course_quiet (rested_sender role waits) = quiet _ refl
+course_quiet (pressed role k below) = quiet _ refl
+course_quiet (hurried role) = quiet _ refl
+course_quiet waited = quiet _ refl
+course_quiet (overtaken k below) = quiet _ refl
+course_quiet (recovered text whole) = quiet _ refl
+
+-- a node sends a frame just in the episode of a send
+send_phase : {state : State} {text : List Bool} {at : ℕ} {phase : Phase} {part : List Pair} {events : List ErrorEvent} → Agrees state text at phase part events → is_sending state ≡ is_send phase
+unfolding is_send
+send_phase (in_sync broken b below) = refl
+send_phase (in_idle n) = refl
+send_phase (in_take given levels may_begin pairs events is on reads may sof place) = refl
+send_phase (in_send given frame before seen driven expected is bit place) = refl
+send_phase in_last = refl
+send_phase (in_active levels size below runs few) = refl
+send_phase (in_overload levels size below runs few) = refl
+send_phase (in_passive owed levels h) = refl
+send_phase (in_wait run n is far due) = refl
+send_phase (in_delimiter kind run n some below) = refl
+send_phase (in_rest below) = refl
+send_phase (in_suspend below) = refl
+send_phase (in_off rest broken below counted b short) = refl
+
+-- a bit does not begin to send
+pub no_send_behind : (old new : State) (text after : List Bool) (at : ℕ) (before : List ErrorEvent) (phase : Phase) (part more : List Pair) (events counted : List ErrorEvent) (outcome : Outcome) →
+    is_sending old ≡ false → Agrees old text at phase part events → Lands new outcome after at before phase more counted → is_sending new ≡ false
+no_send_behind old new text after at before phase part more events counted outcome none agrees (goes_on goes nothing) = send_phase goes ∙ sym (send_phase agrees) ∙ none
+no_send_behind old new text after at before phase part more events counted outcome none agrees (is_over next course begins) = send_phase (begins 0) ∙ (course_quiet course).no_send
 
 -- what a state stands after is a history
-pub in_state_history : (state : State) (text : List Bool) (past : Past) → InState state text past → IsHistory past
-in_state_history state text past st = record {
+pub in_state_history : (state : State) (spelling : Spelling) (text : List Bool) (past : Past) → InState state spelling text past → IsHistory past
+in_state_history state spelling text past st = record {
   done = st.done;
   phase = st.phase;
   part = st.part;
@@ -69,23 +145,24 @@ in_state_history state text past st = record {
 abbrev past_of : ℕ → List Pair → List ErrorEvent → List (ℕ × FrameValue) → List (ℕ × Outcome) → Past
 past_of first pairs events begun outcomes = record { first = first; pairs = pairs; events = events; begun = begun; outcomes = outcomes }
 
-same_past : (first : ℕ) (p q : List Pair) (d e : List ErrorEvent) (b c : List (ℕ × FrameValue)) (o r : List (ℕ × Outcome)) →
+pub same_past : (first : ℕ) (p q : List Pair) (d e : List ErrorEvent) (b c : List (ℕ × FrameValue)) (o r : List (ℕ × Outcome)) →
     p ≡ q → d ≡ e → b ≡ c → o ≡ r → past_of first p d b o ≡ past_of first q e c r
 same_past first p q d e b c o r pq de bc or =
     ap (λ x. past_of first x d b o) pq ∙ ap (λ x. past_of first q x b o) de ∙ ap (λ x. past_of first q e x o) bc ∙ ap (λ x. past_of first q e c x) or
 
 -- the episode goes on with this bit
-pub stands_on : (old new : State) (text after : List Bool) (past : Past) (pair : Pair) (event : Option ErrorEvent) (st : InState old text past) →
+pub stands_on : (old new : State) (spelling : Spelling) (text after : List Bool) (past : Past) (pair : Pair) (event : Option ErrorEvent) (st : InState old spelling text past) →
     Agrees new after (st.done.first + length st.done.pairs) st.phase (st.part ++ pair ∷ []) (st.counting ++ listed event) →
     IsOnOutside st.phase (st.done.events ++ (st.counting ++ listed event)) →
-    InState new after (with_bit past pair event Nothing)
-stands_on old new text after past pair event st agrees on = record {
+    InState new spelling after (with_bit past pair event Nothing)
+stands_on old new spelling text after past pair event st agrees on = record {
   done = st.done;
   phase = st.phase;
   part = st.part ++ pair ∷ [];
   counting = st.counting ++ listed event;
   whole = st.whole;
   agrees = agrees;
+  holds = st.holds;
   on = on;
   past_is = ap (λ p. with_bit p pair event Nothing) st.past_is ∙
       same_past st.done.first _ _ _ _ _ _ _ _ (append_assoc st.done.pairs st.part (pair ∷ [])) (append_assoc st.done.events st.counting (listed event)) refl (append-nil _);
@@ -107,12 +184,12 @@ outside Suspend events on = on
 outside BusOff events on = tt
 
 -- the episode is over with this bit
-pub stands_over : (old new : State) (text after : List Bool) (past : Past) (pair : Pair) (event : Option ErrorEvent) (outcome : Outcome) (next : Phase) (st : InState old text past) →
+pub stands_over : (old new : State) (spelling : Spelling) (text after : List Bool) (past : Past) (pair : Pair) (event : Option ErrorEvent) (outcome : Outcome) (next : Phase) (st : InState old spelling text past) → IsQuiet next →
     Episode (st.done.first + length st.done.pairs) st.done.events st.phase (st.part ++ pair ∷ []) (st.counting ++ listed event) outcome next →
     ((later : ℕ) → Agrees new after later next [] []) →
     IsOnOutside next (st.done.events ++ (st.counting ++ listed event)) →
-    InState new after (with_bit past pair event outcome)
-stands_over old new text after past pair event outcome next st episode agrees on =
+    InState new spelling after (with_bit past pair event outcome)
+stands_over old new spelling text after past pair event outcome next st silent episode agrees on =
     let done : Past = with_episode st.done st.phase (st.part ++ pair ∷ []) (st.counting ++ listed event) outcome in
     let here : st.done.first + length (st.done.pairs ++ (st.part ++ pair ∷ [])) - 1 ≡ st.done.first + length (st.done.pairs ++ st.part) =
     omega (arith, length-append {A = Pair}) in
@@ -123,34 +200,35 @@ stands_over old new text after past pair event outcome next st episode agrees on
       counting = [];
       whole = then st.whole episode;
       agrees = agrees _;
+      holds = silent.holds spelling;
       on = rw append-nil on;
       past_is = ap (λ p. with_bit p pair event outcome) st.past_is ∙
           same_past st.done.first _ _ _ _ _ _ _ _ (append_assoc st.done.pairs st.part (pair ∷ []) ∙ sym (append-nil _))
           (append_assoc st.done.events st.counting (listed event) ∙ sym (append-nil _))
-          (sym (ap (λ b. (st.done.begun ++ begins (st.done.first + length st.done.pairs) st.phase) ++ b) (no_begins (agrees 0) _) ∙ append-nil _))
+          (sym (ap (λ b. (st.done.begun ++ begins (st.done.first + length st.done.pairs) st.phase) ++ b) (silent.begins_nothing _) ∙ append-nil _))
           (ap (λ o. o ++ noted (st.done.first + length (st.done.pairs ++ st.part)) outcome) (append-nil st.done.outcomes)
           ∙ ap (λ n. st.done.outcomes ++ noted n outcome) (sym here) ∙ sym (append-nil _));
     }
 
 -- a turn, where the node is not in bus off behind it
-pub lands_on : (old new : State) (text after : List Bool) (past : Past) (pair : Pair) (event : Option ErrorEvent) (outcome : Outcome) (st : InState old text past) →
+pub lands_on : (old new : State) (spelling : Spelling) (text after : List Bool) (past : Past) (pair : Pair) (event : Option ErrorEvent) (outcome : Outcome) (st : InState old spelling text past) →
     Lands new outcome after (st.done.first + length st.done.pairs) st.done.events st.phase (st.part ++ pair ∷ []) (st.counting ++ listed event) →
     AreOn (st.done.events ++ (st.counting ++ listed event)) →
-    InState new after (with_bit past pair event outcome)
-lands_on old new text after past pair event outcome st (goes_on agrees nothing) on =
-    subst (λ o. InState new after (with_bit past pair event o)) (sym nothing)
-    (stands_on old new text after past pair event st agrees (outside st.phase _ on))
-lands_on old new text after past pair event outcome st (is_over next course agrees) on =
-    stands_over old new text after past pair event outcome next st (ends course on) agrees (outside next _ on)
+    InState new spelling after (with_bit past pair event outcome)
+lands_on old new spelling text after past pair event outcome st (goes_on agrees nothing) on =
+    subst (λ o. InState new spelling after (with_bit past pair event o)) (sym nothing)
+    (stands_on old new spelling text after past pair event st agrees (outside st.phase _ on))
+lands_on old new spelling text after past pair event outcome st (is_over next course agrees) on =
+    stands_over old new spelling text after past pair event outcome next st (course_quiet course) (ends course on) agrees (outside next _ on)
 
 -- a turn whose event leads to bus off: in place of what it would have ended, the node went off
-pub lands_off : (old new : State) (text after : List Bool) (past : Past) (pair : Pair) (event : ErrorEvent) (outcome : Outcome) (st : InState old text past) →
+pub lands_off : (old new : State) (spelling : Spelling) (text after : List Bool) (past : Past) (pair : Pair) (event : ErrorEvent) (outcome : Outcome) (st : InState old spelling text past) →
     Lands new outcome after (st.done.first + length st.done.pairs) st.done.events st.phase (st.part ++ pair ∷ []) (st.counting ++ event ∷ []) →
     AreOn (st.done.events ++ st.counting) → AreOff (st.done.events ++ st.counting ++ event ∷ []) →
-    InState (Recovering 0 0) after (with_bit past pair (Some event) WentOff)
-lands_off old new text after past pair event outcome st (goes_on agrees nothing) on off =
-    stands_over old (Recovering 0 0) text after past pair (Some event) WentOff BusOff st
+    InState (Recovering 0 0) spelling after (with_bit past pair (Some event) WentOff)
+lands_off old new spelling text after past pair event outcome st (goes_on agrees nothing) on off =
+    stands_over old (Recovering 0 0) spelling text after past pair (Some event) WentOff BusOff st (quiet_flag Off [] Receiver)
     (off_within pair event (agrees_begun st.agrees) on (agrees_begun agrees) off) (off_begins after) tt
-lands_off old new text after past pair event outcome st (is_over next course agrees) on off =
-    stands_over old (Recovering 0 0) text after past pair (Some event) WentOff BusOff st
+lands_off old new spelling text after past pair event outcome st (is_over next course agrees) on off =
+    stands_over old (Recovering 0 0) spelling text after past pair (Some event) WentOff BusOff st (quiet_flag Off [] Receiver)
     (off_at_end pair event (agrees_begun st.agrees) on course off) (off_begins after) tt

@@ -3,7 +3,9 @@ use Rattle.std.proofs.Common.{◌≡◌, ℕ, ◌+◌, ◌<◌, ◌≤◌, cond,
 use Rattle.std.proofs.lemmas.List.{append_assoc, append-nil, replicate_more}
 use Rattle.std.specs.List.{list_any}
 use Rattle.can_node.specs.declared.confinement.Role.{Role}
+use Rattle.can_node.specs.declared.confinement.Role.TheVariants.{Sender}
 use Rattle.can_node.specs.declared.confinement.ErrorEvent.{ErrorEvent}
+use Rattle.can_node.specs.declared.confinement.ErrorEvent.TheVariants.{SenderError}
 use Rattle.can_node.specs.declared.confinement.ErrorState.{ErrorState}
 use Rattle.can_node.specs.declared.flag.FlagKind.TheVariants.{ActiveError, Overload}
 use Rattle.can_node.specs.declared.outcome.ErrorKind.TheVariants.{Form}
@@ -42,6 +44,17 @@ passive_begins role text later = in_passive [] [] (record {
   owes_error = λ yes. absurd (cc yes);
   none_yet = λ yes. refl;
   owes_nothing = λ no more. nothing_owed (list_any not more) false;
+})
+
+-- the flag of a passive sender that nobody acknowledged
+pub owing_begins : (text : List Bool) (later : ℕ) → Agrees (PassiveFlagging Sender true 0 0) text later (PassiveFlag (SenderError ∷ []) Sender) [] []
+owing_begins text later = in_passive (SenderError ∷ []) [] (record {
+  without_six = no_six;
+  ones_is = refl;
+  zeros_is = refl;
+  owes_error = λ yes. (refl, refl);
+  none_yet = λ yes. refl;
+  owes_nothing = λ no. absurd (cc no);
 })
 
 pub off_begins : (text : List Bool) (later : ℕ) → Agrees (Recovering 0 0) text later BusOff [] []

@@ -1,9 +1,14 @@
 pub mod Starts
+pub mod Readers
+pub mod Tallies
 pub mod Moves
 pub mod Places
 pub mod TakeMoves
 pub mod FlagMoves
 pub mod PassiveMoves
 pub mod ErrorMoves
+pub mod SendPlaces
+pub mod SendMoves
 pub mod Bits
 pub mod Samples
+pub mod Begins

@@ -15,7 +15,8 @@ use Rattle.can_node.specs.declared.confinement.ErrorState.{ErrorState}
 use Rattle.can_node.specs.declared.outcome.Outcome.{Outcome}
 use Rattle.can_node.specs.declared.outcome.Outcome.TheVariants.{WentOff}
 use Rattle.can_node.specs.declared.state.State.{State}
-use Rattle.can_node.specs.declared.state.State.TheVariants.{Syncing, Taking, Recovering}
+use Rattle.can_node.specs.declared.spelling.Spelling.{Spelling}
+use Rattle.can_node.specs.declared.state.State.TheVariants.{Syncing, Taking, Recovering, Sending}
 use Rattle.can_node.specs.declared.state.Stage.{Stage}
 use Rattle.can_node.specs.declared.state.Turn.{Turn}
 use Rattle.can_node.specs.declared.node.Node.{Node}
@@ -31,31 +32,55 @@ use Rattle.can_node.specs.Episodes.Course.{recovered}
 use Rattle.can_node.specs.Episodes.Episode.{ends}
 use Rattle.can_node.specs.Histories.{Past, no_past, IsHistory, IsOnOutside}
 use Rattle.can_node.specs.Histories.Whole.{switched_on}
-use Rattle.can_node.specs.Machine.{Agrees, Lands, Goes, GoesReading, Advances, LeadsTo, Counts, InState, ReaderStands, listed, is_taking, may_start, pair_of, with_bit}
-use Rattle.can_node.specs.Machine.Agrees.{in_sync, in_idle, in_take, in_last, in_active, in_overload, in_passive, in_wait, in_delimiter, in_rest, in_suspend, in_off}
+use Rattle.can_node.specs.Machine.{Agrees, Lands, Goes, GoesReading, GoesSending, Advances, LeadsTo, Counts, InState, ReaderStands, listed, is_taking, is_sending, level_of, level_in, may_start, with_bit}
+use Rattle.can_node.specs.Machine.Agrees.{in_sync, in_idle, in_take, in_send, in_last, in_active, in_overload, in_passive, in_wait, in_delimiter, in_rest, in_suspend, in_off}
 use Rattle.can_node.specs.Machine.Lands.{goes_on, is_over}
 use Rattle.can_node.specs.Machine.LeadsTo.{no_event, stays_on, goes_off}
 use Rattle.can_node.specs.Node.{StandsAfter, IsSample, IsWanting}
 use Rattle.can_node.proofs.Starts.{sof_inside}
-use Rattle.can_node.proofs.Bits.{agrees_begun, in_state_history, stands_on, stands_over, outside, lands_on, lands_off}
+use Rattle.can_node.proofs.Readers.{still_reading, reads_on}
+use Rattle.can_node.proofs.Bits.{agrees_begun, in_state_history, course_quiet, no_send_behind, stands_on, stands_over, outside, lands_on, lands_off}
 
 -- a node that reads a frame
-pub reading_advances : (start : ℕ) (may : Bool) (stage : Stage) (old new : Reader) (now : ℕ) (errors : ErrorState) (level : Bool) (step : Step) (turn : Turn) → IsPush old level step new →
-    ((may : Bool) → GoesReading (Taking start may stage) errors step level turn) → Advances (Taking start may stage) old now errors level turn new
-reading_advances start may stage old new now errors level step turn push goes text at before phase part events clock err agrees reads =
+pub reading_advances : (start : ℕ) (may : Bool) (stage : Stage) (old new : Reader) (spelling : Spelling) (now : ℕ) (errors : ErrorState) (level : Bool) (step : Step) (turn : Turn) → IsPush old level step new →
+    ((may : Bool) → GoesReading (Taking start may stage) errors step level turn) → Advances (Taking start may stage) old spelling now errors level turn new
+reading_advances start may stage old new spelling now errors level step turn push goes text at before phase part events clock err agrees holds reads =
     let next = push.next text (reads.reading refl) (reads.stands refl) in
     let both = goes may new text at before phase part events err agrees next in
-    record { after = text ++ level ∷ []; lands = both.0; reads = record { stands = λ is. next.stands; reading = both.1 } }
+    record { after = text ++ level ∷ []; lands = both.0; reads = record { stands = λ is. next.stands; reading = both.1; follows = λ is. next.stands } }
+
+-- a node that sends one
+pub sending_advances : (start place : ℕ) (old new : Reader) (spelling : Spelling) (now : ℕ) (errors : ErrorState) (level : Bool) (step : Step) (turn : Turn) → IsPush old level step new →
+    GoesSending start place spelling errors level turn → Advances (Sending start place) old spelling now errors level turn new
+sending_advances start place old new spelling now errors level step turn push goes text at before phase part events clock err agrees holds reads =
+    let after = text ++ level ∷ [] in
+    let stands = push.stands text (reads.follows refl) in
+    let lands = goes text at before phase part events err agrees holds in
+    record { after = after; lands = lands; reads = record { stands = λ is. stands; reading = λ is. still_reading new after stands (reads_on lands is).undecided; follows = λ is. stands } }
 
 pub no_taking : (state : State) → ((start : ℕ) (may : Bool) (stage : Stage) → state ≡ Taking start may stage → ⊥) → is_taking state ≡ false
 no_taking (Taking start may stage) h = absurd (h start may stage refl)
 no_taking state h = refl
 
--- a node that reads none before this bit
-pub other_advances : (state : State) (old new : Reader) (now : ℕ) (errors : ErrorState) (level : Bool) (turn : Turn) → Goes state now errors level turn →
-    (is_taking turn.state ≡ true → ReaderStandsAfter new (false ∷ [])) → (is_taking turn.state ≡ true → IsReading new) → Advances state old now errors level turn new
-other_advances state old new now errors level turn goes stands reading text at before phase part events clock err agrees reads =
-    record { after = false ∷ []; lands = goes text at before phase part events clock err agrees; reads = record { stands = stands; reading = reading } }
+pub no_sending : (state : State) → ((start place : ℕ) → state ≡ Sending start place → ⊥) → is_sending state ≡ false
+no_sending (Sending start place) h = absurd (h start place refl)
+no_sending state h = refl
+
+own_level : (state : State) (spelling : Spelling) → is_sending state ≡ false → level_in state spelling ≡ level_of state
+own_level (Sending start place) spelling no_send = absurd (cc no_send)
+own_level state spelling no_send = refl
+
+-- a node that neither reads nor sends one before this bit
+pub other_advances : (state : State) (old new : Reader) (spelling : Spelling) (now : ℕ) (errors : ErrorState) (level : Bool) (turn : Turn) → is_sending state ≡ false → Goes state now errors level turn →
+    (is_taking turn.state ≡ true → ReaderStandsAfter new (false ∷ [])) → (is_taking turn.state ≡ true → IsReading new) → Advances state old spelling now errors level turn new
+other_advances state old new spelling now errors level turn no_send goes stands reading text at before phase part events clock err agrees holds reads =
+    let lands = goes text at before phase part events clock err agrees in
+    let own = sym (own_level state spelling no_send) in
+    record {
+      after = false ∷ [];
+      lands = subst (λ d. Lands turn.state turn.outcome (false ∷ []) at before phase (part ++ record { driven = d; sampled = level } ∷ []) (events ++ listed turn.event)) own lands;
+      reads = record { stands = stands; reading = reading; follows = λ is. absurd (cc (is, no_send_behind state turn.state text (false ∷ []) at before phase part _ events _ turn.outcome no_send agrees lands)) };
+    }
 
 -- either the counts are not those of bus off, or the node is in bus off
 on_or_off : (phase : Phase) (events : List ErrorEvent) → IsOnOutside phase events → AreOn events ⊎ (phase ≡ BusOff)
@@ -81,18 +106,18 @@ agrees_off : {state : State} {text : List Bool} {at : ℕ} {pairs : List Pair} {
 agrees_off (in_off rest broken below counted b short) = refl
 
 -- a bit that counts nothing
-quiet_bit : (old new : State) (text after : List Bool) (past : Past) (pair : Pair) (outcome : Outcome) (st : InState old text past) →
+quiet_bit : (old new : State) (spelling : Spelling) (text after : List Bool) (past : Past) (pair : Pair) (outcome : Outcome) (st : InState old spelling text past) →
     Lands new outcome after (st.done.first + length st.done.pairs) st.done.events st.phase (st.part ++ pair ∷ []) (st.counting ++ []) →
-    InState new after (with_bit past pair None outcome)
-quiet_bit old new text after past pair outcome st (goes_on agrees nothing) =
+    InState new spelling after (with_bit past pair None outcome)
+quiet_bit old new spelling text after past pair outcome st (goes_on agrees nothing) =
     let same : st.done.events ++ st.counting ≡ st.done.events ++ (st.counting ++ []) = ap (λ es. st.done.events ++ es) (sym (append-nil st.counting)) in
-    subst (λ o. InState new after (with_bit past pair None o)) (sym nothing)
-    (stands_on old new text after past pair None st agrees (subst (IsOnOutside st.phase) same st.on))
-quiet_bit old new text after past pair outcome st (is_over next course agrees) = elim (on_or_off st.phase (st.done.events ++ st.counting) st.on) [
+    subst (λ o. InState new spelling after (with_bit past pair None o)) (sym nothing)
+    (stands_on old new spelling text after past pair None st agrees (subst (IsOnOutside st.phase) same st.on))
+quiet_bit old new spelling text after past pair outcome st (is_over next course agrees) = elim (on_or_off st.phase (st.done.events ++ st.counting) st.on) [
   | inl on ↦
       let same : st.done.events ++ st.counting ≡ st.done.events ++ (st.counting ++ []) = ap (λ es. st.done.events ++ es) (sym (append-nil st.counting)) in
       let still : AreOn (st.done.events ++ (st.counting ++ [])) = subst AreOn same on in
-      stands_over old new text after past pair None outcome next st (ends course still) agrees (outside next _ still)
+      stands_over old new spelling text after past pair None outcome next st (course_quiet course) (ends course still) agrees (outside next _ still)
   | inr off ↦
       let at = st.done.first + length st.done.pairs in
       let nothing : st.counting ≡ [] = agrees_off (subst (λ p. Agrees old text at p st.part st.counting) off st.agrees) in
@@ -101,18 +126,18 @@ quiet_bit old new text after past pair outcome st (is_over next course agrees) =
       absurd (omega (arith, no_length, ap length one))
 ]
 
-so_far : (old : State) (text : List Bool) (past : Past) (st : InState old text past) (event : ErrorEvent) →
+so_far : (old : State) (spelling : Spelling) (text : List Bool) (past : Past) (st : InState old spelling text past) (event : ErrorEvent) →
     past.events ++ event ∷ [] ≡ (st.done.events ++ st.counting) ++ event ∷ []
-so_far old text past st event = ap (λ p. p.events ++ event ∷ []) st.past_is
+so_far old spelling text past st event = ap (λ p. p.events ++ event ∷ []) st.past_is
 
 -- a bit that does not lead to bus off
-bit_on : (old new : State) (text after : List Bool) (past : Past) (pair : Pair) (event : Option ErrorEvent) (outcome : Outcome) (st : InState old text past) →
+bit_on : (old new : State) (spelling : Spelling) (text after : List Bool) (past : Past) (pair : Pair) (event : Option ErrorEvent) (outcome : Outcome) (st : InState old spelling text past) →
     Lands new outcome after (st.done.first + length st.done.pairs) st.done.events st.phase (st.part ++ pair ∷ []) (st.counting ++ listed event) →
-    LeadsTo past.events event false → InState new after (with_bit past pair event outcome)
-bit_on old new text after past pair event outcome st lands no_event = quiet_bit old new text after past pair outcome st lands
-bit_on old new text after past pair event outcome st lands (stays_on counted on) =
-    lands_on old new text after past pair (Some counted) outcome st lands
-    (subst AreOn (so_far old text past st counted ∙ append_assoc st.done.events st.counting (counted ∷ [])) on)
+    LeadsTo past.events event false → InState new spelling after (with_bit past pair event outcome)
+bit_on old new spelling text after past pair event outcome st lands no_event = quiet_bit old new spelling text after past pair outcome st lands
+bit_on old new spelling text after past pair event outcome st lands (stays_on counted on) =
+    lands_on old new spelling text after past pair (Some counted) outcome st lands
+    (subst AreOn (so_far old spelling text past st counted ∙ append_assoc st.done.events st.counting (counted ∷ [])) on)
 
 -- behind the recovery both counts are 0
 recovered_on : (events : List ErrorEvent) → AreOff (events ++ Recovered ∷ []) → ⊥
@@ -122,25 +147,25 @@ recovered_on events off =
     cc
 
 -- no event of bus off leads to bus off
-not_again : (old new : State) (text after : List Bool) (past : Past) (pair : Pair) (event : ErrorEvent) (outcome : Outcome) (st : InState old text past) →
+not_again : (old new : State) (spelling : Spelling) (text after : List Bool) (past : Past) (pair : Pair) (event : ErrorEvent) (outcome : Outcome) (st : InState old spelling text past) →
     Lands new outcome after (st.done.first + length st.done.pairs) st.done.events st.phase (st.part ++ pair ∷ []) (st.counting ++ event ∷ []) →
     AreOff ((st.done.events ++ st.counting) ++ event ∷ []) → st.phase ≡ BusOff → ⊥
-not_again old new text after past pair event outcome st (goes_on agrees nothing) counts off =
+not_again old new spelling text after past pair event outcome st (goes_on agrees nothing) counts off =
     let nothing = agrees_off (subst (λ p. Agrees new after (st.done.first + length st.done.pairs) p (st.part ++ pair ∷ []) (st.counting ++ event ∷ [])) off agrees) in
     omega (arith, ap length nothing, length-append st.counting (event ∷ []))
-not_again old new text after past pair event outcome st (is_over next course agrees) counts off =
+not_again old new spelling text after past pair event outcome st (is_over next course agrees) counts off =
     let one = course_off (subst (λ p. Course (st.done.first + length st.done.pairs) st.done.events p (st.part ++ pair ∷ []) (st.counting ++ event ∷ []) outcome next) off course) in
     recovered_on st.done.events (subst AreOff (append_assoc st.done.events st.counting (event ∷ []) ∙ ap (λ es. st.done.events ++ es) one) counts)
 
 -- a bit that leads to bus off
-bit_off : (old new : State) (text after : List Bool) (past : Past) (pair : Pair) (event : Option ErrorEvent) (outcome : Outcome) (st : InState old text past) →
+bit_off : (old new : State) (spelling : Spelling) (text after : List Bool) (past : Past) (pair : Pair) (event : Option ErrorEvent) (outcome : Outcome) (st : InState old spelling text past) →
     Lands new outcome after (st.done.first + length st.done.pairs) st.done.events st.phase (st.part ++ pair ∷ []) (st.counting ++ listed event) →
-    LeadsTo past.events event true → InState (Recovering 0 0) after (with_bit past pair event WentOff)
-bit_off old new text after past pair event outcome st lands (goes_off counted off) =
-    let counts : AreOff ((st.done.events ++ st.counting) ++ counted ∷ []) = subst AreOff (so_far old text past st counted) off in
+    LeadsTo past.events event true → InState (Recovering 0 0) spelling after (with_bit past pair event WentOff)
+bit_off old new spelling text after past pair event outcome st lands (goes_off counted off) =
+    let counts : AreOff ((st.done.events ++ st.counting) ++ counted ∷ []) = subst AreOff (so_far old spelling text past st counted) off in
     elim (on_or_off st.phase (st.done.events ++ st.counting) st.on) [
-      | inl on ↦ lands_off old new text after past pair counted outcome st lands on counts
-      | inr is ↦ absurd (not_again old new text after past pair counted outcome st lands counts is)
+      | inl on ↦ lands_off old new spelling text after past pair counted outcome st lands on counts
+      | inr is ↦ absurd (not_again old new spelling text after past pair counted outcome st lands counts is)
     ]
 
 -- the number of a bit that is still to come is that of the episode and of its bits
@@ -159,18 +184,19 @@ errors_here : (node : Node) (past : Past) (errors : ErrorState) (h : StandsAfter
 errors_here node past errors h shows = shows past.events h.counted ∙ ap (λ p. state_after p.events) h.in_state.past_is
 
 pub samples_on : (old new : Node) (level : Bool) (turn : Turn) (errors : ErrorState) → ((events : List ErrorEvent) → CountersStandAfter old.counters events → errors ≡ state_after events) →
-    Advances old.state old.reader old.clock errors level turn new.reader → ((events : List ErrorEvent) → Counts old.counters new.counters turn.event false events) →
-    new.state ≡ turn.state → new.clock ≡ old.clock + 1 → IsSample old level turn.outcome new
-samples_on old new level turn errors shows advances counts state_is clock_is = record {
+    Advances old.state old.reader old.spelling old.clock errors level turn new.reader → ((events : List ErrorEvent) → Counts old.counters new.counters turn.event false events) →
+    new.state ≡ turn.state → new.spelling ≡ old.spelling → new.clock ≡ old.clock + 1 → IsSample old level turn.outcome new
+samples_on old new level turn errors shows advances counts state_is same clock_is = record {
   event = turn.event;
   stands = λ past h.
       let st = h.in_state in
-      let pair = pair_of old.state level in
-      let left = advances h.text (st.done.first + length st.done.pairs) st.done.events st.phase st.part st.counting (clock_here old past h) (errors_here old past errors h shows) st.agrees h.reads in
+      let pair : Pair = record { driven = level_in old.state old.spelling; sampled = level } in
+      let left = advances h.text (st.done.first + length st.done.pairs) st.done.events st.phase st.part st.counting (clock_here old past h) (errors_here old past errors h shows) st.agrees st.holds h.reads in
       record {
         text = left.after;
-        in_state = subst (λ s. InState s left.after (with_bit past pair turn.event turn.outcome)) (sym state_is)
-            (bit_on old.state turn.state h.text left.after past pair turn.event turn.outcome st left.lands ((counts past.events).leads h.counted));
+        in_state = subst (λ s. InState s new.spelling left.after (with_bit past pair turn.event turn.outcome)) (sym state_is)
+            (subst (λ s. InState turn.state s left.after (with_bit past pair turn.event turn.outcome)) (sym same)
+            (bit_on old.state turn.state old.spelling h.text left.after past pair turn.event turn.outcome st left.lands ((counts past.events).leads h.counted)));
         reads = subst (λ s. ReaderStands s new.reader left.after) (sym state_is) left.reads;
         clock_is = clock_is ∙ clock_next old past pair h;
         counted = (counts past.events).stands h.counted;
@@ -178,19 +204,20 @@ samples_on old new level turn errors shows advances counts state_is clock_is = r
 }
 
 pub samples_off : (old new : Node) (level : Bool) (turn : Turn) (errors : ErrorState) → ((events : List ErrorEvent) → CountersStandAfter old.counters events → errors ≡ state_after events) →
-    Advances old.state old.reader old.clock errors level turn new.reader → ((events : List ErrorEvent) → Counts old.counters new.counters turn.event true events) →
-    new.state ≡ Recovering 0 0 → new.clock ≡ old.clock + 1 → IsSample old level WentOff new
-samples_off old new level turn errors shows advances counts state_is clock_is = record {
+    Advances old.state old.reader old.spelling old.clock errors level turn new.reader → ((events : List ErrorEvent) → Counts old.counters new.counters turn.event true events) →
+    new.state ≡ Recovering 0 0 → new.spelling ≡ old.spelling → new.clock ≡ old.clock + 1 → IsSample old level WentOff new
+samples_off old new level turn errors shows advances counts state_is same clock_is = record {
   event = turn.event;
   stands = λ past h.
       let st = h.in_state in
-      let pair = pair_of old.state level in
-      let left = advances h.text (st.done.first + length st.done.pairs) st.done.events st.phase st.part st.counting (clock_here old past h) (errors_here old past errors h shows) st.agrees h.reads in
+      let pair : Pair = record { driven = level_in old.state old.spelling; sampled = level } in
+      let left = advances h.text (st.done.first + length st.done.pairs) st.done.events st.phase st.part st.counting (clock_here old past h) (errors_here old past errors h shows) st.agrees st.holds h.reads in
       record {
         text = left.after;
-        in_state = subst (λ s. InState s left.after (with_bit past pair turn.event WentOff)) (sym state_is)
-            (bit_off old.state turn.state h.text left.after past pair turn.event turn.outcome st left.lands ((counts past.events).leads h.counted));
-        reads = subst (λ s. ReaderStands s new.reader left.after) (sym state_is) (record { stands = λ is. absurd (cc is); reading = λ is. absurd (cc is) });
+        in_state = subst (λ s. InState s new.spelling left.after (with_bit past pair turn.event WentOff)) (sym state_is)
+            (subst (λ s. InState (Recovering 0 0) s left.after (with_bit past pair turn.event WentOff)) (sym same)
+            (bit_off old.state turn.state old.spelling h.text left.after past pair turn.event turn.outcome st left.lands ((counts past.events).leads h.counted)));
+        reads = subst (λ s. ReaderStands s new.reader left.after) (sym state_is) (record { stands = λ is. absurd (cc is); reading = λ is. absurd (cc is); follows = λ is. absurd (cc is) });
         clock_is = clock_is ∙ clock_next old past pair h;
         counted = (counts past.events).stands h.counted;
       };
@@ -207,17 +234,18 @@ sof_reading old new step stands reading push =
 pub new_stands : (node : Node) → node.state ≡ Syncing 0 → CountersStandAfter node.counters [] → StandsAfter node (no_past node.clock)
 new_stands node state_is counted = record {
   text = [];
-  in_state = subst (λ s. InState s [] (no_past node.clock)) (sym state_is) (record {
+  in_state = subst (λ s. InState s node.spelling [] (no_past node.clock)) (sym state_is) (record {
     done = no_past node.clock;
     phase = Sync;
     part = [];
     counting = [];
     whole = switched_on node.clock;
     agrees = in_sync {n = 0} [] none (omega arith);
+    holds = tt;
     on = refl;
     past_is = refl;
   });
-  reads = subst (λ s. ReaderStands s node.reader []) (sym state_is) (record { stands = λ is. absurd (cc is); reading = λ is. absurd (cc is) });
+  reads = subst (λ s. ReaderStands s node.reader []) (sym state_is) (record { stands = λ is. absurd (cc is); reading = λ is. absurd (cc is); follows = λ is. absurd (cc is) });
   clock_is = omega arith;
   counted = counted;
 }
@@ -226,7 +254,8 @@ new_stands node state_is counted = record {
 wants_by : {state : State} {text : List Bool} {at : ℕ} {phase : Phase} {part : List Pair} {events : List ErrorEvent} → Agrees state text at phase part events → may_start state ≡ wants_start phase part
 wants_by (in_sync broken b below) = refl
 wants_by (in_idle n) = refl
-wants_by (in_take given levels may_begin pairs events is on reads may place) = may
+wants_by (in_take given levels may_begin pairs events is on reads may sof place) = may
+wants_by (in_send given frame before seen driven expected is bit place) = refl
 wants_by in_last = refl
 wants_by (in_active levels size below runs few) = refl
 wants_by (in_overload levels size below runs few) = refl
@@ -246,7 +275,7 @@ wanting node wants e past h =
     }
 
 pub stands_history : (node : Node) (past : Past) → StandsAfter node past → IsHistory past
-stands_history node past h = in_state_history node.state h.text past h.in_state
+stands_history node past h = in_state_history node.state node.spelling h.text past h.in_state
 
 -- one event is counted, or none
 pub counts_none : (counters : Counters) (event : Option ErrorEvent) → event ≡ None → (events : List ErrorEvent) → Counts counters counters event false events

@@ -28,7 +28,7 @@ use Rattle.can_node.specs.Phases.{Phase, flag_of, wants_start}
 use Rattle.can_node.specs.Phases.Phase.{Take, LastBit}
 use Rattle.can_node.specs.Episodes.Course.{took, spoiled}
 use Rattle.can_node.specs.Machine.{Agrees, IsAt, is_own_slot, is_taking, pair_of, GoesReading}
-use Rattle.can_node.specs.Machine.Agrees.{in_sync, in_idle, in_take, in_last, in_active, in_overload, in_passive, in_wait, in_delimiter, in_rest, in_suspend, in_off}
+use Rattle.can_node.specs.Machine.Agrees.{in_sync, in_idle, in_take, in_send, in_last, in_active, in_overload, in_passive, in_wait, in_delimiter, in_rest, in_suspend, in_off}
 use Rattle.can_node.specs.Machine.Lands.{goes_on, is_over}
 use Rattle.can_node.proofs.Moves.{turn}
 use Rattle.can_node.proofs.Places.{body_tail, elsewhere, own_slot, quiet, part_no_slot, body_no_slot, front_no_slot, slot_fault, reads_more, reads_slot, region_tail, delimiter_tail, slot_dominant, later_tail}
@@ -46,22 +46,22 @@ read_on reader text stands reading begins = record { begins = begins; undecided 
 on_quiet : {start at : ℕ} {may : Bool} {stage next : Stage} {text : List Bool} {phase : Phase} {part : List Pair} {events : List ErrorEvent} (level : Bool) →
     Agrees (Taking start may stage) text at phase part events → (IsBeforeSlot text → ⊥) → IsReadOn (text ++ level ∷ []) → IsAt next (text ++ level ∷ []) →
     Agrees (Taking start false next) (text ++ level ∷ []) at phase (part ++ pair_of (Taking start may stage) level ∷ []) events
-on_quiet {start = start} {at = at} {stage = stage} {next = next} {text = text} level (in_take given levels may_begin pairs events is on reads may place) never new_on new_place =
+on_quiet {start = start} {at = at} {stage = stage} {next = next} {text = text} level (in_take given levels may_begin pairs events is on reads may sof place) never new_on new_place =
     subst (λ b. Agrees (Taking start false next) (text ++ level ∷ []) at (Take start given may_begin) (pairs ++ record { driven = not b; sampled = level } ∷ []) events) (sym (quiet stage text place never))
     (in_take given (levels ++ level ∷ []) may_begin (pairs ++ record { driven = true; sampled = level } ∷ []) events (ap (λ t. t ++ level ∷ []) is ∙ append_assoc given levels (level ∷ [])) new_on
     (reads_more level reads (λ slot. never (subst IsBeforeSlot (sym is) slot)))
-    (sym (no_start start given may_begin pairs (record { driven = true; sampled = level }))) new_place)
+    (sym (no_start start given may_begin pairs (record { driven = true; sampled = level }))) sof new_place)
 
 -- it goes on with that of the own ACK slot
 on_slot : {start at : ℕ} {may : Bool} {next : Stage} {text : List Bool} {phase : Phase} {part : List Pair} {events : List ErrorEvent} (level : Bool) →
     Agrees (Taking start may (Slot true)) text at phase part events → IsBeforeSlot text → IsReadOn (text ++ level ∷ []) → IsAt next (text ++ level ∷ []) →
     Agrees (Taking start false next) (text ++ level ∷ []) at phase (part ++ record { driven = false; sampled = level } ∷ []) (events ++ acknowledged level)
-on_slot {start = start} level (in_take given levels may_begin pairs events is on reads may place) slot new_on new_place =
+on_slot {start = start} level (in_take given levels may_begin pairs events is on reads may sof place) slot new_on new_place =
     in_take given (levels ++ level ∷ []) may_begin (pairs ++ record { driven = false; sampled = level } ∷ []) (events ++ acknowledged level) (ap (λ t. t ++ level ∷ []) is ∙ append_assoc given levels (level ∷ [])) new_on
-    (reads_slot level reads (subst IsBeforeSlot is slot)) (sym (no_start start given may_begin pairs (record { driven = false; sampled = level }))) new_place
+    (reads_slot level reads (subst IsBeforeSlot is slot)) (sym (no_start start given may_begin pairs (record { driven = false; sampled = level }))) sof new_place
 
 place_of : {start at : ℕ} {may : Bool} {stage : Stage} {text : List Bool} {phase : Phase} {part : List Pair} {events : List ErrorEvent} → Agrees (Taking start may stage) text at phase part events → IsAt stage text
-place_of (in_take given levels may_begin pairs events is on reads may place) = place
+place_of (in_take given levels may_begin pairs events is on reads may sof place) = place
 
 pub take_more : (start : ℕ) (may : Bool) (stage : Stage) (e : ErrorState) (level : Bool) → GoesReading (Taking start may stage) e answer.More level (turn (Taking start false Region) None)
 take_more start may stage e level reader text at before phase part events err agrees h =
@@ -116,7 +116,7 @@ tail_never start may e level reader text at before phase part events err agrees 
 
 pub take_taken : (start : ℕ) (may : Bool) (stage : Stage) (e : ErrorState) (level : Bool) (f : FrameValue) →
     GoesReading (Taking start may stage) e (answer.Taken f) level (record { state = Closing; event = None; outcome = Took start f })
-take_taken start may stage e level f reader text at before phase part events err (in_take given levels may_begin pairs counted is on reads wants place) h =
+take_taken start may stage e level f reader text at before phase part events err (in_take given levels may_begin pairs counted is on reads wants sof place) h =
     let never = front_no_slot f text level h.answer in
     let whole : text ++ level ∷ [] ≡ given ++ (levels ++ level ∷ []) = ap (λ t. t ++ level ∷ []) is ∙ append_assoc given levels (level ∷ []) in (
       is_over LastBit (rw (append-nil, quiet stage text place never)
@@ -145,7 +145,8 @@ take_phase : {state : State} {text : List Bool} {at : ℕ} {phase : Phase} {part
 unfolding is_take
 take_phase (in_sync broken b below) = refl
 take_phase (in_idle n) = refl
-take_phase (in_take given levels may_begin pairs events is on reads may place) = refl
+take_phase (in_take given levels may_begin pairs events is on reads may sof place) = refl
+take_phase (in_send given frame before seen driven expected is bit place) = refl
 take_phase in_last = refl
 take_phase (in_active levels size below runs few) = refl
 take_phase (in_overload levels size below runs few) = refl
@@ -168,7 +169,7 @@ flag_reads_nothing e flag begins = take_phase (begins [] 0) ∙ flag_no_take e
 pub take_fault : (start : ℕ) (may : Bool) (stage : Stage) (e : ErrorState) (level : Bool) (kind : FaultKind) (flag : State) →
     ((text : List Bool) (later : ℕ) → Agrees flag text later (flag_of e [] Receiver) [] []) →
     GoesReading (Taking start may stage) e (answer.Fault kind) level (record { state = flag; event = Some ReceiverError; outcome = Errored (name_of kind) })
-take_fault start may stage e level kind flag begins reader text at before phase part events err (in_take given levels may_begin pairs counted is on reads wants place) h = (
+take_fault start may stage e level kind flag begins reader text at before phase part events err (in_take given levels may_begin pairs counted is on reads wants sof place) h = (
   is_over (flag_of (state_after (before ++ counted)) [] Receiver)
       (spoiled start given may_begin levels level (pairs ++ pair_of (Taking start may stage) level ∷ []) counted kind
       (fault_reads kind given levels text pairs counted stage level (is_own_slot stage) refl is reads place (slot_fault kind text level h.answer))

@@ -70,8 +70,9 @@ pub data Begun : Phase → List Pair → List ErrorEvent → Type 0 where
   recovering : (runs : ℕ) (text broken : List Bool) (n : ℕ) → runs < 128 → Recoveries runs text → Broken broken → n < 11 →
       Begun BusOff (listening (text ++ broken ++ recessive n)) []
 
--- A whole episode, from the bit `at` on and after these events before it: its pairs, its events, what its last
--- bit brings to an end, and the next phase. Bus off is left to `Episode`, below.
+-- A whole episode that ends with a bit, from the bit `at` on and after these events before it: its pairs, its
+-- events, what its last bit brings to an end, and the next phase. That the node begins to send, and bus off, are
+-- left to `Episode`, below.
 pub data Course : (at : ℕ) (before : List ErrorEvent) → Phase → List Pair → List ErrorEvent → Outcome → Phase → Type 0 where
   -- eleven recessive levels in a row, for the first time
   synced : {at : ℕ} {before : List ErrorEvent} (broken : List Bool) → Broken broken →
@@ -79,12 +80,6 @@ pub data Course : (at : ℕ) (before : List ErrorEvent) → Phase → List Pair 
   -- idle: a dominant level is the SOF of a frame that is read
   woken : {at : ℕ} {before : List ErrorEvent} (n : ℕ) →
       Course at before Idle (listening (recessive n ++ false ∷ [])) [] Nothing (Take (at + n) (false ∷ []) false)
-  -- or the node begins to send
-  begun : {at : ℕ} {before : List ErrorEvent} (n : ℕ) (frame : FrameValue) → IsFrameValue frame →
-      Course at before Idle (listening (recessive n)) [] Nothing (Send (at + n) [] frame)
-  -- it does so too behind a dominant third bit of intermission, which is its SOF
-  joined : {at : ℕ} {before : List ErrorEvent} (start : ℕ) (given : List Bool) (frame : FrameValue) → IsFrameValue frame →
-      Course at before (Take start given true) [] [] Nothing (Send start given frame)
   -- sending: the whole spelling, acknowledged; it is valid for the sender at the last bit of EOF
   completed : {at : ℕ} {before : List ErrorEvent} (start : ℕ) (given : List Bool) (frame : FrameValue) (driven sampled : List Bool) →
       IsSend frame given driven sampled →
@@ -174,9 +169,16 @@ AreOff events = is_off (counts_after events) ≡ true
 abbrev pub AreOn : List ErrorEvent → Type 0
 AreOn events = is_off (counts_after events) ≡ false
 
--- A whole episode. It runs its course; or the event of one of its bits brings TEC to 256, and that bit ends
--- it in bus off, whether it goes on otherwise or its course ends there. No flag is sent then.
+-- A whole episode. The node begins to send, behind the bits that it waited; or the episode runs its course; or
+-- the event of one of its bits brings TEC to 256, and that bit ends it in bus off, whether it goes on otherwise
+-- or its course ends there. No flag is sent then.
 pub data Episode : (at : ℕ) (before : List ErrorEvent) → Phase → List Pair → List ErrorEvent → Outcome → Phase → Type 0 where
+  -- idle: the node begins to send
+  begun : {at : ℕ} {before : List ErrorEvent} (n : ℕ) (frame : FrameValue) → IsFrameValue frame → AreOn before →
+      Episode at before Idle (listening (recessive n)) [] Nothing (Send (at + n) [] frame)
+  -- it does so too behind a dominant third bit of intermission, which is its SOF
+  joined : {at : ℕ} {before : List ErrorEvent} (start : ℕ) (given : List Bool) (frame : FrameValue) → IsFrameValue frame → AreOn before →
+      Episode at before (Take start given true) [] [] Nothing (Send start given frame)
   ends : {at : ℕ} {before : List ErrorEvent} {phase next : Phase} {pairs : List Pair} {events : List ErrorEvent} {outcome : Outcome} →
       Course at before phase pairs events outcome next → AreOn (before ++ events) →
       Episode at before phase pairs events outcome next

@@ -8,5 +8,6 @@ pub mod Waits
 pub mod Phases
 pub mod Episodes
 pub mod Histories
+pub mod Sending
 pub mod Machine
 pub mod Node

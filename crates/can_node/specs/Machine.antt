@@ -14,21 +14,25 @@ use Rattle.can_node.specs.declared.confinement.ErrorState.{ErrorState}
 use Rattle.can_node.specs.declared.flag.FlagKind.{FlagKind}
 use Rattle.can_node.specs.declared.flag.FlagKind.TheVariants.{ActiveError, Overload}
 use Rattle.can_node.specs.declared.outcome.Outcome.{Outcome}
-use Rattle.can_node.specs.declared.outcome.Outcome.TheVariants.{Nothing}
+use Rattle.can_node.specs.declared.outcome.ErrorKind.{ErrorKind}
+use Rattle.can_node.specs.declared.outcome.Outcome.TheVariants.{Nothing, Errored}
 use Rattle.can_node.specs.declared.state.State.{State}
-use Rattle.can_node.specs.declared.state.State.TheVariants.{Syncing, Idling, Taking, Closing, Flagging, PassiveFlagging, Waiting, Delimiting, Resting, Suspending, Recovering}
+use Rattle.can_node.specs.declared.state.State.TheVariants.{Syncing, Idling, Taking, Closing, Flagging, PassiveFlagging, Waiting, Delimiting, Resting, Suspending, Recovering, Sending}
 use Rattle.can_node.specs.declared.state.Stage.{Stage}
 use Rattle.can_node.specs.declared.state.Stage.TheVariants.{Region, AfterRegion, Slot, AfterSlot}
 use Rattle.can_node.specs.declared.state.Turn.{Turn}
+use Rattle.can_node.specs.declared.spelling.Spelling.{Spelling}
 use Rattle.can_node.specs.declared.counters.Counters.{Counters}
 use Rattle.can_node.specs.Counters.{StandsAfter}
 use Rattle.can_node.specs.Confinement.{state_after}
-use Rattle.can_node.specs.Pairs.{Pair, listening, dominating, recessive, dominant}
+use Rattle.can_node.specs.Pairs.{Pair, listening, dominating, driving, recessive, dominant}
+use Rattle.can_node.specs.Sends.{IsSendBit}
+use Rattle.can_node.specs.Sending.{Holds, level_at}
 use Rattle.can_node.specs.Takes.{IsReadOn, Reads}
 use Rattle.can_node.specs.Flags.{IsWithoutSix, owed_events, flag_bits, dominant_end, dominant_events, first_counted}
 use Rattle.can_node.specs.Waits.{Broken, Recoveries}
 use Rattle.can_node.specs.Phases.{Phase, wants_start}
-use Rattle.can_node.specs.Phases.Phase.{Sync, Idle, Take, LastBit, ActiveFlag, OverloadFlag, PassiveFlag, Delimiter, Intermission, Suspend, BusOff}
+use Rattle.can_node.specs.Phases.Phase.{Sync, Idle, Send, Take, LastBit, ActiveFlag, OverloadFlag, PassiveFlag, Delimiter, Intermission, Suspend, BusOff}
 use Rattle.can_node.specs.Episodes.{Course, AreOn, AreOff}
 use Rattle.can_node.specs.Histories.{Past, Whole, with_episode, IsOnOutside, noted}
 
@@ -72,8 +76,13 @@ pub data Agrees : State → (text : List Bool) → (at : ℕ) → Phase → List
   in_take : {text : List Bool} {at start : ℕ} {may_start : Bool} {stage : Stage} (given levels : List Bool) (may_begin : Bool) (pairs : List Pair) (events : List ErrorEvent) →
       text ≡ given ++ levels → IsReadOn text → Reads given levels pairs events →
       may_start ≡ wants_start (Take start given may_begin) pairs →
+      (may_begin ≡ true → given ≡ false ∷ []) →
       IsAt stage text →
       Agrees (Taking start may_start stage) text at (Take start given may_begin) pairs events
+  in_send : {text : List Bool} {at start place : ℕ} (given : List Bool) (frame : FrameValue) (before seen : List Bool) (driven expected : Bool) →
+      text ≡ given ++ seen → IsSendBit frame given before seen driven expected →
+      place ≡ length given + length before →
+      Agrees (Sending start place) text at (Send start given frame) (driving before seen) []
   in_last : {text : List Bool} {at : ℕ} →
       Agrees Closing text at LastBit [] []
   in_active : {text : List Bool} {at sent until : ℕ} {role : Role} (levels : List Bool) →
@@ -97,16 +106,26 @@ pub data Agrees : State → (text : List Bool) → (at : ℕ) → Phase → List
   in_off : {text : List Bool} {at runs n : ℕ} (rest broken : List Bool) → runs < 128 → Recoveries runs rest → Broken broken → n < 11 →
       Agrees (Recovering runs n) text at BusOff (listening (rest ++ broken ++ recessive n)) []
 
--- the level that a node in this state drives
+-- the level that a node in this state drives, if it sends no frame
 abbrev pub level_of : State → Bool
 level_of (Flagging kind role sent until) = false
 level_of (Taking start may_start stage) = not (is_own_slot stage)
 level_of state = true
 
+-- the level that it drives, if it holds this spelling
+abbrev pub level_in : State → Spelling → Bool
+level_in (Sending start place) spelling = level_at spelling place
+level_in state spelling = level_of state
+
 -- a node in this state reads a frame
 abbrev pub is_taking : State → Bool
 is_taking (Taking start may_start stage) = true
 is_taking state = false
+
+-- a node in this state sends a frame
+abbrev pub is_sending : State → Bool
+is_sending (Sending start place) = true
+is_sending state = false
 
 -- a node in this state may begin to send a frame at the next bit
 abbrev pub may_start : State → Bool
@@ -114,10 +133,12 @@ may_start Idling = true
 may_start (Taking start may_begin stage) = may_begin
 may_start state = false
 
--- if a node in this state reads a frame, its reader has read this text of it and reads on
+-- if a node in this state reads or sends a frame, its reader has read this text of it; and it reads on, if
+-- the node does
 pub record ReaderStands (state : State) (reader : Reader) (text : List Bool) : Type 0 where
   pub stands : is_taking state ≡ true → ReaderStandsAfter reader text
   pub reading : is_taking state ≡ true → IsReading reader
+  pub follows : is_sending state ≡ true → ReaderStandsAfter reader text
 
 -- what a node in this state makes of a bit at which it samples this level
 abbrev pub pair_of : State → Bool → Pair
@@ -152,19 +173,39 @@ GoesReading state errors step level turn =
     Lands turn.state turn.outcome (text ++ level ∷ []) at before phase (part ++ pair_of state level ∷ []) (events ++ listed turn.event)
     × (is_taking turn.state ≡ true → IsReading reader)
 
+-- a turn that signals an error with this flag, which is that of the state before it
+pub record Signals (turn : Turn) (flag : Phase) (event : Option ErrorEvent) (kind : ErrorKind) : Type 0 where
+  pub flags : (text : List Bool) (later : ℕ) → Agrees turn.state text later flag [] []
+  pub event_is : turn.event ≡ event
+  pub outcome_is : turn.outcome ≡ Errored kind
+
+-- A node that sends a frame, with this spelling and this error state, makes this turn of a bit at which it
+-- samples this level.
+abbrev pub GoesSending : ℕ → ℕ → Spelling → ErrorState → Bool → Turn → Type 0
+GoesSending start place spelling errors level turn =
+    (text : List Bool) (at : ℕ) (before : List ErrorEvent) (phase : Phase) (part : List Pair) (events : List ErrorEvent) →
+    errors ≡ state_after (before ++ events) → Agrees (Sending start place) text at phase part events → Holds phase spelling →
+    Lands turn.state turn.outcome (text ++ level ∷ []) at before phase
+    (part ++ record { driven = level_at spelling place; sampled = level } ∷ []) (events ++ listed turn.event)
+
 -- where a bit leaves the state and the reader
 pub record LandsWith (turn : Turn) (reader : Reader) (at : ℕ) (before : List ErrorEvent) (phase : Phase) (pairs : List Pair) (events : List ErrorEvent) : Type 0 where
   pub after : List Bool
   pub lands : Lands turn.state turn.outcome after at before phase pairs events
   pub reads : ReaderStands turn.state reader after
 
--- A node in this state and with this reader, at this bit and with this error state, that samples this level
+-- A node in this state, with this reader and this spelling, at this bit and with this error state, that samples this level
 -- makes this turn, and has this reader then.
-abbrev pub Advances : State → Reader → ℕ → ErrorState → Bool → Turn → Reader → Type 0
-Advances state old now errors level turn new =
+abbrev pub Advances : State → Reader → Spelling → ℕ → ErrorState → Bool → Turn → Reader → Type 0
+Advances state old spelling now errors level turn new =
     (text : List Bool) (at : ℕ) (before : List ErrorEvent) (phase : Phase) (part : List Pair) (events : List ErrorEvent) →
-    now ≡ at + length part → errors ≡ state_after (before ++ events) → Agrees state text at phase part events → ReaderStands state old text →
-    LandsWith turn new at before phase (part ++ pair_of state level ∷ []) (events ++ listed turn.event)
+    now ≡ at + length part → errors ≡ state_after (before ++ events) → Agrees state text at phase part events → Holds phase spelling → ReaderStands state old text →
+    LandsWith turn new at before phase (part ++ record { driven = level_in state spelling; sampled = level } ∷ []) (events ++ listed turn.event)
+
+-- A node in this state begins to send at this bit. If it has read SOF it goes on behind it, and its reader too.
+abbrev pub Begins : State → Reader → ℕ → State → Reader → Type 0
+Begins (Taking start may_begin stage) old now next new = (next ≡ Sending start 1) × (new ≡ old)
+Begins state old now next new = (next ≡ Sending now 0) × ReaderStandsAfter new []
 
 -- what an event leads to behind the events before it, and whether that is bus off
 pub data LeadsTo (events : List ErrorEvent) : Option ErrorEvent → Bool → Type 0 where
@@ -187,13 +228,14 @@ with_bit past pair event outcome = record {
   outcomes = past.outcomes ++ noted (past.first + length past.pairs) outcome;
 }
 
--- the state stands after this past: whole episodes, and one that it agrees with
-pub record InState (state : State) (text : List Bool) (past : Past) : Type 0 where
+-- the state and the spelling stand after this past: whole episodes, and one that they agree with
+pub record InState (state : State) (spelling : Spelling) (text : List Bool) (past : Past) : Type 0 where
   pub done : Past
   pub phase : Phase
   pub part : List Pair
   pub counting : List ErrorEvent
   pub whole : Whole done phase
   pub agrees : Agrees state text (done.first + length done.pairs) phase part counting
+  pub holds : Holds phase spelling
   pub on : IsOnOutside phase (done.events ++ counting)
   pub past_is : past ≡ with_episode done phase part counting Nothing

@@ -1,18 +1,19 @@
 -- What a node holds after what it has done since its first bit, and what a sampled bit does.
-use Rattle.std.specs.Prelude.{◌≡◌, ℕ, ◌+◌, Bool, Option, List, length}
+use Rattle.std.specs.Prelude.{◌≡◌, ℕ, ◌+◌, Bool, Option, List, [], ◌∷◌, ◌++◌, length}
+use Rattle.can_frame.specs.Frames.{FrameValue}
 use Rattle.can_node.specs.declared.confinement.ErrorEvent.{ErrorEvent}
 use Rattle.can_node.specs.declared.outcome.Outcome.{Outcome}
 use Rattle.can_node.specs.declared.node.Node.{Node}
 use Rattle.can_node.specs.Counters.{StandsAfter as CountersStandAfter}
 use Rattle.can_node.specs.Phases.{wants_start}
 use Rattle.can_node.specs.Histories.{Past, IsHistory}
-use Rattle.can_node.specs.Machine.{InState, ReaderStands, level_of, with_bit}
+use Rattle.can_node.specs.Machine.{InState, ReaderStands, level_in, may_start, with_bit}
 
 -- the node stands after this past: it may have done this, and nothing else, since it was switched on
 pub record StandsAfter (node : Node) (past : Past) : Type 0 where
-  -- what its reader has read, if it reads a frame
+  -- what its reader has read, if it reads or sends a frame
   pub text : List Bool
-  pub in_state : InState node.state text past
+  pub in_state : InState node.state node.spelling text past
   pub reads : ReaderStands node.state node.reader text
   pub clock_is : node.clock ≡ past.first + length past.pairs
   pub counted : CountersStandAfter node.counters past.events
@@ -23,7 +24,21 @@ bit_of node = node.clock
 
 -- the level that it drives at that bit
 abbrev pub driven_by : Node → Bool
-driven_by node = level_of node.state
+driven_by node = level_in node.state node.spelling
+
+-- whether it may begin to send at that bit
+abbrev pub may_begin : Node → Bool
+may_begin node = may_start node.state
+
+-- a past in which the node begins to send this frame at its next bit
+abbrev pub with_begin : Past → FrameValue → Past
+with_begin past frame = record {
+  first = past.first;
+  pairs = past.pairs;
+  events = past.events;
+  begun = past.begun ++ (past.first + length past.pairs, frame) ∷ [];
+  outcomes = past.outcomes;
+}
 
 -- What a bit does, whatever past the node stands after: it stands after that past and one more bit, at which
 -- it drove this level and sampled that one, counted an event or none, and told this outcome.

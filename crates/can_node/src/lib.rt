@@ -7,6 +7,8 @@ mod flag;
 mod machine;
 mod node;
 mod outcome;
+mod sends;
+mod spelling;
 mod state;
 mod takes;
 mod turns;

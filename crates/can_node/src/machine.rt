@@ -2,10 +2,21 @@
 
 ghost use Rattle.std.specs.Prelude.{◌≡◌, Bool, List, false, ◌∷◌, []};
 ghost use Rattle.can_frame.specs.Reading.{StandsAfter, IsReading};
-ghost use Rattle.can_node.specs.Machine.{Goes, Advances, Counts, is_taking, level_of, may_start};
+ghost use Rattle.can_node.specs.Machine.{
+  Goes,
+  Advances,
+  Begins,
+  Counts,
+  is_taking,
+  is_sending,
+  level_in,
+  may_start,
+};
 
 use crate::confinement::{ErrorEvent, ErrorState};
 use crate::counters::Counters;
+use crate::sends::after_sending;
+use crate::spelling::Spelling;
 use crate::state::{State, Turn};
 use crate::takes::after_taking;
 use crate::turns::{
@@ -14,11 +25,12 @@ use crate::turns::{
 };
 use can_frame::Reader;
 
-/// The level that a node in this state drives.
-pub(crate) fn level_of(state: State) -> bool
-    ensures { result ≡ level_of state }
+/// The level that a node drives in this state.
+pub(crate) fn level_in(state: State, spelling: &Spelling) -> bool
+    ensures { result ≡ level_in state spelling.now }
 {
     match state {
+        State::Sending(_, place) => spelling.level(place),
         State::Flagging(_, _, _, _) => false,
         State::Taking(_, _, stage) => !stage.is_own_slot(),
         _ => true,
@@ -43,15 +55,17 @@ fn is_taking(state: State) -> bool
     matches!(state, State::Taking(_, _, _))
 }
 
-/// What a level makes of a state that reads no frame.
+/// What a level makes of a state that neither reads nor sends a frame.
 fn turn_of(state: State, now: u64, errors: ErrorState, level: bool) -> Turn
-    ensures { is_taking state ≡ false → Goes state now errors level result }
+    ensures { is_taking state ≡ false → is_sending state ≡ false
+        → Goes state now errors level result }
 {
     match state {
         State::Syncing(ones) => after_sync(ones, now, errors, level),
         State::Idling => after_idle(now, errors, level),
-        // for its reader to say
+        // for its reader to say, and for its spelling
         State::Taking(_, _, _) => plain(state),
+        State::Sending(_, _) => plain(state),
         State::Closing => after_closing(now, errors, level),
         State::Flagging(kind, role, sent, until) => {
             after_flag(kind, role, sent, until, now, errors, level)
@@ -79,25 +93,43 @@ fn reader_after_sof() -> Reader
     reader
 }
 
-/// What a level makes of the state. If a frame is read, its reader is pushed that level.
+/// What a level makes of the state. If a frame is read or sent, its reader is pushed that level: a sender
+/// that loses arbitration reads on.
 pub(crate) fn advance(
     state: State,
     reader: &mut Reader,
+    spelling: &Spelling,
     now: u64,
     errors: ErrorState,
     level: bool,
 ) -> Turn
-    ensures { Advances state reader.old now errors level result reader.new }
+    ensures { Advances state reader.old spelling.now now errors level result reader.new }
 {
     if let State::Taking(start, _, stage) = state {
         let step = reader.push(level);
         return after_taking(start, stage, errors, step, level);
+    }
+    if let State::Sending(start, place) = state {
+        let _read = reader.push(level);
+        return after_sending(start, place, spelling, errors, level);
     }
     let turn = turn_of(state, now, errors, level);
     if is_taking(turn.state) {
         *reader = reader_after_sof();
     }
     turn
+}
+
+/// The state of a node that begins to send at this bit. If the third bit of intermission was dominant, SOF
+/// stands on the bus already, and the reader has read it.
+pub(crate) fn begin(state: State, reader: &mut Reader, now: u64) -> State
+    ensures { Begins state reader.old now result reader.new }
+{
+    if let State::Taking(start, _, _) = state {
+        return State::Sending(start, 1);
+    }
+    *reader = Reader::new();
+    State::Sending(now, 0)
 }
 
 /// Counts an event, if there is one, and tells whether it leads to bus off.

@@ -1,15 +1,24 @@
 //! A node of one segment.
 
-ghost use Rattle.std.specs.Prelude.{◌≡◌, ℕ, ◌+◌, ◌<◌};
+ghost use Rattle.std.specs.Prelude.{◌≡◌, ℕ, ◌+◌, ◌<◌, true};
 ghost use Rattle.can_node.specs.Counters.{StandsAfter as CountersStandAfter};
 ghost use Rattle.can_node.specs.Histories.{Past, no_past, IsHistory};
-ghost use Rattle.can_node.specs.Node.{StandsAfter, IsSample, IsWanting, bit_of, driven_by};
+ghost use Rattle.can_node.specs.Node.{
+  StandsAfter,
+  IsSample,
+  IsWanting,
+  bit_of,
+  driven_by,
+  may_begin,
+  with_begin,
+};
 
 use crate::counters::Counters;
-use crate::machine::{advance, count, level_of, may_start};
+use crate::machine::{advance, begin, count, level_in, may_start};
 use crate::outcome::Outcome;
+use crate::spelling::Spelling;
 use crate::state::State;
-use can_frame::Reader;
+use can_frame::{Frame, Reader};
 
 /// A node of classical CAN, bit by bit (Bosch CAN Specification 2.0, part B; ISO 11898-1). At each bit it
 /// drives a level, and then samples one, which may be any.
@@ -19,8 +28,10 @@ use can_frame::Reader;
 #[derive(Drop)]
 pub struct Node {
     state: State,
-    // of the frame that is read; without use else
+    // of the frame that is read or sent; without use else
     reader: Reader,
+    // of the frame that is sent; without use else
+    spelling: Spelling,
     counters: Counters,
     // the number of the next bit
     clock: u64,
@@ -35,6 +46,7 @@ impl Node {
         Node {
             state: State::Syncing(0),
             reader: Reader::new(),
+            spelling: Spelling::empty(),
             counters: Counters::new(),
             clock: from_bit,
         }
@@ -57,16 +69,31 @@ impl Node {
     /// Whether the node may begin to send at the next bit: it is idle, or has just sampled a dominant
     /// third bit of intermission and need not wait.
     pub fn wants_start(&self) -> bool
-        ensures { (past : Past) → StandsAfter self.now past → IsWanting past result }
+        ensures is { result ≡ may_begin self.now }
+        ensures wants { (past : Past) → StandsAfter self.now past → IsWanting past result }
     {
         may_start(self.state)
+    }
+
+    /// The node begins to send this frame at the next bit: with its SOF where the bus is idle, and with its
+    /// first identifier bit where the third bit of intermission was dominant, which is SOF then (Bosch CAN
+    /// Specification 2.0, part B, 3.2.5 INTERFRAME SPACING).
+    pub fn begin(&mut self, frame: Frame)
+        requires { may_begin self.old ≡ true }
+        ensures bit { bit_of self.new ≡ bit_of self.old }
+        ensures stands { (past : Past) → StandsAfter self.old past
+            → StandsAfter self.new (with_begin past frame) }
+        ensures history { (past : Past) → StandsAfter self.new past → IsHistory past }
+    {
+        self.spelling = Spelling::of(&frame);
+        self.state = begin(self.state, &mut self.reader, self.clock);
     }
 
     /// The level that the node drives at the next bit, true being recessive.
     pub fn drive(&self) -> bool
         ensures { result ≡ driven_by self.now }
     {
-        level_of(self.state)
+        level_in(self.state, &self.spelling)
     }
 
     /// The node samples this level, and has driven the one of `drive`. It tells what this bit brings to
@@ -78,7 +105,14 @@ impl Node {
         ensures history { (past : Past) → StandsAfter self.new past → IsHistory past }
     {
         let errors = self.counters.state();
-        let turn = advance(self.state, &mut self.reader, self.clock, errors, level);
+        let turn = advance(
+            self.state,
+            &mut self.reader,
+            &self.spelling,
+            self.clock,
+            errors,
+            level,
+        );
         let went_off = count(&mut self.counters, turn.event);
         self.clock += 1;
         if went_off {

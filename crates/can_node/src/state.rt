@@ -42,6 +42,8 @@ pub(crate) enum State {
     /// Reading a frame: the number of its SOF, whether the node may begin to send instead, and where the next
     /// level stands.
     Taking(u64, bool, Stage),
+    /// Sending a frame: the number of its SOF, and the place of the next level in its spelling.
+    Sending(u64, u8),
     /// At the last bit of EOF of a frame that was taken.
     Closing,
     /// In a flag that drives dominant: how many of its bits were sent, fewer than six, and how many more

@@ -1,0 +1,48 @@
+-- A frame as its sender drives it, and what a bit of it is. Private clauses cite it.
+use Rattle.std.specs.Prelude.{◌≡◌, ℕ, ◌≤◌, min, Bool, true, false, List, length, reverse, take, get_or}
+use Rattle.can_frame.specs.Frames.{FrameValue, IsFrameValue}
+use Rattle.can_frame.specs.Fields.{senders_choice}
+use Rattle.can_frame.specs.Stuffing.{five_equal, newest, unstuffed}
+use Rattle.can_frame.specs.StuffingSteps.{run_of}
+use Rattle.can_frame.specs.Spelling.{Spells}
+use Rattle.can_node.specs.Sends.{rtr_place}
+use Rattle.can_node.specs.Phases.{Phase}
+use Rattle.can_node.specs.Phases.Phase.{Send}
+use Rattle.can_node.specs.declared.spelling.Spelling.{Spelling}
+use Rattle.can_node.specs.declared.spelling.SendBit.{SendBit}
+use Rattle.can_node.specs.declared.spelling.SendBit.TheVariants.{Arbitration, ArbitrationStuffBit, Other}
+use Rattle.can_node.specs.declared.spelling.Tally.{Tally}
+
+-- the levels are those of this frame, and RTR has this place among them, stuff bits left out
+pub record IsSpelling (frame : FrameValue) (spelling : Spelling) : Type 0 where
+  pub is_frame : IsFrameValue frame
+  pub few : length spelling.levels.items ≤ 160
+  pub spells : Spells frame senders_choice true spelling.levels.items
+  pub rtr_is : spelling.rtr ≡ rtr_place frame.id
+
+-- a node that sends a frame holds its spelling
+abbrev pub Holds : Phase → Spelling → Type 0
+Holds (Send start given frame) spelling = IsSpelling frame spelling
+Holds phase spelling = Unit {0}
+
+-- the level in this place; behind the frame the bus is recessive
+abbrev pub level_at : Spelling → ℕ → Bool
+level_at spelling place = get_or spelling.levels.items place true
+
+-- how a text ends, newest level first: in how many equal levels, five or more counting as five, and in which
+-- level; and how many of its levels are no stuff bits, 255 or more counting as 255
+pub record Tallies (tally : Tally) (newest_first : List Bool) : Type 0 where
+  pub run_is : tally.run ≡ min (run_of newest_first) 5
+  pub last_is : tally.last ≡ newest newest_first
+  pub data_is : tally.data ≡ min (length (unstuffed newest_first)) 255
+
+-- what the bit behind a text is, which is given with its newest level first, where RTR has this place
+abbrev pub SaysBit : SendBit → List Bool → ℕ → Type 0
+SaysBit Arbitration text rtr = (five_equal text ≡ false) × (1 ≤ length (unstuffed text)) × (length (unstuffed text) ≤ rtr)
+SaysBit ArbitrationStuffBit text rtr = (five_equal text ≡ true) × (length (unstuffed text) ≤ rtr)
+SaysBit Other text rtr = (five_equal text ≡ false → 1 ≤ length (unstuffed text) → length (unstuffed text) ≤ rtr → ⊥)
+    × (five_equal text ≡ true → length (unstuffed text) ≤ rtr → ⊥)
+
+-- what the bit in this place of a spelling is
+abbrev pub IsBitAt : SendBit → Spelling → ℕ → Type 0
+IsBitAt bit spelling place = place ≤ length spelling.levels.items → spelling.rtr ≤ 32 → SaysBit bit (reverse (take place spelling.levels.items)) spelling.rtr

@@ -1,0 +1,109 @@
+//! What one sampled level makes of a node that sends a frame.
+
+ghost use Rattle.std.specs.Prelude.{◌≡◌, ◌+◌, ℕ, true, false, List, Bool, [], ◌∷◌, Some, length};
+ghost use Rattle.can_node.specs.Phases.{flag_of};
+ghost use Rattle.can_node.specs.Episodes.{ack_events};
+ghost use Rattle.can_node.specs.Sending.{IsBitAt, level_at};
+ghost use Rattle.can_node.specs.Machine.{Agrees, Signals, GoesSending, listed};
+ghost use Rattle.can_node.specs.declared.confinement.Role.TheVariants.{Sender};
+ghost use Rattle.can_node.specs.declared.confinement.ErrorEvent.TheVariants.{SenderError};
+ghost use Rattle.can_node.specs.declared.spelling.Spelling.{Spelling};
+
+use crate::confinement::{ErrorEvent, ErrorState, Role};
+use crate::flag::FlagKind;
+use crate::outcome::{ErrorKind, Outcome};
+use crate::spelling::{SendBit, Spelling};
+use crate::state::{Stage, State, Turn};
+use crate::turns::{error_flag, plain};
+
+/// Nobody acknowledged the frame. A node that is error passive owes the error until it samples a dominant
+/// level in its flag.
+fn unacknowledged(errors: ErrorState) -> Turn
+    ensures flags { (text : List Bool) (later : ℕ) → Agrees result.state text later (flag_of errors (SenderError ∷ []) Sender) [] [] }
+    ensures event { listed result.event ≡ ack_events errors }
+    ensures outcome { result.outcome ≡ Outcome.Errored ErrorKind.Ack }
+{
+    let outcome = Outcome::Errored(ErrorKind::Ack);
+    match errors {
+        ErrorState::Active => Turn {
+            state: State::Flagging(FlagKind::ActiveError, Role::Sender, 0, 14),
+            event: Some(ErrorEvent::SenderError),
+            outcome,
+        },
+        ErrorState::Passive => Turn {
+            state: State::PassiveFlagging(Role::Sender, true, 0, 0),
+            event: None,
+            outcome,
+        },
+        ErrorState::Off => Turn {
+            state: State::Recovering(0, 0),
+            event: None,
+            outcome,
+        },
+    }
+}
+
+/// The bit differs from the bus, and neither arbitration nor stuffing explains it.
+fn bit_error(errors: ErrorState) -> Turn
+    ensures { Signals result (flag_of errors [] Sender) (Some SenderError) ErrorKind.Bit }
+{
+    Turn {
+        state: error_flag(Role::Sender, errors),
+        event: Some(ErrorEvent::SenderError),
+        outcome: Outcome::Errored(ErrorKind::Bit),
+    }
+}
+
+/// A recessive bit is dominant on the bus.
+fn overruled(start: u64, bit: SendBit, errors: ErrorState) -> Turn
+    ensures { (place : ℕ) (spelling : Spelling) → IsBitAt bit spelling place → level_at spelling place ≡ true
+        → (place + 9 ≡ length spelling.levels.items → ⊥) → GoesSending start place spelling errors false result }
+{
+    match bit {
+        SendBit::Arbitration => Turn {
+            state: State::Taking(start, false, Stage::Region),
+            event: None,
+            outcome: Outcome::Lost,
+        },
+        SendBit::ArbitrationStuffBit => Turn {
+            state: error_flag(Role::Sender, errors),
+            event: None,
+            outcome: Outcome::Errored(ErrorKind::Stuff),
+        },
+        SendBit::Other => bit_error(errors),
+    }
+}
+
+/// Sending: the level on the bus is the one that the node drives, but in the ACK slot; the first other one
+/// ends it.
+pub(crate) fn after_sending(
+    start: u64,
+    place: u8,
+    spelling: &Spelling,
+    errors: ErrorState,
+    level: bool,
+) -> Turn
+    ensures { GoesSending start place spelling.now errors level result }
+{
+    if spelling.is_slot(place) {
+        if level {
+            return unacknowledged(errors);
+        }
+        return plain(State::Sending(start, place.saturating_add(1)));
+    }
+    let driven = spelling.level(place);
+    if level == driven {
+        if spelling.is_last(place) {
+            return Turn {
+                state: State::Resting(Role::Sender, 0),
+                event: Some(ErrorEvent::Sent),
+                outcome: Outcome::Completed,
+            };
+        }
+        return plain(State::Sending(start, place.saturating_add(1)));
+    }
+    if driven {
+        return overruled(start, spelling.bit(place), errors);
+    }
+    bit_error(errors)
+}

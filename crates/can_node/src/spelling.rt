@@ -1,0 +1,178 @@
+//! A frame as its sender drives it.
+
+ghost use Rattle.std.specs.Prelude.{◌≡◌, ◌≤◌, ◌+◌, ◌∷◌, List, Bool, true, false, length, reverse, min};
+ghost use Rattle.can_frame.specs.Stuffing.{newest};
+ghost use Rattle.can_frame.specs.StuffingSteps.{run_of};
+ghost use Rattle.can_node.specs.Sends.{rtr_place};
+ghost use Rattle.can_node.specs.Sending.{IsSpelling, IsBitAt, level_at, Tallies, SaysBit};
+
+use arrayvec::ArrayVec;
+use can_frame::{Frame, Id, wire};
+
+/// What a bit is for a sender that drives it recessive and samples it dominant.
+#[derive(Clone, Copy)]
+pub(crate) enum SendBit {
+    /// One of the arbitration field, from the first identifier bit to RTR, and no stuff bit.
+    Arbitration,
+    /// A stuff bit that stands before RTR.
+    ArbitrationStuffBit,
+    /// Any other.
+    Other,
+}
+
+/// The levels of a frame from SOF to the last bit of EOF, the ACK slot recessive, and the place of RTR
+/// among them, stuff bits left out and SOF at 0.
+#[derive(Drop)]
+pub(crate) struct Spelling {
+    levels: ArrayVec<bool, 160>,
+    rtr: u8,
+}
+
+impl Spelling {
+    /// What a node holds before its first frame.
+    pub(crate) fn empty() -> Spelling {
+        Spelling {
+            levels: ArrayVec::new(),
+            rtr: 0,
+        }
+    }
+
+    /// The spelling of this frame.
+    pub(crate) fn of(frame: &Frame) -> Spelling
+        ensures { IsSpelling frame.now result }
+    {
+        frame.facts();
+        let rtr = place_of_rtr(frame.id());
+        Spelling {
+            levels: wire(frame),
+            rtr,
+        }
+    }
+
+    /// The level in this place.
+    pub(crate) fn level(&self, place: u8) -> bool
+        ensures { result ≡ level_at self.now place }
+    {
+        match self.levels.as_slice().get(usize::from(place)) {
+            Some(level) => *level,
+            None => true,
+        }
+    }
+
+    /// Whether the ACK slot has this place. The ACK delimiter and seven bits of EOF stand behind it.
+    pub(crate) fn is_slot(&self, place: u8) -> bool
+        ensures yes { result ≡ true → place + 9 ≡ length self.now.levels.items }
+        ensures no { result ≡ false → place + 9 ≡ length self.now.levels.items → ⊥ }
+    {
+        usize::from(place) + 9 == self.levels.len()
+    }
+
+    /// Whether the last bit of EOF has this place.
+    pub(crate) fn is_last(&self, place: u8) -> bool
+        ensures yes { result ≡ true → place + 1 ≡ length self.now.levels.items }
+        ensures no { result ≡ false → place + 1 ≡ length self.now.levels.items → ⊥ }
+    {
+        usize::from(place) + 1 == self.levels.len()
+    }
+
+    /// What the bit in this place is.
+    pub(crate) fn bit(&self, place: u8) -> SendBit
+        ensures { IsBitAt result self.now place }
+    {
+        let levels = self.levels.as_slice();
+        let place = usize::from(place);
+        if place > levels.len() {
+            return SendBit::Other;
+        }
+        bit_behind(&levels[..place], self.rtr)
+    }
+}
+
+/// The place of RTR behind SOF and identifier, and behind SRR and IDE in the extended format.
+fn place_of_rtr(id: Id) -> u8
+    ensures { result ≡ rtr_place id }
+{
+    if id.is_extended() {
+        return 32;
+    }
+    12
+}
+
+/// How a text ends, and how many of its levels are no stuff bits.
+#[derive(Clone, Copy)]
+struct Tally {
+    // equal levels at its end, five at most
+    run: u8,
+    last: bool,
+    data: u8,
+}
+
+/// The run behind one more level.
+fn next_run(run: u8, last: bool, level: bool) -> u8
+    ensures { (older : List Bool) → newest older ≡ last → run ≡ min (run_of older) 5
+        → result ≡ min (run_of (level ∷ older)) 5 }
+{
+    if run == 0 {
+        return 1;
+    }
+    if level == last {
+        if run < 5 {
+            return run + 1;
+        }
+        return 5;
+    }
+    1
+}
+
+impl Tally {
+    /// The text and one more level.
+    fn with(self, level: bool) -> Tally
+        ensures { (older : List Bool) → Tallies self older → Tallies result (level ∷ older) }
+    {
+        let run = next_run(self.run, self.last, level);
+        if self.run >= 5 {
+            return Tally {
+                run,
+                last: level,
+                data: self.data,
+            };
+        }
+        Tally {
+            run,
+            last: level,
+            data: self.data.saturating_add(1),
+        }
+    }
+}
+
+/// How this text ends.
+fn tally_of(text: &[bool]) -> Tally
+    ensures { Tallies result (reverse text.now) }
+{
+    let mut tally = Tally {
+        run: 0,
+        last: true,
+        data: 0,
+    };
+    for level in text {
+        tally = tally.with(*level);
+    }
+    tally
+}
+
+/// What the bit behind this text is.
+fn bit_behind(text: &[bool], rtr: u8) -> SendBit
+    ensures { rtr ≤ 32 → SaysBit result (reverse text.now) rtr }
+{
+    let tally = tally_of(text);
+    if tally.data > rtr {
+        return SendBit::Other;
+    }
+    if tally.run >= 5 {
+        return SendBit::ArbitrationStuffBit;
+    }
+    if tally.data == 0 {
+        return SendBit::Other;
+    }
+    SendBit::Arbitration
+}
