@@ -1,19 +1,19 @@
 -- A node that begins to send.
-use Rattle.std.proofs.Common.{◌≡◌, ℕ, ◌+◌, Bool, true, false, List, [], ◌∷◌, ◌++◌, length, reverse, replicate, refl, sym, ap, subst, arith, ◌∙◌, append_assoc, length-append}
+use Rattle.std.proofs.Common.{◌≡◌, ℕ, ◌+◌, Bool, true, false, List, [], ◌∷◌, ◌++◌, length, reverse, replicate, refl, sym, ap, subst, arith, ◌∙◌, length-append}
 use Rattle.std.proofs.lemmas.List.{append-nil, reverse-append, reverse-reverse, length-map, length-replicate}
-use Rattle.can_frame.specs.Frames.{FrameValue, IsFrameValue}
+use Rattle.can_frame.specs.Frames.{FrameValue}
 use Rattle.can_frame.specs.Fields.{senders_choice, fields}
 use Rattle.can_frame.specs.Stuffing.{unstuffed}
 use Rattle.can_frame.specs.Spelling.{Spells, tail_levels}
 use Rattle.can_frame.specs.Reading.{StandsAfter as ReaderStandsAfter}
 use Rattle.can_frame.specs.declared.reader.Reader.{Reader}
-use Rattle.can_frame.proofs.Numbers.{head_same, tail_same}
+use Rattle.can_frame.proofs.Numbers.{head_same}
 use Rattle.can_frame.proofs.OneStuffing.{grows}
 use Rattle.can_frame.proofs.Spellings.{slot_stands_alone}
 use Rattle.can_node.specs.declared.confinement.ErrorEvent.{ErrorEvent}
 use Rattle.can_node.specs.declared.outcome.Outcome.TheVariants.{Nothing}
 use Rattle.can_node.specs.declared.state.State.{State}
-use Rattle.can_node.specs.declared.state.State.TheVariants.{Idling, Taking, Sending}
+use Rattle.can_node.specs.declared.state.State.TheVariants.{Sending}
 use Rattle.can_node.specs.declared.spelling.Spelling.{Spelling}
 use Rattle.can_node.specs.declared.node.Node.{Node}
 use Rattle.can_node.specs.Pairs.{Pair, listening, dominating, recessive}
@@ -22,7 +22,7 @@ use Rattle.can_node.specs.Sending.{IsSpelling}
 use Rattle.can_node.specs.Takes.{Reads}
 use Rattle.can_node.specs.Takes.Reads.{no_slot, with_slot}
 use Rattle.can_node.specs.Phases.{Phase, wants_start}
-use Rattle.can_node.specs.Phases.Phase.{Idle, Send, Take}
+use Rattle.can_node.specs.Phases.Phase.{Send, Take}
 use Rattle.can_node.specs.Episodes.{Episode, AreOn}
 use Rattle.can_node.specs.Episodes.Episode.{begun, joined}
 use Rattle.can_node.specs.Histories.{Past, IsOnOutside, with_episode}

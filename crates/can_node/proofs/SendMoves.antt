@@ -1,5 +1,5 @@
 -- One lemma for each branch of a sender's bit.
-use Rattle.std.proofs.Common.{◌≡◌, ℕ, ◌+◌, ◌≤◌, ◌<◌, min, Bool, true, false, not, Option, Some, None, List, [], ◌∷◌, ◌++◌, length, reverse, take, refl, sym, ap, subst, arith, ◌∙◌, append_assoc, length-append}
+use Rattle.std.proofs.Common.{◌≡◌, ℕ, ◌+◌, ◌≤◌, ◌<◌, min, Bool, true, false, not, Some, None, List, [], ◌∷◌, ◌++◌, length, reverse, take, refl, sym, ap, subst, arith, ◌∙◌, append_assoc, length-append}
 use Rattle.std.proofs.Math.Bool.{beq}
 use Rattle.std.proofs.lemmas.List.{append-nil}
 use Rattle.can_frame.specs.Frames.{FrameValue}
@@ -12,8 +12,7 @@ use Rattle.can_node.specs.declared.confinement.ErrorEvent.{ErrorEvent}
 use Rattle.can_node.specs.declared.confinement.ErrorEvent.TheVariants.{SenderError, Sent}
 use Rattle.can_node.specs.declared.confinement.ErrorState.{ErrorState}
 use Rattle.can_node.specs.declared.outcome.ErrorKind.TheVariants.{Bit, Stuff, Ack}
-use Rattle.can_node.specs.declared.outcome.Outcome.{Outcome}
-use Rattle.can_node.specs.declared.outcome.Outcome.TheVariants.{Nothing, Completed, Lost, Errored}
+use Rattle.can_node.specs.declared.outcome.Outcome.TheVariants.{Completed, Lost, Errored}
 use Rattle.can_node.specs.declared.state.State.{State}
 use Rattle.can_node.specs.declared.state.State.TheVariants.{Taking, Resting, Sending}
 use Rattle.can_node.specs.declared.state.Stage.TheVariants.{Region}
@@ -34,7 +33,7 @@ use Rattle.can_node.specs.Machine.Agrees.{in_send, in_rest}
 use Rattle.can_node.specs.Machine.Lands.{goes_on, is_over}
 use Rattle.can_node.proofs.Moves.{turn}
 use Rattle.can_node.proofs.Starts.{reads_from}
-use Rattle.can_node.proofs.SendPlaces.{Here, here, front_here, next_bit, last_bit, rtr_few, lost_inside, arbitration_short, slot_levels, same_levels, same_text}
+use Rattle.can_node.proofs.SendPlaces.{here, front_here, next_bit, last_bit, rtr_few, lost_inside, arbitration_short, slot_levels, same_levels, same_text}
 
 driving_more : (a b : List Bool) (x y : Bool) → length a ≡ length b → driving a b ++ record { driven = x; sampled = y } ∷ [] ≡ driving (a ++ x ∷ []) (b ++ y ∷ [])
 driving_more [] [] x y e = refl

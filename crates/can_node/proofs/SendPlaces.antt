@@ -1,19 +1,18 @@
 -- Where a bit of a sender stands in the spelling of its frame.
-use Rattle.std.proofs.Common.{◌≡◌, ◌⊎◌, inl, inr, ℕ, ◌+◌, ◌≤◌, ◌<◌, Bool, true, false, List, [], ◌∷◌, ◌++◌, length, reverse, replicate, get_or, take, refl, sym, ap, subst, arith, ◌∙◌, append_assoc, length-append}
-use Rattle.std.proofs.lemmas.List.{reverse-append, reverse-reverse, append-nil, length-reverse, length-replicate}
+use Rattle.std.proofs.Common.{◌≡◌, inl, inr, ℕ, ◌+◌, ◌≤◌, ◌<◌, Bool, true, false, List, [], ◌∷◌, ◌++◌, length, reverse, replicate, get_or, take, refl, sym, ap, subst, arith, ◌∙◌, append_assoc, length-append}
+use Rattle.std.proofs.lemmas.List.{reverse-append, reverse-reverse, length-reverse}
 use Rattle.can_frame.specs.Frames.{Identifier, standard, extended, FrameValue, IsFrameValue}
 use Rattle.can_frame.specs.Fields.{senders_choice, fields}
-use Rattle.can_frame.specs.Stuffing.{five_equal, IsStuffed, unstuffed}
+use Rattle.can_frame.specs.Stuffing.{IsStuffed, unstuffed}
 use Rattle.can_frame.specs.Spelling.{Spells, tail_levels}
-use Rattle.can_frame.specs.Fronts.{BeginsRegion}
-use Rattle.can_frame.specs.FieldReading.{ide, rtr_at, code_at, base_at, bytes_length, at_most_eight, fields_length}
+use Rattle.can_frame.specs.FieldReading.{ide, base_at, fields_length}
 use Rattle.can_frame.specs.Reading.{Inside}
 use Rattle.can_frame.proofs.Numbers.{head_same, tail_same, append_same}
 use Rattle.can_frame.proofs.Spellings.{one_spelling, slot_stands_alone, spelled_region}
 use Rattle.can_frame.proofs.Stuffed.{one_more}
 use Rattle.can_frame.proofs.OneStuffing.{IsStuffed-older, grows}
 use Rattle.can_frame.proofs.FieldTexts.{length-is}
-use Rattle.can_frame.proofs.Regions.{compare, completes}
+use Rattle.can_frame.proofs.Regions.{compare}
 use Rattle.can_node.specs.Sends.{IsSend, IsSendBit, IsArbitration, rtr_place}
 use Rattle.can_node.specs.Sending.{IsSpelling, level_at}
 use Rattle.can_node.specs.declared.spelling.Spelling.{Spelling}

@@ -1,5 +1,5 @@
 -- How a text ends, and how much of it is data, level by level.
-use Rattle.std.proofs.Common.{◌≡◌, ℕ, ◌+◌, ◌≤◌, ◌<◌, min, Bool, true, false, List, [], ◌∷◌, length, refl, sym, ap, arith, ◌∙◌, cond, reverse}
+use Rattle.std.proofs.Common.{◌≡◌, ℕ, ◌+◌, ◌≤◌, ◌<◌, min, Bool, true, false, List, [], ◌∷◌, length, refl, sym, ap, arith, ◌∙◌, cond}
 use Rattle.std.proofs.Math.Bool.{beq}
 use Rattle.can_frame.specs.Stuffing.{five_equal, newest, same, unstuffed}
 use Rattle.can_frame.specs.StuffingSteps.{run_of}

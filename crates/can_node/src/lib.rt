@@ -19,4 +19,6 @@ pub use crate::node::Node;
 pub use crate::outcome::{ErrorKind, Outcome};
 
 #[cfg(test)]
+mod bus_tests;
+#[cfg(test)]
 mod tests;

@@ -24,6 +24,7 @@ fn unacknowledged(errors: ErrorState) -> Turn
     ensures outcome { result.outcome ≡ Outcome.Errored ErrorKind.Ack }
 {
     let outcome = Outcome::Errored(ErrorKind::Ack);
+    let owed = None;
     match errors {
         ErrorState::Active => Turn {
             state: State::Flagging(FlagKind::ActiveError, Role::Sender, 0, 14),
@@ -32,7 +33,7 @@ fn unacknowledged(errors: ErrorState) -> Turn
         },
         ErrorState::Passive => Turn {
             state: State::PassiveFlagging(Role::Sender, true, 0, 0),
-            event: None,
+            event: owed,
             outcome,
         },
         ErrorState::Off => Turn {

@@ -1,4 +1,3 @@
-use Rattle.std.proofs.Common.{sym}
 use Rattle.can_node.proofs.ErrorMoves.{active_begins, owing_begins, off_begins}
 use Rattle.can_node.specs.declared.confinement.Role.TheVariants.{Sender}
 use Rattle.can_node.proofs.sends.unacknowledged.Goals as goal

@@ -1,5 +1,5 @@
-use Rattle.std.proofs.Common.{arith, reverse}
-use Rattle.can_node.proofs.Tallies.{bit_beyond, bit_stuffs, bit_is_sof, bit_arbitrates}
+use Rattle.std.proofs.Common.{reverse}
+use Rattle.can_node.proofs.Tallies.{bit_stuffs, bit_is_sof, bit_arbitrates}
 use Rattle.can_node.proofs.spelling.bit_behind.Goals as goal
 
 pub returns-then-tally-ge5 : goal.returns-then-tally-ge5
