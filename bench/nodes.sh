@@ -94,4 +94,4 @@ RATTLE
 build node_bench
 "$work/crates/node_bench/out/node_bench" | sed 's/,//g' |
   awk '{ printf "%s: %.1f million node-bits a second, %s frames\n", $0, $1 * $(NF-6) * 1000 / $(NF-1), $(NF-4) }' |
-  sed 's/ [0-9]* bits .* ns:/:/'
+  sed 's/ [0-9]* bits .* ns:/:/; s/::/:/'

@@ -122,6 +122,7 @@ pub(crate) fn advance(
 
 /// The state of a node that begins to send at this bit. If the third bit of intermission was dominant, SOF
 /// stands on the bus already, and the reader has read it.
+#[inline(never)]
 pub(crate) fn begin(state: State, reader: &mut Reader, now: u64) -> State
     ensures { Begins state reader.old now result reader.new }
 {

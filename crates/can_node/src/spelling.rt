@@ -38,6 +38,7 @@ impl Spelling {
     }
 
     /// The spelling of this frame.
+    #[inline(never)]
     pub(crate) fn of(frame: &Frame) -> Spelling
         ensures { IsSpelling frame.now result }
     {
@@ -76,6 +77,7 @@ impl Spelling {
     }
 
     /// What the bit in this place is.
+    #[inline(never)]
     pub(crate) fn bit(&self, place: u8) -> SendBit
         ensures { IsBitAt result self.now place }
     {
