@@ -25,18 +25,18 @@ use Rattle.can_node.specs.declared.counters.Counters.{Counters}
 use Rattle.can_node.specs.Counters.{StandsAfter as CountersStandAfter, counts_of}
 use Rattle.can_node.specs.Pairs.{Pair}
 use Rattle.can_node.specs.Waits.Broken.{none}
-use Rattle.can_node.specs.Phases.{Phase, wants_start}
+use Rattle.can_node.specs.Phases.{Phase, wants_start, sent_from}
 use Rattle.can_node.specs.Phases.Phase.{Sync, Idle, Send, Take, LastBit, ActiveFlag, OverloadFlag, PassiveFlag, Delimiter, Intermission, Suspend, BusOff}
 use Rattle.can_node.specs.Episodes.{Course, AreOn, AreOff}
 use Rattle.can_node.specs.Episodes.Course.{recovered}
 use Rattle.can_node.specs.Episodes.Episode.{ends}
 use Rattle.can_node.specs.Histories.{Past, no_past, IsHistory, IsOnOutside}
 use Rattle.can_node.specs.Histories.Whole.{switched_on}
-use Rattle.can_node.specs.Machine.{Agrees, Lands, Goes, GoesReading, GoesSending, Advances, LeadsTo, Counts, InState, ReaderStands, listed, is_taking, is_sending, level_of, level_in, may_start, with_bit}
+use Rattle.can_node.specs.Machine.{Agrees, Lands, Goes, GoesReading, GoesSending, Advances, LeadsTo, Counts, InState, ReaderStands, listed, is_taking, is_sending, level_of, level_in, may_start, sof_of, with_bit}
 use Rattle.can_node.specs.Machine.Agrees.{in_sync, in_idle, in_take, in_send, in_last, in_active, in_overload, in_passive, in_wait, in_delimiter, in_rest, in_suspend, in_off}
 use Rattle.can_node.specs.Machine.Lands.{goes_on, is_over}
 use Rattle.can_node.specs.Machine.LeadsTo.{no_event, stays_on, goes_off}
-use Rattle.can_node.specs.Node.{StandsAfter, IsSample, IsWanting}
+use Rattle.can_node.specs.Node.{StandsAfter, IsSample, IsWanting, IsSending}
 use Rattle.can_node.proofs.Starts.{sof_inside}
 use Rattle.can_node.proofs.Readers.{still_reading, reads_on}
 use Rattle.can_node.proofs.Bits.{agrees_begun, in_state_history, course_quiet, no_send_behind, stands_on, stands_over, outside, lands_on, lands_off}
@@ -292,3 +292,27 @@ counts_some old new given event off is applies e events = subst (λ g. Counts ol
   stands = applies events;
   leads = λ h. leads_by events event off (is_off (counts_of new)) e (ap is_off (sym (applies events h)));
 })
+
+-- the SOF of the frame that the node sends
+sof_by : {state : State} {text : List Bool} {at : ℕ} {phase : Phase} {part : List Pair} {events : List ErrorEvent} → Agrees state text at phase part events → sof_of state ≡ sent_from phase
+sof_by (in_sync broken b below) = refl
+sof_by (in_idle n) = refl
+sof_by (in_take given levels may_begin pairs events is on reads may sof place) = refl
+sof_by (in_send given frame before seen driven expected is bit place) = refl
+sof_by in_last = refl
+sof_by (in_active levels size below runs few) = refl
+sof_by (in_overload levels size below runs few) = refl
+sof_by (in_passive owed levels h) = refl
+sof_by (in_wait run n is far due) = refl
+sof_by (in_delimiter kind run n some below) = refl
+sof_by (in_rest below) = refl
+sof_by (in_suspend below) = refl
+sof_by (in_off rest broken below counted b short) = refl
+
+pub sending : (node : Node) (start : Option ℕ) → start ≡ sof_of node.state → (past : Past) → StandsAfter node past → IsSending past start
+sending node start e past h =
+    let st = h.in_state in
+    record {
+      history = record { done = st.done; phase = st.phase; part = st.part; counting = st.counting; whole = st.whole; goes_on = agrees_begun st.agrees; on = st.on; past_is = st.past_is };
+      start_is = e ∙ sof_by st.agrees;
+    }

@@ -133,6 +133,11 @@ may_start Idling = true
 may_start (Taking start may_begin stage) = may_begin
 may_start state = false
 
+-- the number of the SOF of the frame that a node in this state sends
+abbrev pub sof_of : State → Option ℕ
+sof_of (Sending start place) = Some start
+sof_of state = None
+
 -- if a node in this state reads or sends a frame, its reader has read this text of it; and it reads on, if
 -- the node does
 pub record ReaderStands (state : State) (reader : Reader) (text : List Bool) : Type 0 where

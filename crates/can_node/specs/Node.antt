@@ -5,9 +5,9 @@ use Rattle.can_node.specs.declared.confinement.ErrorEvent.{ErrorEvent}
 use Rattle.can_node.specs.declared.outcome.Outcome.{Outcome}
 use Rattle.can_node.specs.declared.node.Node.{Node}
 use Rattle.can_node.specs.Counters.{StandsAfter as CountersStandAfter}
-use Rattle.can_node.specs.Phases.{wants_start}
+use Rattle.can_node.specs.Phases.{wants_start, sent_from}
 use Rattle.can_node.specs.Histories.{Past, IsHistory}
-use Rattle.can_node.specs.Machine.{InState, ReaderStands, level_in, may_start, with_bit}
+use Rattle.can_node.specs.Machine.{InState, ReaderStands, level_in, may_start, sof_of, with_bit}
 
 -- the node stands after this past: it may have done this, and nothing else, since it was switched on
 pub record StandsAfter (node : Node) (past : Past) : Type 0 where
@@ -30,6 +30,10 @@ driven_by node = level_in node.state node.spelling
 abbrev pub may_begin : Node → Bool
 may_begin node = may_start node.state
 
+-- the number of the SOF of the frame that it sends
+abbrev pub sends_from : Node → Option ℕ
+sends_from node = sof_of node.state
+
 -- a past in which the node begins to send this frame at its next bit
 abbrev pub with_begin : Past → FrameValue → Past
 with_begin past frame = record {
@@ -51,3 +55,8 @@ pub record IsSample (old : Node) (level : Bool) (outcome : Outcome) (new : Node)
 pub record IsWanting (past : Past) (wants : Bool) : Type 0 where
   pub history : IsHistory past
   pub wants_is : wants ≡ wants_start history.phase history.part
+
+-- this is the number of the SOF of the frame that a node with this past sends, in the history that the past is
+pub record IsSending (past : Past) (start : Option ℕ) : Type 0 where
+  pub history : IsHistory past
+  pub start_is : start ≡ sent_from history.phase

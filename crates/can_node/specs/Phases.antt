@@ -1,5 +1,5 @@
 -- What a node does next: the episodes into which its history is cut.
-use Rattle.std.specs.Prelude.{ℕ, Bool, true, false, List, []}
+use Rattle.std.specs.Prelude.{ℕ, Bool, true, false, Option, Some, None, List, []}
 use Rattle.can_frame.specs.Frames.{FrameValue}
 use Rattle.can_node.specs.Pairs.{Pair}
 use Rattle.can_node.specs.declared.flag.FlagKind.{FlagKind}
@@ -51,3 +51,8 @@ abbrev pub wants_start : Phase → List Pair → Bool
 wants_start Idle part = true
 wants_start (Take start given may_begin) [] = may_begin
 wants_start phase part = false
+
+-- the number of the SOF of the frame that a node sends
+abbrev pub sent_from : Phase → Option ℕ
+sent_from (Send start given frame) = Some start
+sent_from phase = None

@@ -11,6 +11,7 @@ ghost use Rattle.can_node.specs.Machine.{
   is_sending,
   level_in,
   may_start,
+  sof_of,
 };
 
 use crate::confinement::{ErrorEvent, ErrorState};
@@ -45,6 +46,16 @@ pub(crate) fn may_start(state: State) -> bool
         State::Idling => true,
         State::Taking(_, may_begin, _) => may_begin,
         _ => false,
+    }
+}
+
+/// The number of the SOF of the frame that a node in this state sends.
+pub(crate) fn sof_of(state: State) -> Option<u64>
+    ensures { result ≡ sof_of state }
+{
+    match state {
+        State::Sending(start, _) => Some(start),
+        _ => None,
     }
 }
 

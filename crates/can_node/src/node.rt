@@ -7,14 +7,16 @@ ghost use Rattle.can_node.specs.Node.{
   StandsAfter,
   IsSample,
   IsWanting,
+  IsSending,
   bit_of,
   driven_by,
   may_begin,
+  sends_from,
   with_begin,
 };
 
 use crate::counters::Counters;
-use crate::machine::{advance, begin, count, level_in, may_start};
+use crate::machine::{advance, begin, count, level_in, may_start, sof_of};
 use crate::outcome::Outcome;
 use crate::spelling::Spelling;
 use crate::state::State;
@@ -87,6 +89,15 @@ impl Node {
     {
         self.spelling = Spelling::of(&frame);
         self.state = begin(self.state, &mut self.reader, self.clock);
+    }
+
+    /// The number of the SOF of the frame that the node sends, also where another node drove it; `None` while
+    /// it sends none.
+    pub fn sends_from(&self) -> Option<u64>
+        ensures is { result ≡ sends_from self.now }
+        ensures sends { (past : Past) → StandsAfter self.now past → IsSending past result }
+    {
+        sof_of(self.state)
     }
 
     /// The level that the node drives at the next bit, true being recessive.
