@@ -147,6 +147,10 @@ fn is_complete(text: &[bool]) -> bool
     ensures whole { result ≡ true → length text.now ≡ fields_length text.now + 15 }
     ensures part { result ≡ false → length text.now ≡ fields_length text.now + 15 → ⊥ }
 {
+    // the fields are nineteen levels at least
+    if text.len() < 34 {
+        return false;
+    }
     text.len() == fields_len(text) + 15
 }
 

@@ -4,7 +4,7 @@ use Rattle.std.proofs.lemmas.List.{append_assoc, append-nil}
 use Rattle.std.proofs.lemmas.List.Sums.{fold-append}
 use Rattle.can_frame.specs.Answers.{Answers}
 use Rattle.can_frame.specs.Reading.{StandsAfter as ReaderStandsAfter, IsReading, IsPush, Leaves}
-use Rattle.can_frame.specs.declared.step.Step.TheVariants.{More}
+use Rattle.can_frame.specs.declared.step.Step.TheVariants.{More, StuffBit}
 use Rattle.can_frame.proofs.Regions.{completes}
 use Rattle.can_frame.proofs.ReaderLaws.{one_answer}
 use Rattle.can_frame.specs.declared.reader.Reader.{Reader}
@@ -16,8 +16,9 @@ use Rattle.can_node.specs.declared.outcome.Outcome.{Outcome}
 use Rattle.can_node.specs.declared.outcome.Outcome.TheVariants.{WentOff}
 use Rattle.can_node.specs.declared.state.State.{State}
 use Rattle.can_node.specs.declared.spelling.Spelling.{Spelling}
-use Rattle.can_node.specs.declared.state.State.TheVariants.{Syncing, Taking, Recovering, Sending}
+use Rattle.can_node.specs.declared.state.State.TheVariants.{Syncing, Idling, Taking, Recovering, Sending}
 use Rattle.can_node.specs.declared.state.Stage.{Stage}
+use Rattle.can_node.specs.declared.state.Stage.TheVariants.{Region}
 use Rattle.can_node.specs.declared.state.Turn.{Turn}
 use Rattle.can_node.specs.declared.node.Node.{Node}
 use Rattle.can_node.specs.Confinement.{no_counts, is_off, after_event, counts_after, state_after}
@@ -32,12 +33,14 @@ use Rattle.can_node.specs.Episodes.Course.{recovered}
 use Rattle.can_node.specs.Episodes.Episode.{ends}
 use Rattle.can_node.specs.Histories.{Past, no_past, IsHistory, IsOnOutside}
 use Rattle.can_node.specs.Histories.Whole.{switched_on}
-use Rattle.can_node.specs.Machine.{Agrees, Lands, Goes, GoesReading, GoesSending, Advances, LeadsTo, Counts, InState, ReaderStands, listed, is_taking, is_sending, level_of, level_in, may_start, sof_of, with_bit}
+use Rattle.can_node.specs.Machine.{Agrees, Lands, Goes, GoesReading, GoesSending, Advances, LeadsTo, Counts, InState, ReaderStands, listed, made, IsSteady, is_taking, is_sending, level_of, level_in, may_start, sof_of, with_bit}
 use Rattle.can_node.specs.Machine.Agrees.{in_sync, in_idle, in_take, in_send, in_last, in_active, in_overload, in_passive, in_wait, in_delimiter, in_rest, in_suspend, in_off}
 use Rattle.can_node.specs.Machine.Lands.{goes_on, is_over}
 use Rattle.can_node.specs.Machine.LeadsTo.{no_event, stays_on, goes_off}
 use Rattle.can_node.specs.Node.{StandsAfter, IsSample, IsWanting, IsSending}
 use Rattle.can_node.proofs.Starts.{sof_inside}
+use Rattle.can_node.proofs.Moves.{idle_on}
+use Rattle.can_node.proofs.TakeMoves.{take_more, take_stuff}
 use Rattle.can_node.proofs.Readers.{still_reading, reads_on}
 use Rattle.can_node.proofs.Bits.{agrees_begun, in_state_history, course_quiet, no_send_behind, stands_on, stands_over, outside, lands_on, lands_off}
 
@@ -57,6 +60,18 @@ sending_advances start place old new spelling now errors level step turn push go
     let stands = push.stands text (reads.follows refl) in
     let lands = goes text at before phase part events err agrees holds in
     record { after = after; lands = lands; reads = record { stands = λ is. stands; reading = λ is. still_reading new after stands (reads_on lands is).undecided; follows = λ is. stands } }
+
+-- a node that reads on as before
+pub steady_advances : (start : ℕ) (may : Bool) (stage : Stage) (old new : Reader) (spelling : Spelling) (now : ℕ) (errors : ErrorState) (level : Bool) (step : Step) → IsPush old level step new →
+    IsSteady may stage step → Advances (Taking start may stage) old spelling now errors level (made (Taking start may stage) None) new
+steady_advances start may stage old new spelling now errors level step push h =
+    let more : step ≡ More → Advances (Taking start false Region) old spelling now errors level (made (Taking start false Region) None) new =
+    λ is. reading_advances start false Region old new spelling now errors level More _ (subst (λ s. IsPush old level s new) is push) (λ m. take_more start m Region errors level) in
+    let stuff : step ≡ StuffBit → Advances (Taking start false Region) old spelling now errors level (made (Taking start false Region) None) new =
+    λ is. reading_advances start false Region old new spelling now errors level StuffBit _ (subst (λ s. IsPush old level s new) is push) (λ m. take_stuff start m Region errors level) in
+    subst (λ m. Advances (Taking start m stage) old spelling now errors level (made (Taking start m stage) None) new) (sym h.reads)
+    (subst (λ g. Advances (Taking start false g) old spelling now errors level (made (Taking start false g) None) new) (sym h.inside)
+    (elim h.goes_on [ inl is ↦ more is | inr is ↦ stuff is ]))
 
 pub no_taking : (state : State) → ((start : ℕ) (may : Bool) (stage : Stage) → state ≡ Taking start may stage → ⊥) → is_taking state ≡ false
 no_taking (Taking start may stage) h = absurd (h start may stage refl)
@@ -81,6 +96,10 @@ other_advances state old new spelling now errors level turn no_send goes stands 
       lands = subst (λ d. Lands turn.state turn.outcome (false ∷ []) at before phase (part ++ record { driven = d; sampled = level } ∷ []) (events ++ listed turn.event)) own lands;
       reads = record { stands = stands; reading = reading; follows = λ is. absurd (cc (is, no_send_behind state turn.state text (false ∷ []) at before phase part _ events _ turn.outcome no_send agrees lands)) };
     }
+
+-- an idle bus
+pub idle_advances : (old : Reader) (spelling : Spelling) (now : ℕ) (errors : ErrorState) → Advances Idling old spelling now errors true (made Idling None) old
+idle_advances old spelling now errors = other_advances Idling old old spelling now errors true (made Idling None) refl (idle_on now errors) (λ is. absurd (cc is)) (λ is. absurd (cc is))
 
 -- either the counts are not those of bus off, or the node is in bus off
 on_or_off : (phase : Phase) (events : List ErrorEvent) → IsOnOutside phase events → AreOn events ⊎ (phase ≡ BusOff)

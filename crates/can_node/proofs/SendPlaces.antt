@@ -12,7 +12,7 @@ use Rattle.can_frame.proofs.Spellings.{one_spelling, slot_stands_alone, spelled_
 use Rattle.can_frame.proofs.Stuffed.{one_more}
 use Rattle.can_frame.proofs.OneStuffing.{IsStuffed-older, grows}
 use Rattle.can_frame.proofs.FieldTexts.{length-is}
-use Rattle.can_frame.proofs.Regions.{compare}
+use Rattle.can_frame.proofs.Regions.{compare, fields_some}
 use Rattle.can_node.specs.Sends.{IsSend, IsSendBit, IsArbitration, rtr_place}
 use Rattle.can_node.specs.Sending.{IsSpelling, level_at}
 use Rattle.can_node.specs.declared.spelling.Spelling.{Spelling}
@@ -130,14 +130,6 @@ last_bit frame given before seen driven expected h long none_left = record {
 pub rtr_few : (id : Identifier) → rtr_place id ≤ 32
 rtr_few (standard n) = omega arith
 rtr_few (extended n) = omega arith
-
-base_some : (b : Bool) → 19 ≤ base_at b
-base_some true = omega arith
-base_some false = omega arith
-
--- fields are nineteen levels at least
-fields_some : (u : List Bool) → 19 ≤ fields_length u
-fields_some u = omega (arith, base_some (ide u))
 
 first_dominant : (u more rest : List Bool) → u ++ more ≡ false ∷ rest → get_or (u ++ false ∷ []) 0 false ≡ false
 first_dominant [] more rest e = refl

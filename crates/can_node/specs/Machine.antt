@@ -1,11 +1,12 @@
 -- How a node's state agrees with the episode that it is in, and what a sampled level makes of it. Private
 -- clauses cite it.
-use Rattle.std.specs.Prelude.{◌≡◌, ℕ, ◌+◌, ◌*◌, ◌<◌, ◌≤◌, ◌==◌, Bool, true, false, not, Option, Some, None, List, [], ◌∷◌, ◌++◌, length}
+use Rattle.std.specs.Prelude.{◌≡◌, ◌⊎◌, ℕ, ◌+◌, ◌*◌, ◌<◌, ◌≤◌, ◌==◌, Bool, true, false, not, Option, Some, None, List, [], ◌∷◌, ◌++◌, length}
 use Rattle.std.specs.List.{list_any, suffix_len}
 use Rattle.can_frame.specs.Frames.{FrameValue}
 use Rattle.can_frame.specs.Fronts.{BeginsRegion}
 use Rattle.can_frame.specs.Reading.{InTail, Next, StandsAfter as ReaderStandsAfter, IsReading}
 use Rattle.can_frame.specs.declared.step.Step.{Step}
+use Rattle.can_frame.specs.declared.step.Step.TheVariants.{More, StuffBit}
 use Rattle.can_frame.specs.declared.reader.Reader.{Reader}
 use Rattle.can_node.specs.declared.confinement.Role.{Role}
 use Rattle.can_node.specs.declared.confinement.ErrorEvent.{ErrorEvent}
@@ -206,6 +207,17 @@ Advances state old spelling now errors level turn new =
     (text : List Bool) (at : ℕ) (before : List ErrorEvent) (phase : Phase) (part : List Pair) (events : List ErrorEvent) →
     now ≡ at + length part → errors ≡ state_after (before ++ events) → Agrees state text at phase part events → Holds phase spelling → ReaderStands state old text →
     LandsWith turn new at before phase (part ++ record { driven = level_in state spelling; sampled = level } ∷ []) (events ++ listed turn.event)
+
+-- the turn that was made; none if the state stays, and nothing is counted or told
+abbrev pub made : State → Option Turn → Turn
+made state None = record { state = state; event = None; outcome = Nothing }
+made state (Some turn) = turn
+
+-- a receiver that need not choose between reading and sending any more goes on in the stuffed region
+pub record IsSteady (may_begin : Bool) (stage : Stage) (step : Step) : Type 0 where
+  pub reads : may_begin ≡ false
+  pub inside : stage ≡ Region
+  pub goes_on : (step ≡ More) ⊎ (step ≡ StuffBit)
 
 -- A node in this state begins to send at this bit. If it has read SOF it goes on behind it, and its reader too.
 abbrev pub Begins : State → Reader → ℕ → State → Reader → Type 0

@@ -1,12 +1,14 @@
 //! One bit of a node: what its level makes of state, reader and counters.
 
-ghost use Rattle.std.specs.Prelude.{◌≡◌, Bool, List, false, ◌∷◌, []};
+ghost use Rattle.std.specs.Prelude.{◌≡◌, Bool, List, true, false, ◌∷◌, []};
 ghost use Rattle.can_frame.specs.Reading.{StandsAfter, IsReading};
 ghost use Rattle.can_node.specs.Machine.{
   Goes,
   Advances,
   Begins,
   Counts,
+  IsSteady,
+  made,
   is_taking,
   is_sending,
   level_in,
@@ -18,13 +20,13 @@ use crate::confinement::{ErrorEvent, ErrorState};
 use crate::counters::Counters;
 use crate::sends::after_sending;
 use crate::spelling::Spelling;
-use crate::state::{State, Turn};
+use crate::state::{Stage, State, Turn};
 use crate::takes::after_taking;
 use crate::turns::{
     after_closing, after_delimiting, after_flag, after_idle, after_passive_flag, after_recovering,
     after_resting, after_suspending, after_sync, after_waiting, plain,
 };
-use can_frame::Reader;
+use can_frame::{Reader, Step};
 
 /// The level that a node drives in this state.
 pub(crate) fn level_in(state: State, spelling: &Spelling) -> bool
@@ -104,8 +106,25 @@ fn reader_after_sof() -> Reader
     reader
 }
 
-/// What a level makes of the state. If a frame is read or sent, its reader is pushed that level: a sender
-/// that loses arbitration reads on.
+/// Whether a receiver goes on in the stuffed region as before, which is what most bits of a bus are.
+fn is_steady(may_begin: bool, stage: Stage, step: &Step) -> bool
+    ensures { result ≡ true → IsSteady may_begin stage step.now }
+{
+    if may_begin {
+        return false;
+    }
+    match stage {
+        Stage::Region => match step {
+            Step::More => true,
+            Step::StuffBit => true,
+            _ => false,
+        },
+        _ => false,
+    }
+}
+
+/// What a level makes of the state; `None` if the state stays and nothing is counted or told. If a frame is
+/// read or sent, its reader is pushed that level: a sender that loses arbitration reads on.
 pub(crate) fn advance(
     state: State,
     reader: &mut Reader,
@@ -113,22 +132,31 @@ pub(crate) fn advance(
     now: u64,
     errors: ErrorState,
     level: bool,
-) -> Turn
-    ensures { Advances state reader.old spelling.now now errors level result reader.new }
+) -> Option<Turn>
+    ensures { Advances state reader.old spelling.now now errors level (made state result) reader.new }
 {
-    if let State::Taking(start, _, stage) = state {
+    if let State::Taking(start, may_begin, stage) = state {
         let step = reader.push(level);
-        return after_taking(start, stage, errors, step, level);
+        if is_steady(may_begin, stage, &step) {
+            return None;
+        }
+        return Some(after_taking(start, stage, errors, step, level));
     }
     if let State::Sending(start, place) = state {
         let _read = reader.push(level);
-        return after_sending(start, place, spelling, errors, level);
+        return Some(after_sending(start, place, spelling, errors, level));
+    }
+    if let State::Idling = state {
+        if level {
+            return None;
+        }
     }
     let turn = turn_of(state, now, errors, level);
     if is_taking(turn.state) {
         *reader = reader_after_sof();
+        return Some(turn);
     }
-    turn
+    Some(turn)
 }
 
 /// The state of a node that begins to send at this bit. If the third bit of intermission was dominant, SOF

@@ -115,17 +115,21 @@ impl Node {
         ensures stands { IsSample self.old level result self.new }
         ensures history { (past : Past) → StandsAfter self.new past → IsHistory past }
     {
+        let now = self.clock;
+        self.clock += 1;
         let errors = self.counters.state();
-        let turn = advance(
+        let turn = match advance(
             self.state,
             &mut self.reader,
             &self.spelling,
-            self.clock,
+            now,
             errors,
             level,
-        );
+        ) {
+            None => return Outcome::Nothing,
+            Some(turn) => turn,
+        };
         let went_off = count(&mut self.counters, turn.event);
-        self.clock += 1;
         if went_off {
             self.state = State::Recovering(0, 0);
             return Outcome::WentOff;
