@@ -5,3 +5,10 @@ pub mod Reaches
 pub mod Fields
 pub mod Leads
 pub mod LastNumber
+pub mod Oldest
+pub mod Numbers
+pub mod Empties
+pub mod Standing
+pub mod BusSide
+pub mod RouteSide
+pub mod SliceLemmas

@@ -37,7 +37,7 @@ found m q F t why none e = ⊎_elim
 abbrev pub went : State → Result State Refused
 went u = Ok u
 
-either_ok : (b : Bool) (u v t : State) → cond b (went u) (went v) ≡ Ok t → ((b ≡ true) × (u ≡ t)) ⊎ ((b ≡ false) × (v ≡ t))
+pub either_ok : (b : Bool) (u v t : State) → cond b (went u) (went v) ≡ Ok t → ((b ≡ true) × (u ≡ t)) ⊎ ((b ≡ false) × (v ≡ t))
 either_ok true u v t e = inl (refl, cc)
 either_ok false u v t e = inr (refl, cc)
 
@@ -78,7 +78,7 @@ first_mark s t m w st b sp e h l =
 scheduled_first : (s : State) (m : ℕ) (w : Waiting) (sp : Split m s.queue w) → Law s → is_scheduled w.status ≡ true → sp.before ≡ []
 scheduled_first s m w sp l h = touched_first sp.before sp.behind w (subst RestUntouched sp.whole l.first) (λ u. false≢true (sym (ap is_scheduled u.pending) ∙ h))
 
-transmitting_first : (s : State) (m : ℕ) (w : Waiting) (sp : Split m s.queue w) → Law s → is_transmitting w.status ≡ true → sp.before ≡ []
+pub transmitting_first : (s : State) (m : ℕ) (w : Waiting) (sp : Split m s.queue w) → Law s → is_transmitting w.status ≡ true → sp.before ≡ []
 transmitting_first s m w sp l h = touched_first sp.before sp.behind w (subst RestUntouched sp.whole l.first) (λ u. false≢true (sym (ap is_transmitting u.pending) ∙ h))
 
 keeps-scheduled : (s t : State) (m : ℕ) → Law s → scheduled s m ≡ Ok t → Next s t

@@ -5,3 +5,8 @@ pub mod Law
 pub mod End
 pub mod Room
 pub mod Mailboxes
+pub mod TxBus
+pub mod RouteTx
+pub mod PlainMail
+pub mod Stands
+pub mod Slices

@@ -1,5 +1,5 @@
 -- What the mailbox core of one controller keeps (RM0008, bxCAN, "Transmission handling").
-use Rattle.std.specs.Prelude.{ℕ, suc, ◌==◌, Option, Some, None, List, [], ◌∷◌, map, replicate, Bool, true, false, if◌then◌else◌}
+use Rattle.std.specs.Prelude.{◌≡◌, ℕ, suc, ◌<◌, ◌==◌, ◌&&◌, Option, Some, None, List, [], ◌∷◌, map, replicate, Bool, true, false, if◌then◌else◌}
 use Rattle.std.specs.List.{slice_index_or}
 use Rattle.bx_core.specs.declared.entry.Entry.{Entry}
 use Rattle.bx_core.specs.declared.waiting.Waiting.{Waiting}
@@ -82,3 +82,23 @@ abbrev pub is_transmitting : Status → Bool
 is_transmitting Pending = false
 is_transmitting Scheduled = false
 is_transmitting Transmitting = true
+
+-- a mailbox that is neither claimed nor holds a request
+pub record IsEmpty (s : State) (mailbox : ℕ) : Type 0 where
+  pub unclaimed : claim_of s mailbox ≡ None
+  pub unrequested : at_mailbox mailbox s.queue ≡ None
+
+-- the empty mailbox of the lowest number
+pub record IsLowestEmpty (s : State) (mailbox : ℕ) : Type 0 where
+  pub within : mailbox < 3
+  pub empty : IsEmpty s mailbox
+  pub lowest : (k : ℕ) → k < mailbox → IsEmpty s k → ⊥
+
+-- no mailbox is empty
+abbrev pub NoneIsEmpty : State → Type 0
+NoneIsEmpty s = (k : ℕ) → k < 3 → IsEmpty s k → ⊥
+
+-- the request of a route's number, where it waits
+abbrev pub of_number : ℕ → ℕ → List Waiting → Option Waiting
+of_number route number [] = None
+of_number route number (w ∷ ws) = if (w.route == route) && (w.number == number) then Some w else of_number route number ws

@@ -1,12 +1,12 @@
 //! The core: the mailboxes' claims, the requests that wait in them, and each route's lists.
-ghost use Rattle.std.specs.Prelude.{◌≡◌, ◌<◌, ◌≤◌, length, true, IsTrue, ◌↔◌, OnOk, OnErr, Err, None, Some, IfSome, option_map};
+ghost use Rattle.std.specs.Prelude.{◌≡◌, ◌<◌, ◌≤◌, length, true, IsTrue, ◌↔◌, OnOk, OnErr, Err, None, Some, IfSome, IfNone, option_map, slice_get};
 ghost use Rattle.std.specs.List.{slice_index_or};
 ghost use Rattle.bx_core.specs.declared.waiting.Waiting.{Waiting};
-ghost use Rattle.bx_core.specs.States.{State, opening, claim_of, lists_of, at_mailbox, place_of, waits_of};
+ghost use Rattle.bx_core.specs.States.{State, opening, claim_of, lists_of, at_mailbox, place_of, waits_of, of_number, IsEmpty, IsLowestEmpty, NoneIsEmpty};
 ghost use Rattle.bx_core.specs.Steps.{last_number, Steps, IsRequest, InRange, Leads, after, claimed, withdrawn, requested, scheduled, started, completed, failed, aborted, reaped, is_claim_of, may_follow, with_claim, with_waiting, with_request, without};
 ghost use Rattle.bx_core.specs.End.{ended_lists};
 ghost use Rattle.bx_core.specs.Room.{lists_view};
-ghost use Rattle.bx_core.specs.Law.{Law, Reached};
+ghost use Rattle.bx_core.specs.Law.{Law, Reached, IsInPlace};
 
 use crate::end::End;
 use crate::entry::Entry;
@@ -176,6 +176,42 @@ impl Core {
         ensures { result ≡ last_number (lists_of self.now route).requested }
     {
         self.lists(route).last_number()
+    }
+
+    /// The oldest request that waits. No other is scheduled or transmitting.
+    pub fn first(&self) -> Option<Waiting>
+        ensures value { result ≡ slice_get self.now.queue 0 }
+        ensures in_place { IfSome result (IsInPlace (length self.now.routes)) }
+    {
+        self.keep_law();
+        self.queue.as_slice().first().copied()
+    }
+
+    /// The lowest mailbox that is neither claimed nor holds a request: 0, 1 or 2.
+    pub(crate) fn lowest_empty(&self) -> Option<u8>
+        ensures some { IfSome result (IsLowestEmpty self.now) }
+        ensures none { IfNone result (NoneIsEmpty self.now) }
+    {
+        for mailbox in 0..3 {
+            if self.is_empty(mailbox) {
+                return Some(mailbox);
+            }
+        }
+        None
+    }
+
+    fn is_empty(&self, mailbox: u8) -> bool
+        requires { mailbox < 3 }
+        ensures { IsTrue result ↔ IsEmpty self.now mailbox }
+    {
+        self.claim_at(mailbox).is_none() && self.find(mailbox).is_none()
+    }
+
+    /// The request of a route's number, where it waits in a mailbox.
+    pub(crate) fn of_number(&self, route: u8, number: u32) -> Option<Waiting>
+        ensures { result ≡ of_number route number self.now.queue }
+    {
+        queue::of_number(self.queue.as_slice(), route, number)
     }
 
     fn lists(&self, route: u8) -> &Lists

@@ -1,6 +1,6 @@
 //! The queue of waiting requests, the oldest first.
 ghost use Rattle.std.specs.Prelude.{◌≡◌, ◌<◌, ◌≤◌, length, slice_set, IfSome, option_map};
-ghost use Rattle.bx_core.specs.States.{at_mailbox, place_of, waits_of};
+ghost use Rattle.bx_core.specs.States.{at_mailbox, place_of, waits_of, of_number};
 
 use crate::waiting::Waiting;
 use arrayvec::ArrayVec;
@@ -39,4 +39,16 @@ pub(crate) fn waits(queue: &[Waiting], route: u8) -> ArrayVec<u32, 3>
         }
     }
     numbers
+}
+
+/// The request of a route's number among these.
+pub(crate) fn of_number(queue: &[Waiting], route: u8, number: u32) -> Option<Waiting>
+    ensures { result ≡ of_number route number queue.now }
+{
+    for waiting in queue {
+        if waiting.route == route && waiting.number == number {
+            return Some(*waiting);
+        }
+    }
+    None
 }

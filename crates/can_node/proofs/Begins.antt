@@ -1,5 +1,5 @@
 -- A node that begins to send.
-use Rattle.std.proofs.Common.{◌≡◌, ℕ, ◌+◌, Bool, true, false, List, [], ◌∷◌, ◌++◌, length, reverse, replicate, refl, sym, ap, subst, arith, ◌∙◌, length-append}
+use Rattle.std.proofs.Common.{◌≡◌, ℕ, ◌+◌, Bool, true, false, List, [], ◌∷◌, ◌++◌, length, reverse, replicate, IsSome, refl, sym, ap, subst, arith, ◌∙◌, length-append}
 use Rattle.std.proofs.lemmas.List.{append-nil, reverse-append, reverse-reverse, length-map, length-replicate}
 use Rattle.can_frame.specs.Frames.{FrameValue}
 use Rattle.can_frame.specs.Fields.{senders_choice, fields}
@@ -13,7 +13,7 @@ use Rattle.can_frame.proofs.Spellings.{slot_stands_alone}
 use Rattle.can_node.specs.declared.confinement.ErrorEvent.{ErrorEvent}
 use Rattle.can_node.specs.declared.outcome.Outcome.TheVariants.{Nothing}
 use Rattle.can_node.specs.declared.state.State.{State}
-use Rattle.can_node.specs.declared.state.State.TheVariants.{Sending}
+use Rattle.can_node.specs.declared.state.State.TheVariants.{Idling, Taking, Sending}
 use Rattle.can_node.specs.declared.spelling.Spelling.{Spelling}
 use Rattle.can_node.specs.declared.node.Node.{Node}
 use Rattle.can_node.specs.Pairs.{Pair, listening, dominating, recessive}
@@ -27,7 +27,7 @@ use Rattle.can_node.specs.Episodes.{Episode, AreOn}
 use Rattle.can_node.specs.Episodes.Episode.{begun, joined}
 use Rattle.can_node.specs.Histories.{Past, IsOnOutside, with_episode}
 use Rattle.can_node.specs.Histories.Whole.{then}
-use Rattle.can_node.specs.Machine.{Agrees, Begins, InState, ReaderStands, may_start}
+use Rattle.can_node.specs.Machine.{Agrees, Begins, InState, ReaderStands, may_start, sof_of}
 use Rattle.can_node.specs.Machine.Agrees.{in_sync, in_idle, in_take, in_send, in_last, in_active, in_overload, in_passive, in_wait, in_delimiter, in_rest, in_suspend, in_off}
 use Rattle.can_node.specs.Node.{StandsAfter, with_begin}
 use Rattle.can_node.specs.Confinement.{counts_after}
@@ -210,3 +210,7 @@ begin_stands old new frame may k begins counters_is clock_is past h =
       clock_is = clock_is ∙ h.clock_is;
       counted = subst (λ c. counts_of c ≡ counts_after past.events) (sym counters_is) h.counted;
     }
+
+pub begins_sending : (state next : State) (old new : Reader) (now : ℕ) → Begins state old now next new → IsSome (sof_of next)
+begins_sending (Taking start may stage) next old new now begins = subst (λ s. IsSome (sof_of s)) (sym begins.0) refl
+begins_sending state next old new now begins = subst (λ s. IsSome (sof_of s)) (sym begins.0) refl

@@ -1,6 +1,6 @@
 //! A node of one segment.
 
-ghost use Rattle.std.specs.Prelude.{◌≡◌, ℕ, ◌+◌, ◌<◌, true};
+ghost use Rattle.std.specs.Prelude.{◌≡◌, ℕ, ◌+◌, ◌<◌, true, IsSome};
 ghost use Rattle.can_node.specs.Counters.{StandsAfter as CountersStandAfter};
 ghost use Rattle.can_node.specs.Histories.{Past, no_past, IsHistory};
 ghost use Rattle.can_node.specs.Node.{
@@ -85,6 +85,7 @@ impl Node {
         ensures bit { bit_of self.new ≡ bit_of self.old }
         ensures stands { (past : Past) → StandsAfter self.old past
             → StandsAfter self.new (with_begin past frame) }
+        ensures sends { IsSome (sends_from self.new) }
         ensures history { (past : Past) → StandsAfter self.new past → IsHistory past }
     {
         self.spelling = Spelling::of(&frame);

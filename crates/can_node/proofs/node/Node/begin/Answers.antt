@@ -1,5 +1,5 @@
 use Rattle.std.proofs.Common.{refl}
-use Rattle.can_node.proofs.Begins.{begin_stands}
+use Rattle.can_node.proofs.Begins.{begin_stands, begins_sending}
 use Rattle.can_node.proofs.Samples.{stands_history}
 use Rattle.can_node.proofs.node.Node.begin.Goals as goal
 
@@ -8,3 +8,6 @@ returns-clause-stands c = begin_stands c.args.self.now _ c.args.frame c.requires
 
 pub returns-clause-history : goal.returns-clause-history
 returns-clause-history c = stands_history _
+
+pub returns-clause-sends : goal.returns-clause-sends
+returns-clause-sends c = begins_sending c.args.self.now.state c.begin-self.result c.args.self.now.reader c.begin-self.new.reader c.args.self.now.clock c.begin-self.ensures

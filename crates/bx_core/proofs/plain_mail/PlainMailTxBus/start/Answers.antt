@@ -1,0 +1,17 @@
+use Rattle.bx_core.proofs.BusSide.{starts-bus, starts-idle, starts-sends, starts-none, starts-keeps}
+use Rattle.bx_core.proofs.plain_mail.PlainMailTxBus.start.Goals as goal
+
+pub returns-clause-past : goal.returns-clause-past
+returns-clause-past g c = λ past b. starts-bus _ _ _ past c.keep_law.ensures.law c.start_oldest.ensures.core b
+
+pub returns-clause-idle : goal.returns-clause-idle
+returns-clause-idle g c = starts-idle _ _ _ c.start_oldest.ensures.core
+
+pub returns-clause-transmits : goal.returns-clause-transmits
+returns-clause-transmits g c = starts-sends _ _ _ c.start_oldest.ensures.core
+
+pub returns-clause-none : goal.returns-clause-none
+returns-clause-none g c = starts-none _ _ _ c.start_oldest.ensures.core
+
+pub returns-clause-stays : goal.returns-clause-stays
+returns-clause-stays g c = starts-keeps _ _ _ c.start_oldest.ensures.core c.start_oldest.ensures.short

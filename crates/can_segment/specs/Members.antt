@@ -1,0 +1,45 @@
+-- What a node does at a bit of its segment. Private clauses cite it.
+use Rattle.std.specs.Prelude.{◌≡◌, ℕ, ◌+◌, ◌<◌, ◌≤◌, Bool, true, false, not, nat_le, Option, Some, None, List, if◌then◌else◌}
+use Rattle.can_frame.specs.Frames.{FrameValue}
+use Rattle.can_node.specs.Histories.{Past, IsHistory}
+use Rattle.can_node.specs.Node.{StandsAfter, IsSample, bit_of, driven_by}
+use Rattle.can_segment.specs.declared.member.Member.{Member}
+use Rattle.can_segment.specs.declared.station.Station.{Station}
+use Rattle.can_segment.specs.Stations.{IsTalk, IsRequest}
+use Rattle.can_segment.specs.Traces.{sending_after, completed_by}
+
+-- it is on at this bit
+abbrev pub is_on : ℕ → Member → Bool
+is_on bit member = nat_le member.on bit
+
+-- a talker at the start of a bit
+pub record StartsTalking (bit : ℕ) (old new : Member) (frames : List FrameValue) : Type 0 where
+  pub off : bit < old.on → new ≡ old
+  pub on_is : new.on ≡ old.on
+  pub talks : old.on ≤ bit → IsTalk old.station new.station frames new.deed.began
+
+-- a controller at the start of a bit
+pub record StartsRequest (bit : ℕ) (old new : Member) : Type 0 where
+  pub off : bit < old.on → new ≡ old
+  pub on_is : new.on ≡ old.on
+  pub requests : old.on ≤ bit → IsRequest old.station new.station new.deed.began
+
+-- the level that it drives at a bit
+abbrev pub drives_at : ℕ → Member → Bool
+drives_at bit member = if is_on bit member then driven_by member.station.node else true
+
+-- it samples a level
+pub record SamplesOn (level : Bool) (old new : Member) : Type 0 where
+  pub began_is : new.deed.began ≡ old.deed.began
+  pub sent_is : new.deed.sent ≡ old.station.sending
+  pub stands : IsSample old.station.node level new.deed.outcome new.station.node
+  pub history : (past : Past) → StandsAfter new.station.node past → IsHistory past
+  pub sending_is : new.station.sending ≡ sending_after old.station.sending new.deed.outcome
+  pub completed_is : new.station.completed ≡ old.station.completed + completed_by new.deed.outcome
+  pub bit_is : bit_of new.station.node ≡ bit_of old.station.node + 1
+  pub reaped_is : new.deed.reaped ≡ None
+
+pub record Samples (bit : ℕ) (level : Bool) (old new : Member) : Type 0 where
+  pub off : bit < old.on → new ≡ old
+  pub on_is : new.on ≡ old.on
+  pub samples : old.on ≤ bit → SamplesOn level old new

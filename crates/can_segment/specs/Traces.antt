@@ -1,0 +1,105 @@
+-- What the nodes of a segment do, bit by bit. A trace is a list of bits; at each one every node that is on does
+-- one act.
+use Rattle.std.specs.Prelude.{ℕ, ◌+◌, Bool, true, false, Option, Some, None, List, fold, slice_get, if◌then◌else◌}
+use Rattle.can_frame.specs.Frames.{FrameValue}
+use Rattle.can_node.specs.declared.confinement.ErrorEvent.{ErrorEvent}
+use Rattle.can_node.specs.declared.outcome.Outcome.{Outcome}
+use Rattle.can_node.specs.declared.outcome.Outcome.TheVariants.{Nothing, Took, Completed, Lost, Errored, WentOff, CameBack}
+use Rattle.can_node.specs.Pairs.{Pair}
+use Rattle.can_node.specs.Histories.{Past, no_past}
+use Rattle.can_node.specs.Machine.{with_bit}
+use Rattle.can_node.specs.Node.{with_begin}
+use Rattle.can_segment.specs.declared.event.Label.{Label}
+use Rattle.can_segment.specs.declared.sent.Sent.{Sent}
+
+-- what a node does at a bit: what it begins to send, what it drives and samples, what it counts and tells, and
+-- the request that ended because its abort was asked
+pub record Act : Type 0 where
+  pub begun : Option Sent
+  pub driven : Bool
+  pub sampled : Bool
+  pub event : Option ErrorEvent
+  pub outcome : Outcome
+  pub reaped : Option Label
+
+-- one bit of a segment: the level of the line, and the act of each node, where it is on
+pub record Bit : Type 0 where
+  pub level : Bool
+  pub acts : List (Option Act)
+
+-- the past of a node that begins to send this, or nothing
+abbrev pub with_start : Past → Option Sent → Past
+with_start past None = past
+with_start past (Some sent) = with_begin past sent.frame
+
+-- the past of a node behind an act; one that is not on has done nothing
+abbrev pub with_act : Past → Option Act → Past
+with_act past None = past
+with_act past (Some act) = with_bit (with_start past act.begun) (record { driven = act.driven; sampled = act.sampled }) act.event act.outcome
+
+-- the act of a node at a bit
+abbrev pub act_of : ℕ → Bit → Option Act
+act_of k bit = act_in (slice_get bit.acts k)
+  where
+    act_in : Option (Option Act) → Option Act
+    act_in None = None
+    act_in (Some act) = act
+
+-- the past of a node that is on from this bit on
+abbrev pub past_of : ℕ → ℕ → List Bit → Past
+past_of on k trace = fold (λ past bit. with_act past (act_of k bit)) (no_past on) trace
+
+-- a transmission is over with this outcome
+abbrev pub ends_sending : Outcome → Bool
+ends_sending Nothing = false
+ends_sending (Took start frame) = false
+ends_sending Completed = true
+ends_sending Lost = true
+ends_sending (Errored kind) = true
+ends_sending WentOff = true
+ends_sending CameBack = false
+
+-- a transmission failed with this outcome
+abbrev pub is_failure : Outcome → Bool
+is_failure Nothing = false
+is_failure (Took start frame) = false
+is_failure Completed = false
+is_failure Lost = true
+is_failure (Errored kind) = true
+is_failure WentOff = true
+is_failure CameBack = false
+
+-- what a node sends when it has begun this
+abbrev pub sending_now : Option Sent → Option Sent → Option Sent
+sending_now before None = before
+sending_now before (Some sent) = Some sent
+
+-- and behind an outcome
+abbrev pub sending_after : Option Sent → Outcome → Option Sent
+sending_after sending outcome = if ends_sending outcome then None else sending
+
+-- and behind its act
+abbrev pub sending_behind : Option Sent → Option Act → Option Sent
+sending_behind before None = before
+sending_behind before (Some act) = sending_after (sending_now before act.begun) act.outcome
+
+-- what a node sends behind a trace
+abbrev pub sending_of : ℕ → List Bit → Option Sent
+sending_of k trace = fold (λ before bit. sending_behind before (act_of k bit)) None trace
+
+-- how many of its frames were completed
+abbrev pub completed_by : Outcome → ℕ
+completed_by Nothing = 0
+completed_by (Took start frame) = 0
+completed_by Completed = 1
+completed_by Lost = 0
+completed_by (Errored kind) = 0
+completed_by WentOff = 0
+completed_by CameBack = 0
+
+abbrev pub completed_in : Option Act → ℕ
+completed_in None = 0
+completed_in (Some act) = completed_by act.outcome
+
+abbrev pub completed_of : ℕ → List Bit → ℕ
+completed_of k trace = fold (λ n bit. n + completed_in (act_of k bit)) 0 trace

@@ -1,0 +1,55 @@
+//! What a segment is made of.
+
+use can_frame::Frame;
+
+/// A node that only sends and listens: no mailboxes, no filters.
+#[derive(Drop)]
+pub struct Talker {
+    /// The number of its first bit.
+    pub on: u64,
+    /// What it sends, in this order: each frame until it is completed.
+    pub frames: Vec<Frame>,
+}
+
+/// A node with transmit mailboxes and receive FIFOs, which are its port.
+#[derive(Clone, Copy)]
+pub struct Controller {
+    /// The number of its first bit.
+    pub on: u64,
+}
+
+/// A fault at a node: at this bit it samples the opposite of the level on the line. Two at one node and bit
+/// count as one.
+#[derive(Clone, Copy)]
+pub struct NodeFault {
+    /// The node's place in the order of nodes.
+    pub node: u32,
+    /// The number of the bit.
+    pub bit: u64,
+}
+
+/// A fault on the line: at this bit it has this level, true being recessive, whatever the nodes drive. Of two
+/// at one bit the later one in the list counts.
+#[derive(Clone, Copy)]
+pub struct LineFault {
+    /// The number of the bit.
+    pub bit: u64,
+    /// The level.
+    pub level: bool,
+}
+
+/// The nodes of a segment, in their order: the talkers, and then the controllers; how many bits it makes; and
+/// its faults. A fault on the line stands before faults at nodes.
+#[derive(Drop)]
+pub struct SegmentPlan {
+    /// How many bits the segment makes, from bit 0 on.
+    pub bits: u64,
+    /// The first nodes.
+    pub talkers: Vec<Talker>,
+    /// The nodes behind them.
+    pub controllers: Vec<Controller>,
+    /// Faults at nodes.
+    pub node_faults: Vec<NodeFault>,
+    /// Faults on the line.
+    pub line_faults: Vec<LineFault>,
+}
