@@ -1,1 +1,3 @@
--- Proofs of can_segment.
+pub mod Deeds
+pub mod Talks
+pub mod Controls

@@ -5,3 +5,4 @@ pub mod Runs
 pub mod Stations
 pub mod Ports
 pub mod Members
+pub mod Kept

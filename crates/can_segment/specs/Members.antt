@@ -1,10 +1,13 @@
 -- What a node does at a bit of its segment. Private clauses cite it.
-use Rattle.std.specs.Prelude.{◌≡◌, ℕ, ◌+◌, ◌<◌, ◌≤◌, Bool, true, false, not, nat_le, Option, Some, None, List, if◌then◌else◌}
+use Rattle.std.specs.Prelude.{◌≡◌, ℕ, ◌+◌, ◌<◌, ◌≤◌, Bool, true, false, not, nat_le, Option, Some, None, IfSome, List, [], if◌then◌else◌}
 use Rattle.can_frame.specs.Frames.{FrameValue}
 use Rattle.can_node.specs.Histories.{Past, IsHistory}
 use Rattle.can_node.specs.Node.{StandsAfter, IsSample, bit_of, driven_by}
+use Rattle.bx_core.specs.TxBus.{BusPast}
+use Rattle.can_segment.specs.declared.member.Deed.{Deed}
 use Rattle.can_segment.specs.declared.member.Member.{Member}
 use Rattle.can_segment.specs.declared.station.Station.{Station}
+use Rattle.can_segment.specs.Ports.{item_of, settled, taken_by, Reaps}
 use Rattle.can_segment.specs.Stations.{IsTalk, IsRequest}
 use Rattle.can_segment.specs.Traces.{sending_after, completed_by}
 
@@ -37,9 +40,26 @@ pub record SamplesOn (level : Bool) (old new : Member) : Type 0 where
   pub sending_is : new.station.sending ≡ sending_after old.station.sending new.deed.outcome
   pub completed_is : new.station.completed ≡ old.station.completed + completed_by new.deed.outcome
   pub bit_is : bit_of new.station.node ≡ bit_of old.station.node + 1
-  pub reaped_is : new.deed.reaped ≡ None
 
 pub record Samples (bit : ℕ) (level : Bool) (old new : Member) : Type 0 where
   pub off : bit < old.on → new ≡ old
   pub on_is : new.on ≡ old.on
   pub samples : old.on ≤ bit → SamplesOn level old new
+  pub reaps_none : old.on ≤ bit → new.deed.reaped ≡ None
+
+-- a controller does so, and a request that failed may have been reaped
+pub record SamplesAndSettles (bit : ℕ) (level : Bool) (old new : Member) : Type 0 where
+  pub off : bit < old.on → new ≡ old
+  pub on_is : new.on ≡ old.on
+  pub samples : old.on ≤ bit → SamplesOn level old new
+  pub reaps : old.on ≤ bit → IfSome new.deed.reaped (λ label. Reaps new.deed.sent new.deed.outcome label)
+
+-- the past of its bus side behind a bit
+abbrev pub settled_at : Bool → BusPast → Deed → BusPast
+settled_at true past deed = settled past (item_of deed.sent) deed.outcome deed.reaped
+settled_at false past deed = past
+
+-- what its sink was offered at a bit
+abbrev pub taken_at : Bool → Deed → List FrameValue
+taken_at true deed = taken_by deed.outcome
+taken_at false deed = []

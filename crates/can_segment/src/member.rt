@@ -1,12 +1,20 @@
 //! A node of a segment, from the bit on at which it is switched on.
 
-ghost use Rattle.std.specs.Prelude.{◌≡◌, ◌<◌, ◌&&◌};
+ghost use Rattle.std.specs.Prelude.{◌≡◌, ◌<◌, ◌++◌, ◌&&◌, List};
 ghost use Rattle.can_frame.specs.Frames.{FrameValue};
 ghost use Rattle.bx_core.specs.TxBus.{BusPast};
 ghost use Rattle.can_node.specs.Node.{bit_of};
-ghost use Rattle.can_segment.specs.Traces.{sending_after};
-ghost use Rattle.can_segment.specs.Ports.{item_of, started, started_item, settled, taken_by, Reaps};
-ghost use Rattle.can_segment.specs.Members.{is_on, StartsTalking, StartsRequest, Samples, drives_at};
+ghost use Rattle.can_segment.specs.Ports.{item_of, started, started_item};
+ghost use Rattle.can_segment.specs.Members.{
+  is_on,
+  StartsTalking,
+  StartsRequest,
+  Samples,
+  SamplesAndSettles,
+  settled_at,
+  taken_at,
+  drives_at,
+};
 
 use crate::event::Label;
 use crate::port::settle;
@@ -86,5 +94,33 @@ impl Member {
             outcome,
             reaped: None,
         };
+    }
+
+    /// A controller samples this level at this bit, and its port learns what became of it.
+    pub(crate) fn sample_and_settle<R, P: RxSink<R>>(
+        &mut self,
+        rt: &R,
+        bit: u64,
+        level: bool,
+        port: &mut P,
+    )
+        requires bit { bit_of self.old.station.node < u64.MAX }
+        requires room { self.old.station.completed < u64.MAX }
+        requires port { P.transmitting port.old ≡ item_of self.old.station.sending }
+        ensures member { SamplesAndSettles bit level self.old self.new }
+        ensures bus { (past : BusPast) → P.bus_after port.old past
+            → P.bus_after port.new (settled_at (is_on bit self.old) past self.new.deed) }
+        ensures transmits { P.transmitting port.new ≡ item_of self.new.station.sending }
+        ensures sink { (past : List FrameValue) → P.sink_after port.old past
+            → P.sink_after port.new (past ++ taken_at (is_on bit self.old) self.new.deed) }
+        ensures stays { P.bus_stays port.old port.new }
+    {
+        self.sample(bit, level);
+        if bit < self.on {
+            return;
+        }
+        let outcome = self.deed.outcome;
+        let sent = self.deed.sent;
+        self.deed.reaped = settle(rt, port, sent, outcome);
     }
 }

@@ -1,0 +1,70 @@
+-- What one node does at a bit makes an act of it.
+use Rattle.std.proofs.Common.{◌≡◌, ◌⊎◌, inl, inr, ℕ, ◌+◌, ◌<◌, ◌≤◌, ◌&&◌, max, Bool, true, false, Option, Some, None, List, [], ◌∷◌, ◌++◌, length, slice_get, cond, refl, sym, ap, subst, arith, ◌∙◌, length-append}
+use Rattle.std.proofs.lemmas.List.Sums.{fold-append}
+use Rattle.can_node.specs.declared.confinement.ErrorEvent.{ErrorEvent}
+use Rattle.can_node.specs.Histories.{Past, no_past, IsHistory}
+use Rattle.can_node.specs.Node.{StandsAfter, IsWanting, IsSending, bit_of, driven_by, with_begin}
+use Rattle.can_segment.specs.declared.sent.Sent.{Sent}
+use Rattle.can_segment.specs.declared.member.Deed.{Deed}
+use Rattle.can_segment.specs.declared.member.Member.{Member}
+use Rattle.can_segment.specs.Traces.{Act, Bit, act_of, with_start, with_act, past_of, sending_now, sending_after, sending_behind, sending_of, completed_by, completed_in, completed_of}
+use Rattle.can_segment.specs.Runs.{IsBegun, IsAct}
+use Rattle.can_segment.specs.Members.{SamplesOn}
+use Rattle.can_segment.specs.Kept.{no_deed, begun_by, StandsBehind}
+
+-- the lists of a node behind one more bit
+pub past_next : (on k : ℕ) (trace : List Bit) (bit : Bit) → past_of on k (trace ++ bit ∷ []) ≡ with_act (past_of on k trace) (act_of k bit)
+past_next on k trace bit = fold-append (λ past b. with_act past (act_of k b)) (no_past on) trace (bit ∷ [])
+
+pub sending_next : (k : ℕ) (trace : List Bit) (bit : Bit) → sending_of k (trace ++ bit ∷ []) ≡ sending_behind (sending_of k trace) (act_of k bit)
+sending_next k trace bit = fold-append (λ before b. sending_behind before (act_of k b)) None trace (bit ∷ [])
+
+pub completed_next : (k : ℕ) (trace : List Bit) (bit : Bit) → completed_of k (trace ++ bit ∷ []) ≡ completed_of k trace + completed_in (act_of k bit)
+completed_next k trace bit = fold-append (λ n b. n + completed_in (act_of k b)) 0 trace (bit ∷ [])
+
+-- a node that is not on stands behind one more bit as it stood
+pub stays_off : (on k : ℕ) (trace : List Bit) (bit : Bit) (member : Member) → StandsBehind on k trace member → length trace < on → act_of k bit ≡ None → StandsBehind on k (trace ++ bit ∷ []) member
+stays_off on k trace bit member h early none_there = record {
+  on_is = h.on_is;
+  stands = subst (StandsAfter member.station.node) (sym (past_next on k trace bit ∙ ap (with_act (past_of on k trace)) none_there)) h.stands;
+  sending_is = h.sending_is ∙ sym (sending_next k trace bit ∙ ap (sending_behind (sending_of k trace)) none_there);
+  completed_is = omega (arith, h.completed_is, completed_next k trace bit, ap completed_in none_there);
+  bit_is = omega (arith, h.bit_is, early, length-append trace (bit ∷ []));
+  quiet = λ still. h.quiet (omega (arith, early));
+}
+
+-- what a node makes of a bit at which it is on: the start, and the sample
+pub record Done (on k : ℕ) (trace : List Bit) (level : Bool) (mid after : Member) : Type 0 where
+  pub event : Option ErrorEvent
+  pub history : IsHistory (with_act (past_of on k trace)
+      (Some (record { begun = begun_by after.deed; driven = driven_by mid.station.node; sampled = level; event = event; outcome = after.deed.outcome; reaped = after.deed.reaped })))
+  pub stands : (bit : Bit) →
+      act_of k bit ≡ Some (record { begun = begun_by after.deed; driven = driven_by mid.station.node; sampled = level; event = event; outcome = after.deed.outcome; reaped = after.deed.reaped }) →
+      StandsBehind on k (trace ++ bit ∷ []) after
+
+pub done : (on k : ℕ) (trace : List Bit) (level : Bool) (old mid after : Member) (begun : Option Sent) → StandsBehind on k trace old → on ≤ length trace →
+    after.on ≡ on → StandsAfter mid.station.node (with_start (past_of on k trace) begun) → mid.station.sending ≡ sending_now old.station.sending begun →
+    mid.station.completed ≡ old.station.completed → bit_of mid.station.node ≡ bit_of old.station.node → begun_by after.deed ≡ begun →
+    SamplesOn level mid after → Done on k trace level mid after
+done on k trace level old mid after begun h late on_is stands sending completed bit_same begun_is s =
+    let here = s.stands in
+    let past = past_of on k trace in
+    let act : Act = record { begun = begun_by after.deed; driven = driven_by mid.station.node; sampled = level; event = here.event; outcome = after.deed.outcome; reaped = after.deed.reaped } in
+    let behind : StandsAfter after.station.node (with_act past (Some act)) = here.stands (with_start past (begun_by after.deed)) (subst (λ b. StandsAfter mid.station.node (with_start past b)) (sym begun_is) stands) in
+    record {
+      event = here.event;
+      history = s.history _ behind;
+      stands = λ bit is. record {
+        on_is = on_is;
+        stands = subst (StandsAfter after.station.node) (sym (past_next on k trace bit ∙ ap (with_act past) is)) behind;
+        sending_is = s.sending_is ∙ ap (λ x. sending_after x after.deed.outcome) (sending ∙ ap (λ x. sending_now x begun) h.sending_is ∙ ap (sending_now (sending_of k trace)) (sym begun_is))
+            ∙ sym (sending_next k trace bit ∙ ap (sending_behind (sending_of k trace)) is);
+        completed_is = omega (arith, s.completed_is, completed, h.completed_is, completed_next k trace bit, ap completed_in is);
+        bit_is = omega (arith, s.bit_is, bit_same, h.bit_is, late, length-append trace (bit ∷ []));
+        quiet = λ early. absurd (omega (arith, early, late, length-append trace (bit ∷ [])));
+      };
+    }
+
+-- what a deed began, by its two parts
+pub begun_is : (deed : Deed) (b : Bool) (sent : Option Sent) → deed.began ≡ b → deed.sent ≡ sent → begun_by deed ≡ cond b sent None
+begun_is deed b sent eb es = ap (λ c. cond c deed.sent None) eb ∙ ap (λ s. cond b s None) es
