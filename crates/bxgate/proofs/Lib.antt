@@ -1,4 +1,3 @@
-pub mod FaultLaws
-pub mod Lists
 pub mod Hexadecimal
 pub mod ReportLaws
+pub mod Endings

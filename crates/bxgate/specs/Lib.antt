@@ -1,8 +1,3 @@
-pub mod Faults
-pub mod Fields
-pub mod Frames
-pub mod EventLists
-pub mod Documents
 pub mod FrameTexts
 pub mod Reports
 pub mod Words

@@ -1,14 +1,14 @@
 -- How a run of the word `core` may end.
 use Rattle.std.specs.Prelude.{◌≡◌, ◌⊎◌, ℕ, List, Option, IfSome, Result, Ok, Err}
 use Rattle.std.specs.Io.KnownBytes.{Appends, Keeps}
-use Rattle.bxgate.specs.Faults.{Fault, UnlessMemory}
-use Rattle.bxgate.specs.EventLists.{EventListValue}
-use Rattle.bxgate.specs.Documents.{IsEventList, FirstFault}
+use Rattle.gw_script.specs.Faults.{Fault, UnlessMemory}
+use Rattle.gw_script.specs.EventLists.{EventListValue, event_list_of}
+use Rattle.gw_script.specs.Documents.{IsTextOf, FirstFault}
 use Rattle.bxgate.specs.Reports.{IsReport}
 use Rattle.bxgate.specs.declared.failure.Failure.{Failure}
 use Rattle.bxgate.specs.declared.failure.Failure.TheVariants as failure
-use Rattle.bxgate.specs.declared.script_fault.ScriptFault.{ScriptFault}
-use Rattle.bxgate.specs.declared.script_fault.ScriptFault.TheVariants as fault
+use Rattle.gw_script.specs.declared.script_fault.ScriptFault.{ScriptFault}
+use Rattle.gw_script.specs.declared.script_fault.ScriptFault.TheVariants as fault
 
 abbrev pub status_of : Failure → ℕ
 status_of (failure.Script fault.Memory) = 3
@@ -20,12 +20,12 @@ status_of failure.Write = 74
 -- the bytes are an event list, and the text is the report on it
 pub record IsAnswer (bytes text : List ℕ) : Type 0 where
   pub events : EventListValue
-  pub reads : IsEventList bytes events
+  pub reads : IsTextOf event_list_of bytes events
   pub report : IsReport events text
 
 -- the failure that comes of these bytes alone
 abbrev pub IsFailureOn : List ℕ → Failure → Type 0
-IsFailureOn bytes (failure.Script e) = UnlessMemory e (FirstFault bytes)
+IsFailureOn bytes (failure.Script e) = UnlessMemory e (FirstFault event_list_of bytes)
 IsFailureOn bytes failure.Memory = Unit {0}
 IsFailureOn bytes failure.Read = ⊥
 IsFailureOn bytes failure.Write = ⊥
@@ -37,7 +37,7 @@ Answers input old new = IfSome input (λ bytes. (text : List ℕ) × IsAnswer by
 -- by what the code answers; after a read or a write fault nothing is said of the output
 abbrev pub Ends : Option (List ℕ) → Option (List ℕ) → Option (List ℕ) → Result (Unit {0}) Failure → Type 0
 Ends input old new (Ok done) = Answers input old new
-Ends input old new (Err (failure.Script e)) = IfSome input (λ bytes. UnlessMemory e (FirstFault bytes)) × Keeps old new
+Ends input old new (Err (failure.Script e)) = IfSome input (λ bytes. UnlessMemory e (FirstFault event_list_of bytes)) × Keeps old new
 Ends input old new (Err failure.Memory) = Keeps old new
 Ends input old new (Err failure.Read) = Keeps old new
 Ends input old new (Err failure.Write) = Unit {0}
@@ -46,6 +46,6 @@ Ends input old new (Err failure.Write) = Unit {0}
 abbrev pub EndsWith : Option (List ℕ) → Option (List ℕ) → Option (List ℕ) → ℕ → Type 0
 EndsWith input old new status =
     ((status ≡ 0) × Answers input old new)
-    ⊎ ((status ≡ 2) × IfSome input (λ bytes. (f : Fault) × FirstFault bytes f) × Keeps old new)
+    ⊎ ((status ≡ 2) × IfSome input (λ bytes. (f : Fault) × FirstFault event_list_of bytes f) × Keeps old new)
     ⊎ ((status ≡ 3) × Keeps old new)
     ⊎ (status ≡ 74)

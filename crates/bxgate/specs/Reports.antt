@@ -11,7 +11,7 @@ use Rattle.bx_core.specs.declared.refused.Refused.TheVariants.{NotEmpty, NotOwne
 use Rattle.bx_core.specs.States.{State, RouteLists, opening, lists_of, waits_of}
 use Rattle.bx_core.specs.Steps.{after}
 use Rattle.bx_core.specs.Law.{left_by, run}
-use Rattle.bxgate.specs.EventLists.{EventListValue}
+use Rattle.gw_script.specs.EventLists.{EventListValue}
 use Rattle.bxgate.specs.FrameTexts.{frame_text}
 
 abbrev pub code_of : Refused → List ℕ

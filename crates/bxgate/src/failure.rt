@@ -3,7 +3,7 @@
 ghost use Rattle.std.specs.Prelude.{◌≡◌};
 ghost use Rattle.bxgate.specs.Outcomes.{status_of};
 
-use crate::script_fault::ScriptFault;
+use gw_script::ScriptFault;
 use thiserror::Error;
 
 /// Why a run ends without its report; its text is the line on standard error, after `bxgate: `.

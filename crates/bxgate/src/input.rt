@@ -1,8 +1,9 @@
 //! The whole input, up to a bound.
 
 ghost use Rattle.std.specs.Prelude.{◌≡◌, ◌≤◌, ◌<◌, length, IfOk, IfSome, IfErr, vec_len};
-ghost use Rattle.bxgate.specs.Documents.{greatest_length};
+ghost use Rattle.gw_script.specs.Documents.{greatest_length};
 
+use gw_script::LIMIT;
 use std::alloc::Global;
 use std::io::{ErrorKind, Read};
 
@@ -16,9 +17,6 @@ pub enum InputFault {
     /// A read failed, or `READS` of them brought no end.
     Read,
 }
-
-/// The greatest number of bytes that is read.
-pub const LIMIT: usize = 16_777_216;
 
 /// A reader that gives nothing but interruptions is given up after so many calls.
 const READS: u32 = 33_554_432;

@@ -2,15 +2,11 @@
 #![tactic(auto)]
 
 mod command;
-mod event_list;
 mod failure;
-mod fields;
 mod frame_text;
-mod frames;
 mod input;
 mod program;
 mod report;
-mod script_fault;
 
 use crate::program::{refused_arguments, tool};
 use std::io;

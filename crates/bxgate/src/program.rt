@@ -8,12 +8,11 @@ ghost use Rattle.clap.specs.Words.{kind_of};
 ghost use Rattle.bxgate.specs.Outcomes.{IsAnswer, IsFailureOn, Ends, EndsWith};
 
 use crate::command::{Task, matches_of, task_of};
-use crate::event_list::read_core;
 use crate::failure::Failure;
 use crate::input::{InputFault, read_input};
 use crate::report::report_of;
-use crate::script_fault::ScriptFault;
 use clap::error::ErrorKind;
+use gw_script::{ScriptFault, read_core};
 use std::alloc::Global;
 use std::convert::AsStr;
 use std::io;

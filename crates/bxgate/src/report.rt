@@ -5,13 +5,13 @@ ghost use Rattle.bx_core.specs.Lists.{Each};
 ghost use Rattle.bx_core.specs.States.{opening, lists_of, waits_of};
 ghost use Rattle.bx_core.specs.Steps.{InRoutes, InRange, after};
 ghost use Rattle.bx_core.specs.Law.{run, left_by};
-ghost use Rattle.bxgate.specs.EventLists.{list_view};
+ghost use Rattle.gw_script.specs.EventLists.{list_view};
 ghost use Rattle.bxgate.specs.Reports.{code_of, digit, AppendsWire, AppendsDone, AppendsDones, AppendsRoute, AppendsRoutes, refused_line, refused_lines, IsReport};
 
-use crate::event_list::EventList;
 use crate::frame_text::push_frame;
 use bx_core::{Core, Entry, Event, Refused};
 use can_frame::{Frame, wire};
+use gw_script::EventList;
 use std::alloc::{AllocError, Global};
 
 fn code_of(why: Refused) -> &'static str

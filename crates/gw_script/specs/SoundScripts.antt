@@ -1,0 +1,50 @@
+-- What holds of every script that is read: its ranges, and that each place which it names is there.
+use Rattle.std.specs.Prelude.{ℕ, ◌<◌, ◌≤◌, List, length}
+use Rattle.bx_core.specs.Lists.{Each}
+use Rattle.gw_script.specs.declared.planned_fault.PlannedFault.{PlannedFault}
+use Rattle.gw_script.specs.declared.planned_fault.PlannedFault.TheVariants.{AtNode, OnLine}
+use Rattle.gw_script.specs.declared.planned_abort.PlannedAbort.{PlannedAbort}
+use Rattle.gw_script.specs.Talkers.{TalkerValue}
+use Rattle.gw_script.specs.Segments.{SegmentValue}
+use Rattle.gw_script.specs.Controllers.{ControllerValue}
+use Rattle.gw_script.specs.Routes.{RouteValue}
+use Rattle.gw_script.specs.Scripts.{ScriptValue}
+
+-- it is switched on within the run
+abbrev pub IsTalkerIn : ℕ → TalkerValue → Type 0
+IsTalkerIn bits t = t.on < bits
+
+abbrev pub IsSegmentIn : ℕ → SegmentValue → Type 0
+IsSegmentIn bits s = Each (IsTalkerIn bits) s.talkers
+
+-- it is switched on within the run, and its segment is there
+abbrev pub IsControllerIn : ℕ → List SegmentValue → ControllerValue → Type 0
+IsControllerIn bits segments c = (c.on < bits) × (c.segment < length segments)
+
+-- its controllers are there, and there are two FIFOs
+abbrev pub IsRouteIn : List ControllerValue → RouteValue → Type 0
+IsRouteIn controllers r = (r.source < length controllers) × (r.fifo ≤ 1) × (r.target < length controllers)
+
+-- its segment is there, and its bit within the run
+abbrev pub IsFaultIn : ℕ → List SegmentValue → PlannedFault → Type 0
+IsFaultIn bits segments (AtNode node bit) = (node.segment < length segments) × (bit < bits)
+IsFaultIn bits segments (OnLine segment bit level) = (segment < length segments) × (bit < bits)
+
+-- its route is there, and numbers and turns are counted from 1
+abbrev pub IsAbortIn : List RouteValue → PlannedAbort → Type 0
+IsAbortIn routes a = (a.route < length routes) × (1 ≤ a.number) × (a.number ≤ 16777215) × (1 ≤ a.turn) × (a.turn ≤ 1000000)
+
+pub record IsSound (s : ScriptValue) : Type 0 where
+  pub some_bits : 1 ≤ s.bits
+  pub few_bits : s.bits ≤ 1000000
+  pub some_segments : 1 ≤ length s.segments
+  pub few_segments : length s.segments ≤ 8
+  pub few_controllers : length s.controllers ≤ 16
+  pub few_routes : length s.routes ≤ 16
+  pub few_faults : length s.faults ≤ 10000
+  pub few_aborts : length s.aborts ≤ 1000
+  pub segments : Each (IsSegmentIn s.bits) s.segments
+  pub controllers : Each (IsControllerIn s.bits s.segments) s.controllers
+  pub routes : Each (IsRouteIn s.controllers) s.routes
+  pub faults : Each (IsFaultIn s.bits s.segments) s.faults
+  pub aborts : Each (IsAbortIn s.routes) s.aborts
