@@ -160,7 +160,12 @@ fn a_dominant_third_bit_of_intermission_is_sof(rt: HostRuntime) -> Result<(), Fa
         inverted: &[],
         dominant: Some(63),
     };
+    let mut early = Station::new('t', 0, frame(), 2);
+    run(&mut log, &mut early, &mut listener(0), 70, &faults)?;
+    assert_eq!(rt; early.node.sends_from(), Some(63));
+    let mut log = Vec::new(rt.alloc());
     run(&mut log, &mut talker, &mut listener(0), 113, &faults)?;
+    assert_eq!(rt; talker.node.sends_from(), None);
     assert_eq!(rt;
         log.as_slice(),
         [
