@@ -1,11 +1,10 @@
 -- A controller's bit is an act by the rules of a controller.
-use Rattle.std.proofs.Common.{◌≡◌, ℕ, ◌≤◌, Bool, true, false, IfSome, IsSome, Option, Some, None, List, length, refl, sym, ap, subst, arith, ◌∙◌, cond}
-use Rattle.can_node.specs.Histories.{Past}
-use Rattle.can_node.specs.Node.{StandsAfter, IsWanting, bit_of}
+use Rattle.std.proofs.Common.{◌≡◌, ℕ, ◌≤◌, Bool, true, false, IfSome, IsSome, Option, Some, None, List, length, refl, sym, ap, subst, arith, ◌∙◌}
+use Rattle.can_node.specs.Node.{StandsAfter, bit_of}
 use Rattle.can_segment.specs.declared.event.Label.{Label}
 use Rattle.can_segment.specs.declared.sent.Sent.{Sent}
 use Rattle.can_segment.specs.declared.member.Member.{Member}
-use Rattle.can_segment.specs.Traces.{Bit, past_of, sending_now, sending_of, is_failure}
+use Rattle.can_segment.specs.Traces.{Bit, past_of, sending_now, sending_of}
 use Rattle.can_segment.specs.Runs.{IsBegun}
 use Rattle.can_segment.specs.Ports.{Reaps}
 use Rattle.can_segment.specs.Stations.{IsRequest}

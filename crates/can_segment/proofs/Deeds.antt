@@ -1,16 +1,15 @@
 -- What one node does at a bit makes an act of it.
-use Rattle.std.proofs.Common.{◌≡◌, ◌⊎◌, inl, inr, ℕ, ◌+◌, ◌<◌, ◌≤◌, ◌&&◌, max, Bool, true, false, Option, Some, None, List, [], ◌∷◌, ◌++◌, length, slice_get, cond, refl, sym, ap, subst, arith, ◌∙◌, length-append}
+use Rattle.std.proofs.Common.{◌≡◌, ℕ, ◌+◌, ◌<◌, ◌≤◌, Bool, Option, Some, None, List, [], ◌∷◌, ◌++◌, length, cond, sym, ap, subst, arith, ◌∙◌, length-append}
 use Rattle.std.proofs.lemmas.List.Sums.{fold-append}
 use Rattle.can_node.specs.declared.confinement.ErrorEvent.{ErrorEvent}
-use Rattle.can_node.specs.Histories.{Past, no_past, IsHistory}
-use Rattle.can_node.specs.Node.{StandsAfter, IsWanting, IsSending, bit_of, driven_by, with_begin}
+use Rattle.can_node.specs.Histories.{no_past, IsHistory}
+use Rattle.can_node.specs.Node.{StandsAfter, bit_of, driven_by}
 use Rattle.can_segment.specs.declared.sent.Sent.{Sent}
 use Rattle.can_segment.specs.declared.member.Deed.{Deed}
 use Rattle.can_segment.specs.declared.member.Member.{Member}
-use Rattle.can_segment.specs.Traces.{Act, Bit, act_of, with_start, with_act, past_of, sending_now, sending_after, sending_behind, sending_of, completed_by, completed_in, completed_of}
-use Rattle.can_segment.specs.Runs.{IsBegun, IsAct}
+use Rattle.can_segment.specs.Traces.{Act, Bit, act_of, with_start, with_act, past_of, sending_now, sending_after, sending_behind, sending_of, completed_in, completed_of}
 use Rattle.can_segment.specs.Members.{SamplesOn}
-use Rattle.can_segment.specs.Kept.{no_deed, begun_by, StandsBehind}
+use Rattle.can_segment.specs.Kept.{begun_by, StandsBehind}
 
 -- the lists of a node behind one more bit
 pub past_next : (on k : ℕ) (trace : List Bit) (bit : Bit) → past_of on k (trace ++ bit ∷ []) ≡ with_act (past_of on k trace) (act_of k bit)
@@ -36,6 +35,7 @@ stays_off on k trace bit member h early none_there = record {
 -- what a node makes of a bit at which it is on: the start, and the sample
 pub record Done (on k : ℕ) (trace : List Bit) (level : Bool) (mid after : Member) : Type 0 where
   pub event : Option ErrorEvent
+  pub sent_is : after.deed.sent ≡ sending_now (sending_of k trace) (begun_by after.deed)
   pub history : IsHistory (with_act (past_of on k trace)
       (Some (record { begun = begun_by after.deed; driven = driven_by mid.station.node; sampled = level; event = event; outcome = after.deed.outcome; reaped = after.deed.reaped })))
   pub stands : (bit : Bit) →
@@ -53,6 +53,7 @@ done on k trace level old mid after begun h late on_is stands sending completed 
     let behind : StandsAfter after.station.node (with_act past (Some act)) = here.stands (with_start past (begun_by after.deed)) (subst (λ b. StandsAfter mid.station.node (with_start past b)) (sym begun_is) stands) in
     record {
       event = here.event;
+      sent_is = s.sent_is ∙ sending ∙ ap (λ x. sending_now x begun) h.sending_is ∙ ap (sending_now (sending_of k trace)) (sym begun_is);
       history = s.history _ behind;
       stands = λ bit is. record {
         on_is = on_is;

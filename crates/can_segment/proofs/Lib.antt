@@ -1,3 +1,9 @@
 pub mod Deeds
 pub mod Talks
 pub mod Controls
+pub mod Places
+pub mod Acts
+pub mod Tellings
+pub mod Collects
+pub mod NextBits
+pub mod Makes

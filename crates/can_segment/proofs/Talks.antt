@@ -1,14 +1,12 @@
 -- A talker's bit is an act by the rules of a talker.
 use Rattle.std.proofs.Common.{◌≡◌, ℕ, ◌≤◌, ◌&&◌, Bool, true, false, is_some, option_map, Option, Some, None, List, length, slice_get, refl, sym, ap, subst, arith, ◌∙◌, cond}
 use Rattle.can_frame.specs.Frames.{FrameValue}
-use Rattle.can_node.specs.Histories.{Past}
-use Rattle.can_node.specs.Node.{StandsAfter, IsWanting, IsSending, bit_of, with_begin}
+use Rattle.can_node.specs.Node.{StandsAfter, IsWanting, bit_of}
 use Rattle.can_segment.specs.declared.sent.Sent.{Sent}
 use Rattle.can_segment.specs.declared.member.Member.{Member}
-use Rattle.can_segment.specs.declared.station.Station.{Station}
-use Rattle.can_segment.specs.Traces.{Bit, with_start, past_of, sending_now, completed_of}
+use Rattle.can_segment.specs.Traces.{Bit, past_of, completed_of}
 use Rattle.can_segment.specs.Runs.{IsBegun}
-use Rattle.can_segment.specs.Stations.{IsStart, IsTalk}
+use Rattle.can_segment.specs.Stations.{IsTalk}
 use Rattle.can_segment.specs.Members.{StartsTalking, Samples}
 use Rattle.can_segment.specs.Kept.{begun_by, StandsBehind}
 use Rattle.can_segment.proofs.Deeds.{Done, done, begun_is}

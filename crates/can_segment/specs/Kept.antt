@@ -1,10 +1,12 @@
 -- How the nodes of a segment agree with the trace behind which they stand. Private clauses cite it.
-use Rattle.std.specs.Prelude.{◌≡◌, ℕ, ◌+◌, ◌≤◌, max, Bool, false, Option, Some, None, List, ◌∷◌, ◌++◌, [], length, if◌then◌else◌}
-use Rattle.can_frame.specs.Frames.{FrameValue}
+use Rattle.std.specs.Prelude.{◌≡◌, ℕ, ◌+◌, ◌≤◌, max, false, Option, Some, None, List, length, slice_get, if◌then◌else◌}
 use Rattle.can_node.specs.declared.outcome.Outcome.TheVariants.{Nothing}
 use Rattle.can_node.specs.Node.{StandsAfter, bit_of}
 use Rattle.can_segment.specs.declared.member.Deed.{Deed}
 use Rattle.can_segment.specs.declared.member.Member.{Member}
+use Rattle.can_segment.specs.declared.plan.Talker.{Talker}
+use Rattle.can_segment.specs.declared.plan.Controller.{Controller}
+use Rattle.can_segment.specs.declared.plan.SegmentPlan.{SegmentPlan}
 use Rattle.can_segment.specs.declared.sent.Sent.{Sent}
 use Rattle.can_segment.specs.Traces.{Bit, past_of, sending_of, completed_of}
 
@@ -24,3 +26,11 @@ pub record StandsBehind (on k : ℕ) (trace : List Bit) (member : Member) : Type
   pub completed_is : member.station.completed ≡ completed_of k trace
   pub bit_is : bit_of member.station.node ≡ max on (length trace)
   pub quiet : length trace ≤ on → member.deed ≡ no_deed
+
+-- all nodes of a plan stand behind the trace
+pub record SegmentStands (plan : SegmentPlan) (trace : List Bit) (talkers controllers : List Member) : Type 0 where
+  pub talkers_size : length talkers ≡ length plan.talkers.items
+  pub controllers_size : length controllers ≡ length plan.controllers.items
+  pub talkers_stand : (k : ℕ) (talker : Talker) (member : Member) → slice_get plan.talkers.items k ≡ Some talker → slice_get talkers k ≡ Some member → StandsBehind talker.on k trace member
+  pub controllers_stand : (k : ℕ) (controller : Controller) (member : Member) → slice_get plan.controllers.items k ≡ Some controller → slice_get controllers k ≡ Some member →
+      StandsBehind controller.on (length plan.talkers.items + k) trace member

@@ -6,3 +6,5 @@ pub mod Stations
 pub mod Ports
 pub mod Members
 pub mod Kept
+pub mod Places
+pub mod Tellings

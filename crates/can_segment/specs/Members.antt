@@ -1,13 +1,15 @@
 -- What a node does at a bit of its segment. Private clauses cite it.
-use Rattle.std.specs.Prelude.{◌≡◌, ℕ, ◌+◌, ◌<◌, ◌≤◌, Bool, true, false, not, nat_le, Option, Some, None, IfSome, List, [], if◌then◌else◌}
+use Rattle.std.specs.Prelude.{◌≡◌, ℕ, ◌+◌, ◌<◌, ◌≤◌, Bool, true, false, nat_le, Option, Some, None, IfSome, List, [], ◌++◌, slice_get, ◌&&◌, if◌then◌else◌}
 use Rattle.can_frame.specs.Frames.{FrameValue}
 use Rattle.can_node.specs.Histories.{Past, IsHistory}
 use Rattle.can_node.specs.Node.{StandsAfter, IsSample, bit_of, driven_by}
-use Rattle.bx_core.specs.TxBus.{BusPast}
+use Rattle.bx_core.specs.TxBus.{Item, BusPast}
 use Rattle.can_segment.specs.declared.member.Deed.{Deed}
 use Rattle.can_segment.specs.declared.member.Member.{Member}
-use Rattle.can_segment.specs.declared.station.Station.{Station}
-use Rattle.can_segment.specs.Ports.{item_of, settled, taken_by, Reaps}
+use Rattle.can_segment.specs.declared.plan.NodeFault.{NodeFault}
+use Rattle.can_segment.specs.declared.plan.Talker.{Talker}
+use Rattle.can_segment.specs.Faults.{sampled_level}
+use Rattle.can_segment.specs.Ports.{item_of, started, started_item, settled, taken_by, Reaps}
 use Rattle.can_segment.specs.Stations.{IsTalk, IsRequest}
 use Rattle.can_segment.specs.Traces.{sending_after, completed_by}
 
@@ -63,3 +65,27 @@ settled_at false past deed = past
 abbrev pub taken_at : Bool → Deed → List FrameValue
 taken_at true deed = taken_by deed.outcome
 taken_at false deed = []
+
+-- what each talker does at the start of a bit
+abbrev pub TalkerStarts : ℕ → List Talker → ℕ → Member → Member → Type 0
+TalkerStarts bit talkers k old new = (talker : Talker) → slice_get talkers k ≡ Some talker → StartsTalking bit old new talker.frames.items
+
+-- each node from this one on samples what its faults make of the level of the line
+abbrev pub TalkerSamples : ℕ → Bool → List NodeFault → ℕ → Member → Member → Type 0
+TalkerSamples bit level faults k old new = Samples bit (sampled_level faults k bit level) old new
+
+-- what each controller and its port do at the start of a bit
+pub record PortStarts {P : Type 0} (after : P → BusPast → Type 0) (transmitting : P → Option Item) (stays : P → P → Type 0) (bit : ℕ) (old new : Member) (from to : P) : Type 0 where
+  pub member : StartsRequest bit old new
+  pub bus : (past : BusPast) → after from past → after to (started past (started_item (is_on bit new && new.deed.began) new.station.sending))
+  pub transmits : transmitting to ≡ item_of new.station.sending
+  pub stays_on : stays from to
+
+-- and behind it
+pub record PortSettles {P : Type 0} (after : P → BusPast → Type 0) (transmitting : P → Option Item) (sink : P → List FrameValue → Type 0) (stays : P → P → Type 0)
+    (bit : ℕ) (level : Bool) (old new : Member) (from to : P) : Type 0 where
+  pub member : SamplesAndSettles bit level old new
+  pub bus : (past : BusPast) → after from past → after to (settled_at (is_on bit old) past new.deed)
+  pub transmits : transmitting to ≡ item_of new.station.sending
+  pub offers : (past : List FrameValue) → sink from past → sink to (past ++ taken_at (is_on bit old) new.deed)
+  pub stays_on : stays from to

@@ -1,5 +1,5 @@
 -- What the nodes of a segment bring to their ports.
-use Rattle.std.specs.Prelude.{◌≡◌, ℕ, Bool, true, false, Option, Some, None, List, [], ◌∷◌, option_map, if◌then◌else◌}
+use Rattle.std.specs.Prelude.{◌≡◌, ℕ, Bool, true, Option, Some, None, List, [], ◌∷◌, option_map, if◌then◌else◌}
 use Rattle.can_frame.specs.Frames.{FrameValue}
 use Rattle.can_node.specs.declared.outcome.Outcome.{Outcome}
 use Rattle.can_node.specs.declared.outcome.Outcome.TheVariants.{Nothing, Took, Completed, Lost, Errored, WentOff, CameBack}

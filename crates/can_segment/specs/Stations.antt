@@ -4,7 +4,6 @@ use Rattle.can_frame.specs.Frames.{FrameValue}
 use Rattle.can_node.specs.Histories.{Past}
 use Rattle.can_node.specs.Node.{StandsAfter, IsSending, IsWanting, bit_of, with_begin}
 use Rattle.can_segment.specs.declared.event.Label.{Label}
-use Rattle.can_segment.specs.declared.sent.Sent.{Sent}
 use Rattle.can_segment.specs.declared.station.Station.{Station}
 
 -- it begins to send this frame of this request

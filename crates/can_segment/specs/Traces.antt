@@ -1,11 +1,9 @@
 -- What the nodes of a segment do, bit by bit. A trace is a list of bits; at each one every node that is on does
 -- one act.
 use Rattle.std.specs.Prelude.{ℕ, ◌+◌, Bool, true, false, Option, Some, None, List, fold, slice_get, if◌then◌else◌}
-use Rattle.can_frame.specs.Frames.{FrameValue}
 use Rattle.can_node.specs.declared.confinement.ErrorEvent.{ErrorEvent}
 use Rattle.can_node.specs.declared.outcome.Outcome.{Outcome}
 use Rattle.can_node.specs.declared.outcome.Outcome.TheVariants.{Nothing, Took, Completed, Lost, Errored, WentOff, CameBack}
-use Rattle.can_node.specs.Pairs.{Pair}
 use Rattle.can_node.specs.Histories.{Past, no_past}
 use Rattle.can_node.specs.Machine.{with_bit}
 use Rattle.can_node.specs.Node.{with_begin}

@@ -1,7 +1,7 @@
 //! Faults of a line and of the nodes on it.
 
 ghost use Rattle.std.specs.Prelude.{◌≡◌, Bool, true, false};
-ghost use Rattle.can_segment.specs.Faults.{line_level, is_inverted};
+ghost use Rattle.can_segment.specs.Faults.{line_level, is_inverted, sampled_level};
 
 use crate::plan::{LineFault, NodeFault};
 
@@ -26,4 +26,14 @@ pub(crate) fn is_inverted(faults: &[NodeFault], node: u32, bit: u64) -> bool
     faults
         .iter()
         .any(|fault| fault.node == node && fault.bit == bit)
+}
+
+/// What a node samples at a bit at which the line has this level.
+pub(crate) fn sampled_level(faults: &[NodeFault], node: u32, bit: u64, level: bool) -> bool
+    ensures { result ≡ sampled_level faults.now node bit level }
+{
+    if is_inverted(faults, node, bit) {
+        return !level;
+    }
+    level
 }

@@ -4,6 +4,7 @@
 mod event;
 mod faults;
 mod member;
+mod members;
 mod plan;
 mod port;
 mod record;
@@ -11,6 +12,7 @@ mod rx_sink;
 mod seg_fault;
 mod sent;
 mod station;
+mod tell;
 
 pub use crate::event::{Event, Label, Told};
 pub use crate::plan::{Controller, LineFault, NodeFault, SegmentPlan, Talker};

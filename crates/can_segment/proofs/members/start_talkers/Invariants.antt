@@ -1,0 +1,6 @@
+use Rattle.can_segment.specs.Members.{TalkerStarts}
+use Rattle.can_segment.specs.Places.{AtPlacesBelow}
+use Rattle.can_segment.proofs.members.start_talkers.Given as goal
+
+abbrev pub invariant-loop-place : goal.invariant-loop-place
+invariant-loop-place l = AtPlacesBelow (TalkerStarts l.bit l.talkers) l.initial.members l.members l.place

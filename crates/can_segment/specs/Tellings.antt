@@ -1,0 +1,20 @@
+-- What the nodes' deeds at a bit tell, one node after another. Private clauses cite it.
+use Rattle.std.specs.Prelude.{ℕ, ◌+◌, List, [], ◌∷◌, ◌++◌}
+use Rattle.can_segment.specs.declared.event.Event.{Event}
+use Rattle.can_segment.specs.declared.event.Told.{Told}
+use Rattle.can_segment.specs.declared.member.Deed.{Deed}
+use Rattle.can_segment.specs.declared.member.Member.{Member}
+use Rattle.can_segment.specs.Tells.{told_start, told_outcome, told_reaped, lines}
+use Rattle.can_segment.specs.Kept.{begun_by}
+
+-- what started, and the rest
+abbrev pub start_of : Deed → List Told
+start_of deed = told_start (begun_by deed)
+
+abbrev pub rest_by : Deed → List Told
+rest_by deed = told_outcome deed.sent deed.outcome ++ told_reaped deed.reaped
+
+-- the lines of these nodes, the first of which has this number
+unfoldable pub told_by : (Deed → List Told) → ℕ → ℕ → List Member → List Event
+told_by tells bit node [] = []
+told_by tells bit node (member ∷ more) = lines bit node (tells member.deed) ++ told_by tells bit (node + 1) more

@@ -1,0 +1,32 @@
+use Rattle.std.proofs.Common.{◌≡◌, sym, subst}
+use Rattle.gw_route.specs.RouteHand.{HandValue, hand_value, LogMatches, LogsReleased, IsLinked}
+use Rattle.gw_route.specs.Turn.{counted}
+use Rattle.gw_route.proofs.Matches.{matches-counted}
+use Rattle.gw_route.proofs.Turns.{turned-matches, turned-logs}
+use Rattle.gw_route.proofs.route_hand.RouteHand.turn.Goals as goal
+
+pub returns-clause-keeps : goal.returns-clause-keeps
+returns-clause-keeps g c past next made l = turned-matches _ _ past next _ made (matches-counted (hand_value c.args.self.now) past l)
+
+pub returns-clause-log : goal.returns-clause-log
+returns-clause-log g c logs =
+    let t = c.requires.linked in
+    let old : HandValue = hand_value c.args.self.now in
+    let released = c.reserve.ensures.items in
+    let aborted = c.reserve-2.ensures.items in
+    let value = c.count.ensures.value in
+    let same : hand_value c.count.new.self ≡ counted old = cc in
+    let made = c.act.ensures.turned t.0 t.1 (subst (λ (v : HandValue). LogMatches v t.0) (sym same) (matches-counted old t.0 t.2)) in
+    turned-logs _ _ _ _ _ made.2 (subst LogsReleased (sym same) logs)
+
+pub returns-clause-linked : goal.returns-clause-linked
+returns-clause-linked g c =
+    let t = c.requires.linked in
+    let old : HandValue = hand_value c.args.self.now in
+    let released = c.reserve.ensures.items in
+    let aborted = c.reserve-2.ensures.items in
+    let value = c.count.ensures.value in
+    let same : hand_value c.count.new.self ≡ counted old = cc in
+    let match = subst (λ (v : HandValue). LogMatches v t.0) (sym same) (matches-counted old t.0 t.2) in
+    let made = c.act.ensures.turned t.0 t.1 match in
+    (made.0, made.1, turned-matches _ _ _ _ _ made.2 match)

@@ -1,0 +1,2 @@
+pub mod RouteHand
+pub mod Turn

@@ -1,0 +1,72 @@
+-- A route's hand, between a receive FIFO and the transmit mailboxes of two controllers (RM0008, bxCAN,
+-- "Reception handling" and "Transmission handling").
+use Rattle.std.specs.Prelude.{◌≡◌, ℕ, ◌+◌, ◌≤◌, List, [], ◌∷◌, ◌++◌, length, map, option_to_list}
+use Rattle.can_frame.specs.Frames.{FrameValue}
+use Rattle.bx_core.specs.declared.entry.Entry.{Entry}
+use Rattle.bx_core.specs.Lists.{Has}
+use Rattle.bx_core.specs.States.{numbers}
+use Rattle.bx_core.specs.Steps.{greatest_number}
+use Rattle.bx_core.specs.RouteTx.{RoutePast}
+use Rattle.bx_rx.specs.RxOut.{Outlet}
+use Rattle.bx_rx.specs.declared.rx_frame.RxFrame.{RxFrame}
+use Rattle.gw_route.specs.declared.planned_abort.PlannedAbort.{PlannedAbort}
+use Rattle.gw_route.specs.declared.route_hand.RouteHand.{RouteHand}
+
+-- what a hand holds
+pub record HandValue : Type 0 where
+  -- the FIFO, and what it released
+  pub out : Outlet
+  -- the frame in the hand, or none
+  pub in_hand : List Entry
+  -- the number that was given out last
+  pub tickets : ℕ
+  pub turns : ℕ
+  -- the aborts still to do
+  pub aborts : List PlannedAbort
+  -- the log: the frames that were released, and the numbers that were aborted
+  pub released : List FrameValue
+  pub aborted : List ℕ
+
+abbrev pub hand_value : RouteHand → HandValue
+hand_value h = record {
+  out = h.out;
+  in_hand = option_to_list h.hand;
+  tickets = h.tickets;
+  turns = h.turns;
+  aborts = h.aborts.items;
+  released = h.log.released.items;
+  aborted = h.log.aborted.items;
+}
+
+-- a hand that made no turn
+abbrev pub new_hand : Outlet → List PlannedAbort → HandValue
+new_hand out aborts = record { out = out; in_hand = []; tickets = 0; turns = 0; aborts = aborts; released = []; aborted = [] }
+
+-- the frames among what a FIFO released
+abbrev pub frames_of : List RxFrame → List FrameValue
+frames_of = map (λ (x : RxFrame). x.frame)
+
+-- the log's frames are what the FIFO released, in order
+abbrev pub LogsReleased : HandValue → Type 0
+LogsReleased h = h.released ≡ frames_of h.out.released
+
+-- frames with their numbers, which go up by one from the first
+abbrev pub numbered : ℕ → List FrameValue → List Entry
+numbered number [] = []
+numbered number (f ∷ fs) = record { number = number; frame = f } ∷ numbered (number + 1) fs
+
+-- The link between a hand and what its route's side of the mailboxes did.
+pub record LogMatches (h : HandValue) (past : RoutePast) : Type 0 where
+  -- requested is the log's frames with their numbers, but for the frame in the hand
+  pub log : past.requested ++ h.in_hand ≡ numbered 1 h.released
+  pub one_hand : length h.in_hand ≤ 1
+  pub tickets_is : h.tickets ≡ length h.released
+  pub limit : length past.requested ≤ greatest_number
+  -- the log's aborted numbers hold those answered Ended and Asked, and all of them were requested
+  pub ended : (n : ℕ) → Has past.aborted n → Has h.aborted n
+  pub asked : (n : ℕ) → Has past.asked n → Has h.aborted n
+  pub known : (n : ℕ) → Has h.aborted n → Has (numbers past.requested) n
+
+-- the route's side may have done something that the hand matches
+abbrev pub IsLinked : (RoutePast → Type 0) → HandValue → Type 0
+IsLinked after h = (past : RoutePast) × (after past) × LogMatches h past

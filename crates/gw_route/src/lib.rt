@@ -1,0 +1,15 @@
+//! A route's turns, from a receive FIFO to the transmit mailboxes.
+#![tactic(auto)]
+
+mod log;
+mod planned_abort;
+mod route_hand;
+mod turn_answer;
+
+pub use crate::log::Log;
+pub use crate::planned_abort::PlannedAbort;
+pub use crate::route_hand::RouteHand;
+pub use crate::turn_answer::TurnAnswer;
+
+#[cfg(test)]
+mod tests;

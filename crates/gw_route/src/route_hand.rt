@@ -1,0 +1,263 @@
+//! A route's hand.
+ghost use Rattle.std.specs.Prelude.{◌≡◌, ℕ, ◌+◌, ◌<◌, ◌≤◌, ◌↔◌, Bool, List, [], ◌∷◌, ◌++◌, Option, Some, None, Result, IfOk, OnErr, IfSome, IfNone, IsErr, IsTrue, MatchOption, vec_len, vec_capacity, slice_get};
+ghost use Rattle.bx_core.specs.declared.answer.Sent.{Sent};
+ghost use Rattle.bx_core.specs.declared.answer.AbortAnswer.{AbortAnswer};
+ghost use Rattle.bx_core.specs.declared.answer.NumberTooLarge.{NumberTooLarge};
+ghost use Rattle.bx_core.specs.Steps.{greatest_number};
+ghost use Rattle.bx_core.specs.RouteTx.{RoutePast, no_route_past, after_request, after_abort};
+ghost use Rattle.bx_rx.specs.RxOut.{IsReleased};
+ghost use Rattle.gw_route.specs.RouteHand.{hand_value, new_hand, LogMatches, LogsReleased, IsLinked};
+ghost use Rattle.gw_route.specs.Turn.{counted, IsDueByCount, first_abort, taken, Filled, if_requested, requested_answer, logged, if_aborted, aborted_answer, Acted, TurnMade, TurnKeeps};
+
+use crate::log::Log;
+use crate::planned_abort::PlannedAbort;
+use crate::turn_answer::TurnAnswer;
+use bx_core::{AbortAnswer, Entry, Gate, NumberTooLarge, RouteTx, Sent};
+use bx_rx::{Memory, RxOut};
+use can_frame::Frame;
+use std::alloc::Global;
+use std::sync::Wait;
+
+/// The hand of a route: it takes frames out of a receive FIFO and requests their transmission.
+#[derive(Drop)]
+pub struct RouteHand {
+    /// Where the FIFO's frames come out.
+    pub out: RxOut,
+    /// The frame in the hand, which was released and not requested yet.
+    pub hand: Option<Entry>,
+    /// The number that was given out last, or 0.
+    pub tickets: u32,
+    /// How many turns were made. It stays at 1,000,000.
+    pub turns: u32,
+    /// The aborts still to do, in order.
+    pub aborts: Vec<PlannedAbort>,
+    /// What was done.
+    pub log: Log,
+}
+
+impl RouteHand {
+    /// A hand that made no turn. Takes no memory.
+    pub fn new(alloc: Global, out: RxOut, aborts: Vec<PlannedAbort>) -> RouteHand
+        ensures made { hand_value result ≡ new_hand out aborts.items }
+        ensures linked { LogMatches (hand_value result) no_route_past }
+    {
+        RouteHand {
+            out,
+            hand: None,
+            tickets: 0,
+            turns: 0,
+            aborts,
+            log: Log {
+                released: Vec::new(alloc),
+                aborted: Vec::new(alloc),
+            },
+        }
+    }
+
+    /// One turn, which makes one call on `tx` at most. The first abort is made where it is due: the
+    /// count of turns, this one included, has reached its `turn`, and its number was requested. Else
+    /// the frame in the hand is requested, or, where the hand is empty, the next one of the FIFO. May
+    /// wait while the other side of the FIFO is in the middle of an offer, or where a call on `tx` may.
+    ///
+    /// `Memory` comes before the FIFO or the mailboxes are touched, where the log couldn't grow: then
+    /// no turn was made.
+    pub fn turn<R: Wait, T: RouteTx<R>, G: Gate>(
+        &mut self,
+        rt: &R,
+        tx: &mut T,
+        gate: &mut G,
+    ) -> Result<TurnAnswer, Memory>
+        requires linked { IsLinked (T.route_after tx.old) (hand_value self.old) }
+        ensures turned { IfOk result (TurnMade (T.route_after tx.old) (T.route_after tx.new)
+            (hand_value self.old) (hand_value self.new)) }
+        ensures keeps { IfOk result (TurnKeeps (hand_value self.old) (hand_value self.new)) }
+        ensures linked { IsLinked (T.route_after tx.new) (hand_value self.new) }
+        ensures log { LogsReleased (hand_value self.old) → LogsReleased (hand_value self.new) }
+        ensures queue { self.new.out.queue ≡ self.old.out.queue }
+        ensures memory { OnErr result (hand_value self.new ≡ hand_value self.old) }
+        ensures untouched { OnErr result (tx.new ≡ tx.old) }
+        ensures unheard { OnErr result (gate.new ≡ gate.old) }
+        ensures stays { T.stays tx.old tx.new }
+    {
+        if self.log.released.reserve(1).is_err() {
+            return Err(Memory);
+        }
+        if self.log.aborted.reserve(1).is_err() {
+            return Err(Memory);
+        }
+        self.count();
+        Ok(self.act(rt, tx, gate))
+    }
+
+    fn count(&mut self)
+        ensures value { hand_value self.new ≡ counted (hand_value self.old) }
+        ensures log { self.new.log ≡ self.old.log }
+    {
+        if self.turns < 1_000_000 {
+            self.turns += 1;
+        }
+    }
+
+    // What a turn does once it is counted, and the log has room.
+    fn act<R: Wait, T: RouteTx<R>, G: Gate>(
+        &mut self,
+        rt: &R,
+        tx: &mut T,
+        gate: &mut G,
+    ) -> TurnAnswer
+        requires released { vec_len self.old.log.released < vec_capacity self.old.log.released }
+        requires aborted { vec_len self.old.log.aborted < vec_capacity self.old.log.aborted }
+        requires linked { IsLinked (T.route_after tx.old) (hand_value self.old) }
+        ensures turned { Acted (T.route_after tx.old) (T.route_after tx.new) (hand_value self.old) (hand_value self.new) result }
+        ensures stays { T.stays tx.old tx.new }
+    {
+        match self.due() {
+            Some(abort) => self.abort_first(rt, tx, abort.number, gate),
+            None => match self.fill(rt) {
+                Some(entry) => self.ask(rt, tx, entry, gate),
+                None => TurnAnswer::Idle,
+            },
+        }
+    }
+
+    // The first abort, where it is due.
+    fn due(&self) -> Option<PlannedAbort>
+        ensures some { IfSome result (λ abort. (first_abort (hand_value self.now) ≡ Some abort)
+            × IsDueByCount (hand_value self.now) abort) }
+        ensures none { IfNone result ((abort : PlannedAbort) → first_abort (hand_value self.now) ≡ Some abort
+            → IsDueByCount (hand_value self.now) abort → ⊥) }
+    {
+        match self.aborts.as_slice().first() {
+            Some(abort) => {
+                if self.is_due(*abort) {
+                    return Some(*abort);
+                }
+                None
+            }
+            None => None,
+        }
+    }
+
+    // Its turn is reached, and its number was given out and is not in the hand.
+    fn is_due(&self, abort: PlannedAbort) -> bool
+        ensures { IsTrue result ↔ IsDueByCount (hand_value self.now) abort }
+    {
+        if abort.turn > self.turns {
+            return false;
+        }
+        if abort.number == 0 {
+            return false;
+        }
+        if self.hand.is_some() {
+            return abort.number < self.tickets;
+        }
+        abort.number <= self.tickets
+    }
+
+    // The frame in the hand, or else the next one of the FIFO under the next number.
+    fn fill<R: Wait>(&mut self, rt: &R) -> Option<Entry>
+        requires tickets { self.old.tickets < u32.MAX }
+        requires room { vec_len self.old.log.released < vec_capacity self.old.log.released }
+        ensures { MatchOption result
+            ((hand_value self.new ≡ hand_value self.old) × (self.old.hand ≡ None)
+            × IsReleased self.old.out.released None self.old.out.released)
+            (λ entry. (self.new.hand ≡ Some entry) × Filled (hand_value self.old) (hand_value self.new) entry) }
+    {
+        if let Some(entry) = self.hand {
+            return Some(entry);
+        }
+        match self.out.release(rt) {
+            Some(received) => {
+                self.take(received.frame);
+                self.hand
+            }
+            None => None,
+        }
+    }
+
+    // A frame that was released comes into the hand.
+    fn take(&mut self, frame: Frame)
+        requires tickets { self.old.tickets < u32.MAX }
+        requires room { vec_len self.old.log.released < vec_capacity self.old.log.released }
+        ensures { hand_value self.new ≡ taken (hand_value self.old) frame }
+    {
+        self.tickets += 1;
+        let _ = self.log.released.push(frame);
+        self.hand = Some(Entry {
+            number: self.tickets,
+            frame,
+        });
+    }
+
+    // Requests the frame in the hand.
+    fn ask<R: Wait, T: RouteTx<R>, G: Gate>(
+        &mut self,
+        rt: &R,
+        tx: &mut T,
+        entry: Entry,
+        gate: &mut G,
+    ) -> TurnAnswer
+        requires above { T.last tx.old < entry.number }
+        requires held { self.old.hand ≡ Some entry }
+        ensures asked { (sent : Result Sent NumberTooLarge) × (result ≡ requested_answer sent)
+            × (hand_value self.new ≡ if_requested sent (hand_value self.old))
+            × (IsErr sent ↔ (greatest_number < entry.number))
+            × ((past : RoutePast) → T.route_after tx.old past
+            → T.route_after tx.new (after_request past entry.number entry.frame sent)) }
+        ensures stays { T.stays tx.old tx.new }
+    {
+        match tx.request(rt, entry.number, entry.frame, gate) {
+            Ok(Sent::Yes) => {
+                self.hand = None;
+                TurnAnswer::Requested
+            }
+            Ok(Sent::NotNow) => TurnAnswer::Waiting,
+            Err(NumberTooLarge) => TurnAnswer::Waiting,
+        }
+    }
+
+    // Makes the first abort, which is of this number.
+    fn abort_first<R: Wait, T: RouteTx<R>, G: Gate>(
+        &mut self,
+        rt: &R,
+        tx: &mut T,
+        number: u32,
+        gate: &mut G,
+    ) -> TurnAnswer
+        requires some { 0 < vec_len self.old.aborts }
+        requires room { vec_len self.old.log.aborted < vec_capacity self.old.log.aborted }
+        requires positive { 0 < number }
+        requires known { number ≤ T.last tx.old }
+        ensures aborted { (answer : AbortAnswer) × (result ≡ aborted_answer answer)
+            × (hand_value self.new ≡ if_aborted answer number (hand_value self.old))
+            × ((past : RoutePast) → T.route_after tx.old past
+            → (asks : Bool) × T.route_after tx.new (after_abort past number answer asks)) }
+        ensures stays { T.stays tx.old tx.new }
+    {
+        match tx.abort(rt, number, gate) {
+            AbortAnswer::Ended => {
+                self.note(number);
+                TurnAnswer::AbortDone
+            }
+            AbortAnswer::Asked => {
+                self.note(number);
+                TurnAnswer::AbortDone
+            }
+            AbortAnswer::Gone => {
+                let _ = self.aborts.remove(0);
+                TurnAnswer::AbortDone
+            }
+            AbortAnswer::NotNow => TurnAnswer::Waiting,
+        }
+    }
+
+    // The first abort is done, and its number comes into the log.
+    fn note(&mut self, number: u32)
+        requires some { 0 < vec_len self.old.aborts }
+        requires room { vec_len self.old.log.aborted < vec_capacity self.old.log.aborted }
+        ensures { hand_value self.new ≡ logged (hand_value self.old) number }
+    {
+        let _ = self.log.aborted.push(number);
+        let _ = self.aborts.remove(0);
+    }
+}

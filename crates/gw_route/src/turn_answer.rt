@@ -1,0 +1,14 @@
+//! What a turn came to.
+
+/// What a turn came to.
+#[derive(Clone, Copy, Debug, PartialEq, Eq)]
+pub enum TurnAnswer {
+    /// No frame was in the hand, and the FIFO released none.
+    Idle,
+    /// The frame in the hand was requested, and the hand is empty.
+    Requested,
+    /// The first abort was answered `Ended`, `Asked` or `Gone`, and is off the list.
+    AbortDone,
+    /// The frame in the hand was refused, or the first abort wasn't done. Either is tried again.
+    Waiting,
+}
