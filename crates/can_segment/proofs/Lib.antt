@@ -7,3 +7,4 @@ pub mod Tellings
 pub mod Collects
 pub mod NextBits
 pub mod Makes
+pub mod Moves

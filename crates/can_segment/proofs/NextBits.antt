@@ -11,18 +11,12 @@ use Rattle.can_segment.specs.Traces.{Act, Bit, act_of}
 use Rattle.can_segment.specs.Tells.{events_at}
 use Rattle.can_segment.specs.Runs.{ActsAt, IsBit}
 use Rattle.can_segment.specs.Members.{TalkerStarts, TalkerSamples, StartsRequest, SamplesAndSettles, drives_at}
+use Rattle.can_segment.specs.Moves.{Controlling}
 use Rattle.can_segment.specs.Places.{AtPlaces}
 use Rattle.can_segment.specs.Kept.{StandsBehind, SegmentStands}
 use Rattle.can_segment.specs.Tellings.{start_of, rest_by, told_by}
 use Rattle.can_segment.proofs.Acts.{Acted, Talks, Controls, talker_acts, controller_acts}
 use Rattle.can_segment.proofs.Collects.{Collected, collect, get_left, get_right}
-
--- what the controllers of a segment did, without their ports
-pub record Controlling (bit : ℕ) (level : ℕ → Bool) (old mid after : List Member) : Type 0 where
-  pub starts : (k : ℕ) (a b : Member) → slice_get old k ≡ Some a → slice_get mid k ≡ Some b → StartsRequest bit a b
-  pub settles : (k : ℕ) (a b : Member) → slice_get mid k ≡ Some a → slice_get after k ≡ Some b → SamplesAndSettles bit (level k) a b
-  pub mid_size : length mid ≡ length old
-  pub after_size : length after ≡ length mid
 
 -- a bit that was made
 pub record Made (plan : SegmentPlan) (trace : List Bit) (level : Bool) (talkers controllers : List Member) : Type 0 where

@@ -8,3 +8,4 @@ pub mod Members
 pub mod Kept
 pub mod Places
 pub mod Tellings
+pub mod Moves

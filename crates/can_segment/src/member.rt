@@ -1,6 +1,6 @@
 //! A node of a segment, from the bit on at which it is switched on.
 
-ghost use Rattle.std.specs.Prelude.{◌≡◌, ◌<◌, ◌++◌, ◌&&◌, List};
+ghost use Rattle.std.specs.Prelude.{◌≡◌, ◌<◌, ◌≤◌, ◌++◌, ◌&&◌, List};
 ghost use Rattle.can_frame.specs.Frames.{FrameValue};
 ghost use Rattle.bx_core.specs.TxBus.{BusPast};
 ghost use Rattle.can_node.specs.Node.{bit_of};
@@ -79,8 +79,8 @@ impl Member {
 
     /// It samples this level at this bit.
     pub(crate) fn sample(&mut self, bit: u64, level: bool)
-        requires bit { bit_of self.old.station.node < u64.MAX }
-        requires room { self.old.station.completed < u64.MAX }
+        requires bit { self.old.on ≤ bit → bit_of self.old.station.node < u64.MAX }
+        requires room { self.old.on ≤ bit → self.old.station.completed < u64.MAX }
         ensures { Samples bit level self.old self.new }
     {
         if bit < self.on {
@@ -104,8 +104,8 @@ impl Member {
         level: bool,
         port: &mut P,
     )
-        requires bit { bit_of self.old.station.node < u64.MAX }
-        requires room { self.old.station.completed < u64.MAX }
+        requires bit { self.old.on ≤ bit → bit_of self.old.station.node < u64.MAX }
+        requires room { self.old.on ≤ bit → self.old.station.completed < u64.MAX }
         requires port { P.transmitting port.old ≡ item_of self.old.station.sending }
         ensures member { SamplesAndSettles bit level self.old self.new }
         ensures bus { (past : BusPast) → P.bus_after port.old past

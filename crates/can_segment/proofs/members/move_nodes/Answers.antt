@@ -1,0 +1,88 @@
+use Rattle.std.proofs.Common.{◌≡◌, ℕ, ◌+◌, ◌&&◌, Bool, true, false, length, slice_get, refl, sym, ap, ◌∙◌, arith}
+use Rattle.std.specs.List.{list_all}
+use Rattle.std.proofs.lemmas.Option.{slice_get_within}
+use Rattle.can_segment.specs.Faults.{line_level}
+use Rattle.can_segment.specs.Members.{drives_at}
+use Rattle.can_segment.proofs.NextBits.{some_there}
+use Rattle.can_segment.proofs.Moves.{talker_clock, controller_clock, port_moves}
+use Rattle.can_segment.proofs.members.move_nodes.Goals as goal
+
+pub sample_talkers-requires-clause-clocks : goal.sample_talkers-requires-clause-clocks
+sample_talkers-requires-clause-clocks g c k m e on =
+    let starts = c.start_talkers.ensures in
+    let within = slice_get_within c.start_talkers.new.members k m e in
+    let old = some_there c.args.talkers.now k (omega (arith, within, starts.size)) in
+    let talker = some_there c.args.plan.now.talkers.items k (omega (arith, within, starts.size, c.requires.talkers)) in
+    (talker_clock c.args.bit _ old.0 m talker.0.frames.items (starts.at k old.0 m old.1 e talker.0 (rw c.as_slice.ensures.value talker.1)) (c.requires.talker_clocks k old.0 old.1) on).0
+
+pub sample_talkers-requires-clause-room : goal.sample_talkers-requires-clause-room
+sample_talkers-requires-clause-room g c k m e on =
+    let starts = c.start_talkers.ensures in
+    let within = slice_get_within c.start_talkers.new.members k m e in
+    let old = some_there c.args.talkers.now k (omega (arith, within, starts.size)) in
+    let talker = some_there c.args.plan.now.talkers.items k (omega (arith, within, starts.size, c.requires.talkers)) in
+    (talker_clock c.args.bit _ old.0 m talker.0.frames.items (starts.at k old.0 m old.1 e talker.0 (rw c.as_slice.ensures.value talker.1)) (c.requires.talker_clocks k old.0 old.1) on).1
+
+pub sample_controllers-requires-clause-clocks : goal.sample_controllers-requires-clause-clocks
+sample_controllers-requires-clause-clocks g c k m e on =
+    let starts = c.start_controllers.ensures in
+    let within = slice_get_within c.start_controllers.new.members k m e in
+    let old = some_there c.args.controllers.now k (omega (arith, within, starts.size)) in
+    let from = some_there c.args.ports.now k (omega (arith, within, starts.size, c.requires.ports)) in
+    let to = some_there c.start_controllers.new.ports k (omega (arith, within, starts.size, starts.size_too, c.requires.ports)) in
+    (controller_clock c.args.bit _ old.0 m (starts.at k old.0 m from.0 to.0 old.1 e from.1 to.1).member (c.requires.clocks k old.0 old.1) on).0
+
+pub sample_controllers-requires-clause-room : goal.sample_controllers-requires-clause-room
+sample_controllers-requires-clause-room g c k m e on =
+    let starts = c.start_controllers.ensures in
+    let within = slice_get_within c.start_controllers.new.members k m e in
+    let old = some_there c.args.controllers.now k (omega (arith, within, starts.size)) in
+    let from = some_there c.args.ports.now k (omega (arith, within, starts.size, c.requires.ports)) in
+    let to = some_there c.start_controllers.new.ports k (omega (arith, within, starts.size, starts.size_too, c.requires.ports)) in
+    (controller_clock c.args.bit _ old.0 m (starts.at k old.0 m from.0 to.0 old.1 e from.1 to.1).member (c.requires.clocks k old.0 old.1) on).1
+
+pub sample_controllers-requires-clause-port : goal.sample_controllers-requires-clause-port
+sample_controllers-requires-clause-port g c k m p e f =
+    let starts = c.start_controllers.ensures in
+    let within = slice_get_within c.start_controllers.new.members k m e in
+    let old = some_there c.args.controllers.now k (omega (arith, within, starts.size)) in
+    let from = some_there c.args.ports.now k (omega (arith, within, starts.size, c.requires.ports)) in
+    (starts.at k old.0 m from.0 p old.1 e from.1 f).transmits
+
+pub returns-clause-nodes : goal.returns-clause-nodes
+returns-clause-nodes g c =
+    let starts = c.start_controllers.ensures in
+    let settles = c.sample_controllers.ensures in
+    record {
+      t1 = c.start_talkers.new.members;
+      c1 = c.start_controllers.new.members;
+      starts = rw c.as_slice.ensures.value at c.start_talkers.ensures;
+      samples = rw c.as_slice-faults.ensures.value at c.sample_talkers.ensures;
+      controls = record {
+        starts = λ k a b ea eb.
+            let within = slice_get_within c.args.controllers.now k a ea in
+            let from = some_there c.args.ports.now k (omega (arith, within, c.requires.ports)) in
+            let to = some_there c.start_controllers.new.ports k (omega (arith, within, starts.size_too, c.requires.ports)) in
+            (starts.at k a b from.0 to.0 ea eb from.1 to.1).member;
+        settles = λ k a b ea eb.
+            let within = slice_get_within c.start_controllers.new.members k a ea in
+            let from = some_there c.start_controllers.new.ports k (omega (arith, within, starts.size, starts.size_too, c.requires.ports)) in
+            let to = some_there c.sample_controllers.new.ports k (omega (arith, within, starts.size, starts.size_too, settles.size_too, c.requires.ports)) in
+            rw (c.as_slice-faults.ensures.value, c.requires.talkers) at (settles.at k a b from.0 to.0 ea eb from.1 to.1).member;
+        mid_size = starts.size;
+        after_size = settles.size;
+      };
+      level_is = c.line_level-level.ensures ∙ ap (λ d. line_level c.as_slice-2.result.now c.args.bit d) c.driven_by_all-driven.ensures
+          ∙ ap (λ fs. line_level fs c.args.bit (list_all (drives_at c.args.bit) c.start_talkers.new.members && list_all (drives_at c.args.bit) c.start_controllers.new.members)) c.as_slice-2.ensures.value;
+    }
+
+pub returns-clause-port : goal.returns-clause-port
+returns-clause-port g c k m p q e f h =
+    let starts = c.start_controllers.ensures in
+    let settles = c.sample_controllers.ensures in
+    let within = slice_get_within c.sample_controllers.new.members k m e in
+    let old = some_there c.args.controllers.now k (omega (arith, within, starts.size, settles.size)) in
+    let mid = some_there c.start_controllers.new.members k (omega (arith, within, settles.size)) in
+    let between = some_there c.start_controllers.new.ports k (omega (arith, within, starts.size, settles.size, starts.size_too, c.requires.ports)) in
+    port_moves g.P.TxBus.bus_after g.P.TxBus.transmitting g.P.RxSink.sink_after g.P.TxBus.bus_stays c.args.bit _ old.0 mid.0 m p between.0 q g.met.P.TxBus.bus_stays_on g.met.P.RxSink.sink_stays
+    (starts.at k old.0 mid.0 p between.0 old.1 mid.1 f between.1) (settles.at k mid.0 m between.0 q mid.1 e between.1 h)
