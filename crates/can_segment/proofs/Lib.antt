@@ -8,3 +8,4 @@ pub mod Collects
 pub mod NextBits
 pub mod Makes
 pub mod Moves
+pub mod Keeps

@@ -1,16 +1,15 @@
 -- The start and the sample of a bit, put together.
-use Rattle.std.proofs.Common.{◌≡◌, inl, inr, ℕ, ◌+◌, ◌<◌, ◌≤◌, ◌&&◌, nat_le, cond, Bool, true, false, Option, Some, None, List, ◌++◌, slice_get, refl, sym, ap, subst, arith, ◌∙◌}
+use Rattle.std.proofs.Common.{◌≡◌, inl, inr, ℕ, ◌<◌, ◌≤◌, ◌&&◌, nat_le, cond, Bool, true, false, Option, None, List, ◌++◌, refl, sym, ap, subst, arith, ◌∙◌}
 use Rattle.std.proofs.lemmas.Bool.Decides.{leb_tells}
 use Rattle.can_frame.specs.Frames.{FrameValue}
 use Rattle.bx_core.specs.TxBus.{Item, BusPast}
 use Rattle.can_node.specs.Node.{bit_of}
-use Rattle.can_segment.specs.declared.member.Deed.{Deed}
 use Rattle.can_segment.specs.declared.member.Member.{Member}
 use Rattle.can_segment.specs.declared.sent.Sent.{Sent}
 use Rattle.can_segment.specs.declared.station.Station.{Station}
 use Rattle.can_segment.specs.Ports.{item_of, started, started_item}
 use Rattle.can_segment.specs.Stations.{IsTalk, IsRequest}
-use Rattle.can_segment.specs.Members.{StartsTalking, StartsRequest, SamplesOn, SamplesAndSettles, PortStarts, PortSettles, is_on, settled_at, taken_at}
+use Rattle.can_segment.specs.Members.{StartsTalking, StartsRequest, PortStarts, PortSettles, is_on, settled_at, taken_at}
 use Rattle.can_segment.specs.Moves.{PortMoves}
 use Rattle.can_segment.specs.Kept.{begun_by}
 

@@ -10,7 +10,7 @@ use Rattle.can_segment.specs.Faults.{line_level, sampled_level}
 use Rattle.can_segment.specs.Traces.{Act, Bit, act_of}
 use Rattle.can_segment.specs.Tells.{events_at}
 use Rattle.can_segment.specs.Runs.{ActsAt, IsBit}
-use Rattle.can_segment.specs.Members.{TalkerStarts, TalkerSamples, StartsRequest, SamplesAndSettles, drives_at}
+use Rattle.can_segment.specs.Members.{TalkerStarts, TalkerSamples, drives_at}
 use Rattle.can_segment.specs.Moves.{Controlling}
 use Rattle.can_segment.specs.Places.{AtPlaces}
 use Rattle.can_segment.specs.Kept.{StandsBehind, SegmentStands}

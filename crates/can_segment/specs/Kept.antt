@@ -1,5 +1,5 @@
 -- How the nodes of a segment agree with the trace behind which they stand. Private clauses cite it.
-use Rattle.std.specs.Prelude.{◌≡◌, ℕ, ◌+◌, ◌≤◌, max, false, Option, Some, None, List, length, slice_get, if◌then◌else◌}
+use Rattle.std.specs.Prelude.{◌≡◌, Bool, ℕ, ◌+◌, ◌≤◌, max, false, Option, Some, None, List, length, slice_get, if◌then◌else◌}
 use Rattle.can_node.specs.declared.outcome.Outcome.TheVariants.{Nothing}
 use Rattle.can_node.specs.Node.{StandsAfter, bit_of}
 use Rattle.can_segment.specs.declared.member.Deed.{Deed}
@@ -8,7 +8,9 @@ use Rattle.can_segment.specs.declared.plan.Talker.{Talker}
 use Rattle.can_segment.specs.declared.plan.Controller.{Controller}
 use Rattle.can_segment.specs.declared.plan.SegmentPlan.{SegmentPlan}
 use Rattle.can_segment.specs.declared.sent.Sent.{Sent}
+use Rattle.can_segment.specs.declared.event.Event.{Event}
 use Rattle.can_segment.specs.Traces.{Bit, past_of, sending_of, completed_of}
+use Rattle.can_segment.specs.Runs.{Run}
 
 -- what a node has done that was never on
 abbrev pub no_deed : Deed
@@ -34,3 +36,9 @@ pub record SegmentStands (plan : SegmentPlan) (trace : List Bit) (talkers contro
   pub talkers_stand : (k : ℕ) (talker : Talker) (member : Member) → slice_get plan.talkers.items k ≡ Some talker → slice_get talkers k ≡ Some member → StandsBehind talker.on k trace member
   pub controllers_stand : (k : ℕ) (controller : Controller) (member : Member) → slice_get plan.controllers.items k ≡ Some controller → slice_get controllers k ≡ Some member →
       StandsBehind controller.on (length plan.talkers.items + k) trace member
+
+-- all nodes stand behind the bits of a run that was recorded so
+pub record SegmentKept (plan : SegmentPlan) (levels : List Bool) (events : List Event) (talkers controllers : List Member) : Type 0 where
+  pub trace : List Bit
+  pub run : Run plan trace levels events
+  pub stands : SegmentStands plan trace talkers controllers

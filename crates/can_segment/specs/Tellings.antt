@@ -1,5 +1,5 @@
 -- What the nodes' deeds at a bit tell, one node after another. Private clauses cite it.
-use Rattle.std.specs.Prelude.{ℕ, ◌+◌, List, [], ◌∷◌, ◌++◌}
+use Rattle.std.specs.Prelude.{ℕ, ◌+◌, List, [], ◌∷◌, ◌++◌, length}
 use Rattle.can_segment.specs.declared.event.Event.{Event}
 use Rattle.can_segment.specs.declared.event.Told.{Told}
 use Rattle.can_segment.specs.declared.member.Deed.{Deed}
@@ -18,3 +18,8 @@ rest_by deed = told_outcome deed.sent deed.outcome ++ told_reaped deed.reaped
 unfoldable pub told_by : (Deed → List Told) → ℕ → ℕ → List Member → List Event
 told_by tells bit node [] = []
 told_by tells bit node (member ∷ more) = lines bit node (tells member.deed) ++ told_by tells bit (node + 1) more
+
+-- all lines of a bit: what starts, and then the rest, each for the talkers and then for the controllers
+abbrev pub bit_lines : ℕ → List Member → List Member → List Event
+bit_lines bit talkers controllers =
+    (told_by start_of bit 0 talkers ++ told_by start_of bit (length talkers) controllers) ++ (told_by rest_by bit 0 talkers ++ told_by rest_by bit (length talkers) controllers)

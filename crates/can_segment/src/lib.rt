@@ -3,6 +3,7 @@
 
 mod event;
 mod faults;
+mod make_bit;
 mod member;
 mod members;
 mod plan;

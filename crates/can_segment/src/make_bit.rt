@@ -1,0 +1,61 @@
+//! One bit of a segment.
+
+ghost use Rattle.std.specs.Prelude.{◌≡◌, ◌+◌, ◌*◌, ◌<◌, ◌≤◌, ◌++◌, ◌∷◌, [], ℕ, Bool, Some, length, slice_get, vec_len, vec_capacity};
+ghost use Rattle.can_segment.specs.Ports.{item_of};
+ghost use Rattle.can_segment.specs.Moves.{PortMoves};
+ghost use Rattle.can_segment.specs.Kept.{SegmentKept};
+ghost use Rattle.can_segment.specs.Tellings.{bit_lines};
+ghost use Rattle.can_segment.specs.declared.member.Member.{Member};
+
+use crate::event::Event;
+use crate::member::Member;
+use crate::members::move_nodes;
+use crate::plan::SegmentPlan;
+use crate::rx_sink::RxSink;
+use crate::tell::{tell_rests, tell_starts};
+
+/// One level more, for which there is room.
+fn keep(levels: &mut Vec<bool>, level: bool)
+    requires { vec_len levels.old < vec_capacity levels.old }
+    ensures { levels.new.items ≡ levels.old.items ++ level ∷ [] }
+{
+    let _ = levels.push(level);
+}
+
+/// The nodes make one more bit, and the record grows by its level and its lines.
+pub(crate) fn make_bit<R, P: RxSink<R>>(
+    rt: &R,
+    plan: &SegmentPlan,
+    talkers: &mut [Member],
+    controllers: &mut [Member],
+    ports: &mut [P],
+    levels: &mut Vec<bool>,
+    events: &mut Vec<Event>,
+)
+    requires kept { SegmentKept plan.now levels.old.items events.old.items talkers.old controllers.old }
+    requires still { length levels.old.items < plan.now.bits }
+    requires ports { length ports.old ≡ length controllers.old }
+    requires few { length talkers.old + length controllers.old ≤ 1000 }
+    requires port { (k : ℕ) (m : Member) (p : P) → slice_get controllers.old k ≡ Some m
+        → slice_get ports.old k ≡ Some p → P.transmitting p ≡ item_of m.station.sending }
+    requires level_room { vec_len levels.old < vec_capacity levels.old }
+    requires event_room { vec_len events.old + 3 * (length talkers.old + length controllers.old)
+        ≤ vec_capacity events.old }
+    ensures kept { SegmentKept plan.now levels.new.items events.new.items talkers.new controllers.new }
+    ensures level { (level : Bool) × (levels.new.items ≡ levels.old.items ++ level ∷ []) }
+    ensures events { events.new.items ≡ events.old.items
+        ++ bit_lines (length levels.old.items) talkers.new controllers.new }
+    ensures port { (k : ℕ) (m : Member) (p q : P) → slice_get controllers.new k ≡ Some m
+        → slice_get ports.old k ≡ Some p → slice_get ports.new k ≡ Some q
+        → PortMoves P.bus_after P.transmitting P.sink_after P.bus_stays (length levels.old.items) m p q }
+    ensures size { length ports.new ≡ length ports.old }
+{
+    let bit = levels.len() as u64;
+    let level = move_nodes(rt, plan, talkers, controllers, ports, bit);
+    let first = talkers.len() as u32;
+    tell_starts(events, bit, 0, talkers);
+    tell_starts(events, bit, first, controllers);
+    tell_rests(events, bit, 0, talkers);
+    tell_rests(events, bit, first, controllers);
+    keep(levels, level);
+}
