@@ -5,13 +5,7 @@
 set -eu
 cd "$(dirname "$0")/.."
 . bench/build.sh
-work=$(mktemp -d)
-trap 'rm -rf "$work"' EXIT
-mkdir -p "$work/crates/filter_bench/src"
-cp -r crates/can_frame crates/bx_rx "$work/crates/"
-grep -E '^(can_frame|bx_rx):' crates.txt > "$work/crates.txt"
-echo 'filter_bench: can_frame bx_rx' >> "$work/crates.txt"
-cp HANDLES "$work/"
+room filter_bench can_frame bx_rx
 cat > "$work/crates/filter_bench/src/main.rt" <<'RATTLE'
 //! Times `Banks::find`, and an offer with its release.
 #![tactic(auto)]

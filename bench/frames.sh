@@ -4,11 +4,7 @@
 set -eu
 cd "$(dirname "$0")/.."
 . bench/build.sh
-work=$(mktemp -d)
-trap 'rm -rf "$work"' EXIT
-mkdir -p "$work/crates/frame_bench/src"
-cp -r crates/can_frame "$work/crates/"
-printf 'can_frame: arrayvec thiserror\nframe_bench: can_frame arrayvec\n' > "$work/crates.txt"
+room frame_bench can_frame arrayvec
 cat > "$work/crates/frame_bench/src/main.rt" <<'RATTLE'
 //! Times `wire` and `Reader::push`.
 #![tactic(auto)]

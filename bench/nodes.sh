@@ -6,12 +6,7 @@
 set -eu
 cd "$(dirname "$0")/.."
 . bench/build.sh
-work=$(mktemp -d)
-trap 'rm -rf "$work"' EXIT
-mkdir -p "$work/crates/node_bench/src"
-cp -r crates/can_frame crates/can_node "$work/crates/"
-printf '%s\n' 'can_frame: arrayvec thiserror' 'can_node: can_frame arrayvec' \
-  'node_bench: can_frame can_node' > "$work/crates.txt"
+room node_bench can_frame can_node
 cat > "$work/crates/node_bench/src/main.rt" <<'RATTLE'
 //! Times nodes on one bus.
 #![tactic(auto)]
