@@ -6,7 +6,7 @@ use Rattle.can_frame.specs.Stuffing.{five_equal}
 use Rattle.can_frame.specs.FieldReading.{fields_length, frame_at}
 use Rattle.can_frame.specs.Destuffing.{Pushes}
 use Rattle.can_frame.specs.Answers.{Answers, IsLast, IsUndecided}
-use Rattle.can_frame.specs.Reading.{Inside, InRegion, InTail, TailNext, HasEnded, StandsAt, IsOpen, Leaves, Next, Judges}
+use Rattle.can_frame.specs.Reading.{Inside, InRegion, InTail, TailNext, HasEnded, StandsAt, StandsAfter, IsOpen, IsPush, Leaves, Next, Judges}
 use Rattle.can_frame.specs.declared.destuffing.Piece.{Piece}
 use Rattle.can_frame.specs.declared.destuffing.Piece.TheVariants as piece
 use Rattle.can_frame.specs.declared.step.FaultKind.TheVariants.{Stuff, Form}
@@ -18,7 +18,7 @@ use Rattle.can_frame.specs.declared.reader.Reader.{Reader}
 use Rattle.can_frame.proofs.Stuffed.{after_five, not_five}
 use Rattle.can_frame.proofs.Regions.{completes, length_few}
 use Rattle.can_frame.proofs.Undecided.{region_undecided, tail_undecided}
-use Rattle.can_frame.proofs.Steps.{stuff_fault, sof_fault, after_data, after_stuff, body_tail, still_inside, Kept}
+use Rattle.can_frame.proofs.Steps.{stuff_fault, sof_fault, after_data, after_stuff, body_tail, still_inside, complete_next, Kept}
 
 ended : (step : Step) (text : List Bool) (level : Bool) → IsUndecided text → Answers step text level → IsLast step → HasEnded step (text ++ level ∷ [])
 ended step text level u h l = record { before = text; level = level; more = []; whole = sym (append-nil (text ++ level ∷ [])); undecided = u; answer = h; last = l }
@@ -120,3 +120,48 @@ next_more run last u text level new p h is push sof keeps part place =
     (λ full. after_five (reverse w) (a.destuffed.run_is ∙ omega (arith, part full, a.destuffed.short))) in
     let stands : InRegion new.destuffer.run new.destuffer.last new.levels.items w = record { destuffed = a.destuffed; inside = inside } in
     next_by More new Region text level place (completes w new.levels.items inside, a.plain) stands tt
+
+-- a level of the text with which the region goes on
+pub next_plain : (run : ℕ) (last : Bool) (u text : List Bool) (level : Bool) (new : Reader) → InRegion run last u text → Pushes piece.Data (reverse text) level new.destuffer.run new.destuffer.last → (u ≡ [] → ⊥) →
+    (length u < 118 → new.levels.items ≡ u ++ level ∷ []) → (length u + 1 ≡ fields_length u + 15 → ⊥) → new.place ≡ Region → Next More new text level
+next_plain run last u text level new h push some keeps other place =
+    let sof : u ≡ [] → level ≡ false = λ none. absurd (some none) in
+    let a = after_data run new.destuffer.run last new.destuffer.last u text level h push sof in
+    let e : new.levels.items ≡ u ++ level ∷ [] = keeps (omega (arith, a.short, length_few u)) in
+    next_more run last u text level new piece.Data h refl push sof keeps
+    (λ full. absurd (other (complete_next u level (subst (λ t. length t ≡ fields_length t + 15) e full)))) place
+
+region_stands : (p : Place) (run : ℕ) (last : Bool) (u text : List Bool) → p ≡ Region → StandsAt p run last u text → InRegion run last u text
+region_stands p run last u text e h = subst (λ q. StandsAt q run last u text) e h
+
+pub plain_push : (old new : Reader) (level : Bool) → old.place ≡ Region → new.place ≡ Region →
+    ((text : List Bool) → InRegion old.destuffer.run old.destuffer.last old.levels.items text → Pushes piece.Data (reverse text) level new.destuffer.run new.destuffer.last) → (old.levels.items ≡ [] → ⊥) →
+    (length old.levels.items < 118 → new.levels.items ≡ old.levels.items ++ level ∷ []) → (length old.levels.items + 1 ≡ fields_length old.levels.items + 15 → ⊥) → IsPush old level More new
+plain_push old new level here place push some keeps other =
+    let next : (text : List Bool) → StandsAfter old text → Next More new text level = λ text s.
+    let h = region_stands old.place old.destuffer.run old.destuffer.last old.levels.items text here s in
+    next_plain old.destuffer.run old.destuffer.last old.levels.items text level new h (push text h) some keeps other place in
+    record {
+      next = λ text r s. next text s;
+      stands = λ text s. (next text s).stands;
+      again = λ given e. absurd (cc (here, e));
+    }
+
+-- what a reader keeps as its newest answer says nothing of the text
+abbrev with_told : Reader → Step → Reader
+with_told r told = record { destuffer = r.destuffer; levels = r.levels; place = r.place; told = told }
+
+leaves_told : (step : Step) (new : Reader) (told : Step) → Leaves step new → Leaves step (with_told new told)
+leaves_told More new told h = h
+leaves_told StuffBit new told h = h
+leaves_told (Body frame right) new told h = h
+leaves_told Tail new told h = h
+leaves_told (Taken frame) new told h = h
+leaves_told (Fault kind) new told h = h
+
+pub told_push : (old new : Reader) (level : Bool) (step : Step) → IsPush old level step new → IsPush old level step (with_told new step)
+told_push old new level step h = record {
+  next = λ text r s. let n = h.next text r s in record { answer = n.answer; stands = n.stands; leaves = leaves_told step new step n.leaves };
+  stands = h.stands;
+  again = h.again;
+}

@@ -81,6 +81,17 @@ grow u x h =
       | inr short ↦ omega (arith, long, short.1, base_least (ide p))
     ]
 
+-- a text that is whole with one more level
+pub complete_next : (u : List Bool) (x : Bool) → length (u ++ x ∷ []) ≡ fields_length (u ++ x ∷ []) + 15 → length u + 1 ≡ fields_length u + 15
+complete_next u x h =
+    let p = u ++ x ∷ [] in
+    let long : length p ≡ length u + 1 = length-append u (x ∷ []) in
+    let least = base_least (ide p) in
+    let same : ide p ≡ ide u = get_or_append_left u (x ∷ []) false 13 (omega (arith, long, h, least)) in
+    let base : base_at (ide p) ≡ base_at (ide u) = ap base_at same in
+    let e : fields_length p ≡ fields_length u = ap (λ b. length_by b p) same ∙ length-more-by (ide u) u (x ∷ []) (omega (arith, long, h, base)) in
+    omega (arith, long, e, h)
+
 -- what holds of a text in the form of a stuffed one, and of the text that it stands for
 pub record Kept (text u : List Bool) : Type 0 where
   pub stuffed : IsStuffed (reverse text)

@@ -1,6 +1,6 @@
 //! Reading of a stuffed text (Bosch CAN Specification 2.0, part B, 6 CODING).
 
-ghost use Rattle.std.specs.Prelude.{◌≡◌, Bool, List, []};
+ghost use Rattle.std.specs.Prelude.{◌≡◌, ◌<◌, Bool, List, []};
 ghost use Rattle.can_frame.specs.Destuffing.{HasRead, Pushes};
 
 use crate::stuffing::next_run;
@@ -51,8 +51,17 @@ impl Destuffer {
             self.last = level;
             return Piece::Stuff;
         }
+        self.read_data(level);
+        Piece::Data
+    }
+
+    /// The next level, where fewer than five are equal and it is no stuff bit.
+    pub fn read_data(&mut self, level: bool)
+        requires { self.old.run < 5 }
+        ensures { (r : List Bool) → HasRead self.old.run self.old.last r
+            → Pushes Piece.Data r level self.new.run self.new.last }
+    {
         self.run = next_run(self.run, self.last, level);
         self.last = level;
-        Piece::Data
     }
 }

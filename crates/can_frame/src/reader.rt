@@ -41,6 +41,8 @@ pub struct Reader {
     // the unstuffed levels so far: fields of at most 103 and fifteen of the CRC
     levels: ArrayVec<bool, 118>,
     place: Place,
+    // the newest answer of `push_any`
+    told: Step,
 }
 
 impl Reader {
@@ -53,6 +55,7 @@ impl Reader {
             destuffer: Destuffer::new(),
             levels: ArrayVec::new(),
             place: Place::Region,
+            told: Step::More,
         }
     }
 
@@ -62,7 +65,59 @@ impl Reader {
     ///
     /// The contract gives for each text so far, and each level, the one answer that fits
     /// (`laws::answers_are_exact`, `laws::faults_are_exact`).
+    #[inline(always)]
     pub fn push(&mut self, level: bool) -> Step
+        ensures { IsPush self.old level result self.new }
+    {
+        if self.push_more(level) {
+            return Step::More;
+        }
+        self.push_any(level);
+        self.told
+    }
+
+    /// Pushes a level that is `More`, as most levels of a bus are, and tells whether it did. It leaves some such
+    /// levels to `push_any`, and all others.
+    #[inline(always)]
+    fn push_more(&mut self, level: bool) -> bool
+        ensures more { result ≡ true → IsPush self.old level Step.More self.new }
+        ensures other { result ≡ false → self.new ≡ self.old }
+    {
+        if !self.is_in_region() {
+            return false;
+        }
+        if self.levels.is_empty() {
+            return false;
+        }
+        if self.destuffer.run() >= 5 {
+            return false;
+        }
+        if is_complete_next(self.levels.as_slice()) {
+            return false;
+        }
+        self.destuffer.read_data(level);
+        keep(&mut self.levels, level);
+        true
+    }
+
+    /// Whether the next level is one of the stuffed region.
+    fn is_in_region(&self) -> bool
+        ensures { result ≡ true → self.now.place ≡ Place.Region }
+    {
+        matches!(self.place, Place::Region)
+    }
+
+    /// `push` of any level. Its answer is in `told`, so that those levels that `push_more` takes pay for no copy
+    /// of a frame.
+    #[inline(never)]
+    fn push_any(&mut self, level: bool)
+        ensures { IsPush self.old level self.new.told self.new }
+    {
+        self.told = self.answer(level);
+    }
+
+    /// What the next level is.
+    fn answer(&mut self, level: bool) -> Step
         ensures { IsPush self.old level result self.new }
     {
         let place = self.place;
@@ -73,6 +128,16 @@ impl Reader {
         }
     }
 
+    /// The fault that a level of the stuffed region is.
+    #[inline(never)]
+    fn fail(&mut self, kind: FaultKind) -> Step
+        ensures answer { result ≡ Step.Fault kind }
+        ensures place { self.new.place ≡ Place.Ended (Step.Fault kind) }
+    {
+        self.place = Place::Ended(Step::Fault(kind));
+        Step::Fault(kind)
+    }
+
     /// A level of the stuffed region.
     fn push_region(&mut self, level: bool) -> Step
         ensures { (text : List Bool) → self.old.place ≡ Place.Region
@@ -80,14 +145,10 @@ impl Reader {
             → Next result self.new text level }
     {
         if level && self.levels.is_empty() {
-            self.place = Place::Ended(Step::Fault(FaultKind::Form));
-            return Step::Fault(FaultKind::Form);
+            return self.fail(FaultKind::Form);
         }
         match self.destuffer.push(level) {
-            Piece::Fault => {
-                self.place = Place::Ended(Step::Fault(FaultKind::Stuff));
-                Step::Fault(FaultKind::Stuff)
-            }
+            Piece::Fault => self.fail(FaultKind::Stuff),
             Piece::Stuff => {
                 if is_complete(self.levels.as_slice()) {
                     return body(self.levels.as_slice(), &mut self.place);
@@ -108,6 +169,7 @@ impl Reader {
     }
 
     /// A level behind the stuffed region.
+    #[inline(never)]
     fn push_tail(&mut self, frame: Frame, right: bool, seen: u8, level: bool) -> Step
         ensures { (text : List Bool) → InTail frame right seen text
             → Next result self.new text level }
@@ -122,6 +184,7 @@ impl Reader {
 }
 
 /// The answer at the end of the stuffed region, where frame and CRC are read.
+#[inline(never)]
 fn body(text: &[bool], place: &mut Place) -> Step
     ensures { length text.now ≡ fields_length text.now + 15
         → (right : Bool) × Judges right text.now × (result ≡ Step.Body (frame_at text.now) right)
@@ -147,11 +210,27 @@ fn is_complete(text: &[bool]) -> bool
     ensures whole { result ≡ true → length text.now ≡ fields_length text.now + 15 }
     ensures part { result ≡ false → length text.now ≡ fields_length text.now + 15 → ⊥ }
 {
-    // the fields are nineteen levels at least
+    // the fields are nineteen levels or thirty-nine, and whole bytes
     if text.len() < 34 {
         return false;
     }
+    if text.len() % 4 != 2 {
+        return false;
+    }
     text.len() == fields_len(text) + 15
+}
+
+/// Whether they stand there with one more level.
+fn is_complete_next(text: &[bool]) -> bool
+    ensures { result ≡ false → length text.now + 1 ≡ fields_length text.now + 15 → ⊥ }
+{
+    if text.len() < 33 {
+        return false;
+    }
+    if text.len() % 4 != 1 {
+        return false;
+    }
+    text.len() == fields_len(text) + 14
 }
 
 /// Whether the last fifteen levels of a whole text are the CRC.

@@ -13,7 +13,7 @@ use Rattle.can_frame.proofs.Spellings.{slot_stands_alone}
 use Rattle.can_node.specs.declared.confinement.ErrorEvent.{ErrorEvent}
 use Rattle.can_node.specs.declared.outcome.Outcome.TheVariants.{Nothing}
 use Rattle.can_node.specs.declared.state.State.{State}
-use Rattle.can_node.specs.declared.state.State.TheVariants.{Idling, Taking, Sending}
+use Rattle.can_node.specs.declared.state.State.TheVariants.{Taking, Sending}
 use Rattle.can_node.specs.declared.spelling.Spelling.{Spelling}
 use Rattle.can_node.specs.declared.node.Node.{Node}
 use Rattle.can_node.specs.Pairs.{Pair, listening, dominating, recessive}

@@ -13,7 +13,7 @@ use Rattle.can_node.specs.declared.confinement.ErrorEvent.{ErrorEvent}
 use Rattle.can_node.specs.declared.confinement.ErrorEvent.TheVariants.{Recovered}
 use Rattle.can_node.specs.declared.confinement.ErrorState.{ErrorState}
 use Rattle.can_node.specs.declared.outcome.Outcome.{Outcome}
-use Rattle.can_node.specs.declared.outcome.Outcome.TheVariants.{WentOff}
+use Rattle.can_node.specs.declared.outcome.Outcome.TheVariants.{Nothing, WentOff}
 use Rattle.can_node.specs.declared.state.State.{State}
 use Rattle.can_node.specs.declared.spelling.Spelling.{Spelling}
 use Rattle.can_node.specs.declared.state.State.TheVariants.{Syncing, Idling, Taking, Recovering, Sending}
@@ -21,7 +21,7 @@ use Rattle.can_node.specs.declared.state.Stage.{Stage}
 use Rattle.can_node.specs.declared.state.Stage.TheVariants.{Region}
 use Rattle.can_node.specs.declared.state.Turn.{Turn}
 use Rattle.can_node.specs.declared.node.Node.{Node}
-use Rattle.can_node.specs.Confinement.{no_counts, is_off, after_event, counts_after, state_after}
+use Rattle.can_node.specs.Confinement.{no_counts, is_off, after_event, counts_after, state_of, state_after}
 use Rattle.can_node.specs.declared.counters.Counters.{Counters}
 use Rattle.can_node.specs.Counters.{StandsAfter as CountersStandAfter, counts_of}
 use Rattle.can_node.specs.Pairs.{Pair}
@@ -33,7 +33,7 @@ use Rattle.can_node.specs.Episodes.Course.{recovered}
 use Rattle.can_node.specs.Episodes.Episode.{ends}
 use Rattle.can_node.specs.Histories.{Past, no_past, IsHistory, IsOnOutside}
 use Rattle.can_node.specs.Histories.Whole.{switched_on}
-use Rattle.can_node.specs.Machine.{Agrees, Lands, Goes, GoesReading, GoesSending, Advances, LeadsTo, Counts, InState, ReaderStands, listed, made, IsSteady, is_taking, is_sending, level_of, level_in, may_start, sof_of, with_bit}
+use Rattle.can_node.specs.Machine.{Agrees, Lands, Goes, GoesReading, GoesSending, Advances, LeadsTo, Counts, InState, ReaderStands, listed, quiet, EndsIn, Steps, IsSteady, is_taking, is_sending, level_of, level_in, may_start, sof_of, with_bit}
 use Rattle.can_node.specs.Machine.Agrees.{in_sync, in_idle, in_take, in_send, in_last, in_active, in_overload, in_passive, in_wait, in_delimiter, in_rest, in_suspend, in_off}
 use Rattle.can_node.specs.Machine.Lands.{goes_on, is_over}
 use Rattle.can_node.specs.Machine.LeadsTo.{no_event, stays_on, goes_off}
@@ -63,14 +63,14 @@ sending_advances start place old new spelling now errors level step turn push go
 
 -- a node that reads on as before
 pub steady_advances : (start : ℕ) (may : Bool) (stage : Stage) (old new : Reader) (spelling : Spelling) (now : ℕ) (errors : ErrorState) (level : Bool) (step : Step) → IsPush old level step new →
-    IsSteady may stage step → Advances (Taking start may stage) old spelling now errors level (made (Taking start may stage) None) new
+    IsSteady may stage step → Advances (Taking start may stage) old spelling now errors level (quiet (Taking start may stage)) new
 steady_advances start may stage old new spelling now errors level step push h =
-    let more : step ≡ More → Advances (Taking start false Region) old spelling now errors level (made (Taking start false Region) None) new =
+    let more : step ≡ More → Advances (Taking start false Region) old spelling now errors level (quiet (Taking start false Region)) new =
     λ is. reading_advances start false Region old new spelling now errors level More _ (subst (λ s. IsPush old level s new) is push) (λ m. take_more start m Region errors level) in
-    let stuff : step ≡ StuffBit → Advances (Taking start false Region) old spelling now errors level (made (Taking start false Region) None) new =
+    let stuff : step ≡ StuffBit → Advances (Taking start false Region) old spelling now errors level (quiet (Taking start false Region)) new =
     λ is. reading_advances start false Region old new spelling now errors level StuffBit _ (subst (λ s. IsPush old level s new) is push) (λ m. take_stuff start m Region errors level) in
-    subst (λ m. Advances (Taking start m stage) old spelling now errors level (made (Taking start m stage) None) new) (sym h.reads)
-    (subst (λ g. Advances (Taking start false g) old spelling now errors level (made (Taking start false g) None) new) (sym h.inside)
+    subst (λ m. Advances (Taking start m stage) old spelling now errors level (quiet (Taking start m stage)) new) (sym h.reads)
+    (subst (λ g. Advances (Taking start false g) old spelling now errors level (quiet (Taking start false g)) new) (sym h.inside)
     (elim h.goes_on [ inl is ↦ more is | inr is ↦ stuff is ]))
 
 pub no_taking : (state : State) → ((start : ℕ) (may : Bool) (stage : Stage) → state ≡ Taking start may stage → ⊥) → is_taking state ≡ false
@@ -98,8 +98,8 @@ other_advances state old new spelling now errors level turn no_send goes stands 
     }
 
 -- an idle bus
-pub idle_advances : (old : Reader) (spelling : Spelling) (now : ℕ) (errors : ErrorState) → Advances Idling old spelling now errors true (made Idling None) old
-idle_advances old spelling now errors = other_advances Idling old old spelling now errors true (made Idling None) refl (idle_on now errors) (λ is. absurd (cc is)) (λ is. absurd (cc is))
+pub idle_advances : (old : Reader) (spelling : Spelling) (now : ℕ) (errors : ErrorState) → Advances Idling old spelling now errors true (quiet Idling) old
+idle_advances old spelling now errors = other_advances Idling old old spelling now errors true (quiet Idling) refl (idle_on now errors) (λ is. absurd (cc is)) (λ is. absurd (cc is))
 
 -- either the counts are not those of bus off, or the node is in bus off
 on_or_off : (phase : Phase) (events : List ErrorEvent) → IsOnOutside phase events → AreOn events ⊎ (phase ≡ BusOff)
@@ -242,6 +242,18 @@ samples_off old new level turn errors shows advances counts state_is same clock_
       };
 }
 
+samples_by : (off : Bool) (old new : Node) (level : Bool) (outcome : Outcome) (turn : Turn) (errors : ErrorState) → ((events : List ErrorEvent) → CountersStandAfter old.counters events → errors ≡ state_after events) →
+    Advances old.state old.reader old.spelling old.clock errors level turn new.reader → ((events : List ErrorEvent) → Counts old.counters new.counters turn.event off events) →
+    EndsIn off turn new.state outcome → new.spelling ≡ old.spelling → new.clock ≡ old.clock + 1 → IsSample old level outcome new
+samples_by true old new level outcome turn errors shows advances counts leaves same clock_is =
+    subst (λ o. IsSample old level o new) (sym leaves.1) (samples_off old new level turn errors shows advances counts leaves.0 same clock_is)
+samples_by false old new level outcome turn errors shows advances counts leaves same clock_is =
+    subst (λ o. IsSample old level o new) (sym leaves.1) (samples_on old new level turn errors shows advances counts leaves.0 same clock_is)
+
+pub samples : (old new : Node) (level : Bool) (outcome : Outcome) → Steps old.state old.counters old.reader old.spelling old.clock level outcome new.state new.counters new.reader →
+    new.spelling ≡ old.spelling → new.clock ≡ old.clock + 1 → IsSample old level outcome new
+samples old new level outcome h same clock_is = samples_by h.is_made.off old new level outcome h.turn h.errors h.shows h.advances h.is_made.counts h.is_made.ends_in same clock_is
+
 -- a reader that was pushed SOF reads on
 pub sof_reading : (old new : Reader) (step : Step) → ReaderStandsAfter old [] → IsReading old → IsPush old false step new → IsReading new
 sof_reading old new step stands reading push =
@@ -299,6 +311,17 @@ stands_history node past h = in_state_history node.state node.spelling h.text pa
 -- one event is counted, or none
 pub counts_none : (counters : Counters) (event : Option ErrorEvent) → event ≡ None → (events : List ErrorEvent) → Counts counters counters event false events
 counts_none counters event is events = subst (λ e. Counts counters counters e false events) (sym is) (record { stands = λ h. h ∙ ap counts_after (sym (append-nil events)); leads = λ h. no_event })
+
+-- a bit that counts nothing and tells nothing
+pub quiet_steps : (state next : State) (counters : Counters) (old new : Reader) (spelling : Spelling) (now : ℕ) (level : Bool) →
+    ((errors : ErrorState) → Advances state old spelling now errors level (quiet next) new) → Steps state counters old spelling now level Nothing next counters new
+quiet_steps state next counters old new spelling now level advances = record {
+  turn = quiet next;
+  errors = state_of (counts_of counters);
+  shows = λ events h. ap state_of h;
+  advances = advances (state_of (counts_of counters));
+  is_made = record { off = false; counts = counts_none counters None refl; ends_in = (refl, refl) };
+}
 
 leads_by : (events : List ErrorEvent) (event : ErrorEvent) (off b : Bool) → off ≡ b → is_off (counts_after (events ++ event ∷ [])) ≡ b → LeadsTo events (Some event) off
 leads_by events event off true e is = subst (LeadsTo events (Some event)) (sym e) (goes_off event is)

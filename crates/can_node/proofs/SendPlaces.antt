@@ -5,7 +5,6 @@ use Rattle.can_frame.specs.Frames.{Identifier, standard, extended, FrameValue, I
 use Rattle.can_frame.specs.Fields.{senders_choice, fields}
 use Rattle.can_frame.specs.Stuffing.{IsStuffed, unstuffed}
 use Rattle.can_frame.specs.Spelling.{Spells, tail_levels}
-use Rattle.can_frame.specs.FieldReading.{ide, base_at, fields_length}
 use Rattle.can_frame.specs.Reading.{Inside}
 use Rattle.can_frame.proofs.Numbers.{head_same, tail_same, append_same}
 use Rattle.can_frame.proofs.Spellings.{one_spelling, slot_stands_alone, spelled_region}

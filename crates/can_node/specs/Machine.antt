@@ -16,7 +16,7 @@ use Rattle.can_node.specs.declared.flag.FlagKind.{FlagKind}
 use Rattle.can_node.specs.declared.flag.FlagKind.TheVariants.{ActiveError, Overload}
 use Rattle.can_node.specs.declared.outcome.Outcome.{Outcome}
 use Rattle.can_node.specs.declared.outcome.ErrorKind.{ErrorKind}
-use Rattle.can_node.specs.declared.outcome.Outcome.TheVariants.{Nothing, Errored}
+use Rattle.can_node.specs.declared.outcome.Outcome.TheVariants.{Nothing, Errored, WentOff}
 use Rattle.can_node.specs.declared.state.State.{State}
 use Rattle.can_node.specs.declared.state.State.TheVariants.{Syncing, Idling, Taking, Closing, Flagging, PassiveFlagging, Waiting, Delimiting, Resting, Suspending, Recovering, Sending}
 use Rattle.can_node.specs.declared.state.Stage.{Stage}
@@ -208,10 +208,9 @@ Advances state old spelling now errors level turn new =
     now ≡ at + length part → errors ≡ state_after (before ++ events) → Agrees state text at phase part events → Holds phase spelling → ReaderStands state old text →
     LandsWith turn new at before phase (part ++ record { driven = level_in state spelling; sampled = level } ∷ []) (events ++ listed turn.event)
 
--- the turn that was made; none if the state stays, and nothing is counted or told
-abbrev pub made : State → Option Turn → Turn
-made state None = record { state = state; event = None; outcome = Nothing }
-made state (Some turn) = turn
+-- the turn that leads to this state, counts nothing and tells nothing
+abbrev pub quiet : State → Turn
+quiet state = record { state = state; event = None; outcome = Nothing }
 
 -- a receiver that need not choose between reading and sending any more goes on in the stuffed region
 pub record IsSteady (may_begin : Bool) (stage : Stage) (step : Step) : Type 0 where
@@ -234,6 +233,26 @@ pub data LeadsTo (events : List ErrorEvent) : Option ErrorEvent → Bool → Typ
 pub record Counts (old new : Counters) (event : Option ErrorEvent) (off : Bool) (events : List ErrorEvent) : Type 0 where
   pub stands : StandsAfter old events → StandsAfter new (events ++ listed event)
   pub leads : StandsAfter old events → LeadsTo events event off
+
+-- where a turn leaves a node, by whether its event leads to bus off: the state, and what is told
+abbrev pub EndsIn : Bool → Turn → State → Outcome → Type 0
+EndsIn true turn state outcome = (state ≡ Recovering 0 0) × (outcome ≡ WentOff)
+EndsIn false turn state outcome = (state ≡ turn.state) × (outcome ≡ turn.outcome)
+
+-- the turn was made: the counters have counted its event, and the node is where that leaves it
+pub record IsMade (turn : Turn) (old new : Counters) (state : State) (outcome : Outcome) : Type 0 where
+  pub off : Bool
+  pub counts : (events : List ErrorEvent) → Counts old new turn.event off events
+  pub ends_in : EndsIn off turn state outcome
+
+-- What a bit at which a node samples this level makes of its state, its counters and its reader, and what it
+-- tells.
+pub record Steps (state : State) (counters : Counters) (reader : Reader) (spelling : Spelling) (now : ℕ) (level : Bool) (outcome : Outcome) (new_state : State) (new_counters : Counters) (new_reader : Reader) : Type 0 where
+  pub turn : Turn
+  pub errors : ErrorState
+  pub shows : (events : List ErrorEvent) → StandsAfter counters events → errors ≡ state_after events
+  pub advances : Advances state reader spelling now errors level turn new_reader
+  pub is_made : IsMade turn counters new_counters new_state outcome
 
 -- a past and one more bit
 abbrev pub with_bit : Past → Pair → Option ErrorEvent → Outcome → Past

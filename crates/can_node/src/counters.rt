@@ -4,6 +4,7 @@ ghost use Rattle.std.specs.Prelude.{◌≡◌, ◌<◌, ◌∷◌, ◌++◌, [],
 ghost use Rattle.can_node.specs.Confinement.{
   counts_after,
   state_after,
+  state_of,
   raised,
   effect,
   is_off,
@@ -79,7 +80,8 @@ impl Counters {
 
     /// The transmit error count, 0 to 263: it is not limited when a node goes off.
     pub fn tec(&self) -> u16
-        ensures { (events : List ErrorEvent) → StandsAfter self.now events
+        ensures shown { result ≡ (counts_of self.now).tec }
+        ensures counted { (events : List ErrorEvent) → StandsAfter self.now events
             → result ≡ (counts_after events).tec }
     {
         self.tec
@@ -87,7 +89,8 @@ impl Counters {
 
     /// The receive error count, 0 to 255.
     pub fn rec(&self) -> u8
-        ensures { (events : List ErrorEvent) → StandsAfter self.now events
+        ensures shown { result ≡ (counts_of self.now).rec }
+        ensures counted { (events : List ErrorEvent) → StandsAfter self.now events
             → result ≡ (counts_after events).rec }
     {
         self.rec
@@ -95,7 +98,8 @@ impl Counters {
 
     /// The state that the counts make.
     pub fn state(&self) -> ErrorState
-        ensures { (events : List ErrorEvent) → StandsAfter self.now events
+        ensures shown { result ≡ state_of (counts_of self.now) }
+        ensures counted { (events : List ErrorEvent) → StandsAfter self.now events
             → result ≡ state_after events }
     {
         if self.is_off() {

@@ -1,14 +1,14 @@
 //! One bit of a node: what its level makes of state, reader and counters.
 
-ghost use Rattle.std.specs.Prelude.{◌≡◌, Bool, List, true, false, ◌∷◌, []};
-ghost use Rattle.can_frame.specs.Reading.{StandsAfter, IsReading};
+ghost use Rattle.std.specs.Prelude.{◌≡◌, ℕ, Bool, List, true, false, ◌∷◌, []};
+ghost use Rattle.can_frame.specs.Reading.{StandsAfter, IsReading, IsPush};
 ghost use Rattle.can_node.specs.Machine.{
   Goes,
-  Advances,
   Begins,
   Counts,
+  IsMade,
   IsSteady,
-  made,
+  Steps,
   is_taking,
   is_sending,
   level_in,
@@ -18,6 +18,7 @@ ghost use Rattle.can_node.specs.Machine.{
 
 use crate::confinement::{ErrorEvent, ErrorState};
 use crate::counters::Counters;
+use crate::outcome::Outcome;
 use crate::sends::after_sending;
 use crate::spelling::Spelling;
 use crate::state::{Stage, State, Turn};
@@ -97,6 +98,7 @@ fn turn_of(state: State, now: u64, errors: ErrorState, level: bool) -> Turn
 }
 
 /// A reader of the frame whose SOF was just sampled.
+#[inline(never)]
 fn reader_after_sof() -> Reader
     ensures stands { StandsAfter result (false ∷ []) }
     ensures reading { IsReading result }
@@ -123,40 +125,130 @@ fn is_steady(may_begin: bool, stage: Stage, step: &Step) -> bool
     }
 }
 
-/// What a level makes of the state; `None` if the state stays and nothing is counted or told. If a frame is
-/// read or sent, its reader is pushed that level: a sender that loses arbitration reads on.
+/// Counts an event, if there is one, and tells whether it leads to bus off.
+fn count(counters: &mut Counters, event: Option<ErrorEvent>) -> bool
+    ensures { (events : List ErrorEvent) → Counts counters.old counters.new event result events }
+{
+    match event {
+        None => false,
+        Some(event) => {
+            counters.apply(event);
+            counters.is_off()
+        }
+    }
+}
+
+/// Makes a turn, and tells its outcome: bus off, if its event leads there.
+fn make(turn: Turn, state: &mut State, counters: &mut Counters) -> Outcome
+    ensures { IsMade turn counters.old counters.new state.new result }
+{
+    let went_off = count(counters, turn.event);
+    if went_off {
+        *state = State::Recovering(0, 0);
+        return Outcome::WentOff;
+    }
+    *state = turn.state;
+    turn.outcome
+}
+
+/// A turn of a node that reads a frame, by what its reader says of the level.
+#[inline(never)]
+fn turn_taking(
+    state: &mut State,
+    counters: &mut Counters,
+    start: u64,
+    stage: Stage,
+    step: Step,
+    level: bool,
+) -> Outcome
+    ensures { (may_begin : Bool) (old new : Reader) (spelling : Spelling) (now : ℕ) → IsPush old level step new
+        → Steps (State.Taking start may_begin stage) counters.old old spelling now level result state.new counters.new new }
+{
+    let errors = counters.state();
+    make(
+        after_taking(start, stage, errors, step, level),
+        state,
+        counters,
+    )
+}
+
+/// A turn of a node that sends a frame.
+#[inline(never)]
+fn turn_sending(
+    state: &mut State,
+    counters: &mut Counters,
+    spelling: &Spelling,
+    start: u64,
+    place: u8,
+    level: bool,
+) -> Outcome
+    ensures { (step : Step) (old new : Reader) (now : ℕ) → IsPush old level step new
+        → Steps (State.Sending start place) counters.old old spelling.now now level result state.new counters.new new }
+{
+    let errors = counters.state();
+    make(
+        after_sending(start, place, spelling, errors, level),
+        state,
+        counters,
+    )
+}
+
+/// A turn of a node that neither reads nor sends a frame.
+#[inline(never)]
+fn turn_outside(
+    state: &mut State,
+    counters: &mut Counters,
+    reader: &mut Reader,
+    now: u64,
+    level: bool,
+) -> Outcome
+    ensures { (spelling : Spelling) → is_taking state.old ≡ false → is_sending state.old ≡ false
+        → Steps state.old counters.old reader.old spelling now level result state.new counters.new reader.new }
+{
+    let errors = counters.state();
+    let turn = turn_of(*state, now, errors, level);
+    if is_taking(turn.state) {
+        *reader = reader_after_sof();
+        return make(turn, state, counters);
+    }
+    make(turn, state, counters)
+}
+
+/// One bit of a node, at which it samples this level: what it brings to an end. If a frame is read or sent, its
+/// reader is pushed that level: a sender that loses arbitration reads on.
+///
+/// Most bits of a bus make no turn. They end here, and the calls for the others stay calls, so that these bits
+/// pay for no `Turn`.
+#[inline(always)]
 pub(crate) fn advance(
-    state: State,
+    state: &mut State,
+    counters: &mut Counters,
     reader: &mut Reader,
     spelling: &Spelling,
     now: u64,
-    errors: ErrorState,
     level: bool,
-) -> Option<Turn>
-    ensures { Advances state reader.old spelling.now now errors level (made state result) reader.new }
+) -> Outcome
+    ensures { Steps state.old counters.old reader.old spelling.now now level result state.new counters.new reader.new }
 {
-    if let State::Taking(start, may_begin, stage) = state {
-        let step = reader.push(level);
-        if is_steady(may_begin, stage, &step) {
-            return None;
+    match *state {
+        State::Taking(start, may_begin, stage) => {
+            let step = reader.push(level);
+            if is_steady(may_begin, stage, &step) {
+                return Outcome::Nothing;
+            }
+            turn_taking(state, counters, start, stage, step, level)
         }
-        return Some(after_taking(start, stage, errors, step, level));
-    }
-    if let State::Sending(start, place) = state {
-        let _read = reader.push(level);
-        return Some(after_sending(start, place, spelling, errors, level));
-    }
-    if let State::Idling = state {
-        if level {
-            return None;
+        State::Sending(start, place) => {
+            let _read = reader.push(level);
+            if spelling.is_echo(place, level) {
+                *state = State::Sending(start, place.saturating_add(1));
+                return Outcome::Nothing;
+            }
+            turn_sending(state, counters, spelling, start, place, level)
         }
+        State::Idling if level => Outcome::Nothing,
+        _ => turn_outside(state, counters, reader, now, level),
     }
-    let turn = turn_of(state, now, errors, level);
-    if is_taking(turn.state) {
-        *reader = reader_after_sof();
-        return Some(turn);
-    }
-    Some(turn)
 }
 
 /// The state of a node that begins to send at this bit. If the third bit of intermission was dominant, SOF
@@ -170,17 +262,4 @@ pub(crate) fn begin(state: State, reader: &mut Reader, now: u64) -> State
     }
     *reader = Reader::new();
     State::Sending(now, 0)
-}
-
-/// Counts an event, if there is one, and tells whether it leads to bus off.
-pub(crate) fn count(counters: &mut Counters, event: Option<ErrorEvent>) -> bool
-    ensures { (events : List ErrorEvent) → Counts counters.old counters.new event result events }
-{
-    match event {
-        None => false,
-        Some(event) => {
-            counters.apply(event);
-            counters.is_off()
-        }
-    }
 }

@@ -16,7 +16,7 @@ ghost use Rattle.can_node.specs.Node.{
 };
 
 use crate::counters::Counters;
-use crate::machine::{advance, begin, count, level_in, may_start, sof_of};
+use crate::machine::{advance, begin, level_in, may_start, sof_of};
 use crate::outcome::Outcome;
 use crate::spelling::Spelling;
 use crate::state::State;
@@ -118,24 +118,13 @@ impl Node {
     {
         let now = self.clock;
         self.clock += 1;
-        let errors = self.counters.state();
-        let turn = match advance(
-            self.state,
+        advance(
+            &mut self.state,
+            &mut self.counters,
             &mut self.reader,
             &self.spelling,
             now,
-            errors,
             level,
-        ) {
-            None => return Outcome::Nothing,
-            Some(turn) => turn,
-        };
-        let went_off = count(&mut self.counters, turn.event);
-        if went_off {
-            self.state = State::Recovering(0, 0);
-            return Outcome::WentOff;
-        }
-        self.state = turn.state;
-        turn.outcome
+        )
     }
 }

@@ -1,6 +1,6 @@
 //! A frame as its sender drives it.
 
-ghost use Rattle.std.specs.Prelude.{◌≡◌, ◌≤◌, ◌+◌, ◌∷◌, List, Bool, true, false, length, reverse, min};
+ghost use Rattle.std.specs.Prelude.{◌≡◌, ◌≤◌, ◌<◌, ◌+◌, ◌∷◌, List, Bool, true, false, length, reverse, min};
 ghost use Rattle.can_frame.specs.Stuffing.{newest};
 ghost use Rattle.can_frame.specs.StuffingSteps.{run_of};
 ghost use Rattle.can_node.specs.Sends.{rtr_place};
@@ -74,6 +74,17 @@ impl Spelling {
         ensures no { result ≡ false → place + 1 ≡ length self.now.levels.items → ⊥ }
     {
         usize::from(place) + 1 == self.levels.len()
+    }
+
+    /// Whether the level in this place is this one; told only of the places before the ACK slot.
+    pub(crate) fn is_echo(&self, place: u8, level: bool) -> bool
+        ensures before { result ≡ true → place + 9 < length self.now.levels.items }
+        ensures same { result ≡ true → level ≡ level_at self.now place }
+    {
+        if usize::from(place) + 9 >= self.levels.len() {
+            return false;
+        }
+        level == self.level(place)
     }
 
     /// What the bit in this place is.

@@ -1,28 +1,27 @@
-use Rattle.std.proofs.Common.{◌≡◌, ap, sym, ◌∙◌}
-use Rattle.can_node.proofs.Samples.{reading_advances, steady_advances, idle_advances, sending_advances, other_advances, no_taking, no_sending}
+use Rattle.std.proofs.Common.{arith}
+use Rattle.can_node.specs.declared.state.State.TheVariants.{Idling, Taking, Sending}
+use Rattle.can_node.specs.Machine.{quiet}
+use Rattle.can_node.proofs.SendMoves.{send_echoed}
+use Rattle.can_node.proofs.Samples.{steady_advances, idle_advances, sending_advances, quiet_steps}
 use Rattle.can_node.proofs.machine.advance.Goals as goal
 
 pub returns-then-is_steady : goal.returns-then-is_steady
-returns-then-is_steady c = rw c.in-Taking.is
-    (steady_advances c.in-Taking.start c.in-Taking.may_begin c.in-Taking.stage c.args.reader.now c.push-step.new.self c.args.spelling.now c.args.now c.args.errors c.args.level c.push-step.result c.push-step.ensures (c.is_steady.ensures c.if-is_steady.true))
+returns-then-is_steady c =
+    let here = Taking c.in-Taking.start c.in-Taking.may_begin c.in-Taking.stage in
+    rw c.in-Taking.is (quiet_steps here here c.args.counters.now c.args.reader.now c.push-step.new.self c.args.spelling.now c.args.now c.args.level
+    (λ errors. steady_advances c.in-Taking.start c.in-Taking.may_begin c.in-Taking.stage c.args.reader.now c.push-step.new.self c.args.spelling.now c.args.now errors c.args.level c.push-step.result
+    c.push-step.ensures (c.is_steady.ensures c.if-is_steady.true)))
 
-pub returns-in-Taking : goal.returns-in-Taking
-returns-in-Taking c = rw c.in-Taking.is
-    (reading_advances c.in-Taking.start c.in-Taking.may_begin c.in-Taking.stage c.args.reader.now c.push-step.new.self c.args.spelling.now c.args.now c.args.errors c.args.level c.push-step.result c.after_taking.result c.push-step.ensures c.after_taking.ensures)
+pub returns-then-is_echo : goal.returns-then-is_echo
+returns-then-is_echo c =
+    let next = Sending c.in-Sending.start c.saturating_add.result in
+    let before = c.is_echo.ensures.before c.if-is_echo.true in
+    rw c.in-Sending.is (quiet_steps (Sending c.in-Sending.start c.in-Sending.place) next c.args.counters.now c.args.reader.now c.push-read.new.self c.args.spelling.now c.args.now c.args.level
+    (λ errors. sending_advances c.in-Sending.start c.in-Sending.place c.args.reader.now c.push-read.new.self c.args.spelling.now c.args.now errors c.args.level c.push-read.result (quiet next) c.push-read.ensures
+    (send_echoed c.in-Sending.start c.in-Sending.place c.saturating_add.result c.args.spelling.now errors c.args.level (λ slot. omega (arith, slot, before)) (c.is_echo.ensures.same c.if-is_echo.true)
+    (λ last. omega (arith, last, before)) c.saturating_add.ensures)))
 
-pub returns-in-Sending : goal.returns-in-Sending
-returns-in-Sending c = rw c.in-Sending.is
-    (sending_advances c.in-Sending.start c.in-Sending.place c.args.reader.now c.push-read.new.self c.args.spelling.now c.args.now c.args.errors c.args.level c.push-read.result c.after_sending.result c.push-read.ensures c.after_sending.ensures)
-
-pub returns-then-level : goal.returns-then-level
-returns-then-level c = rw (c.in-Idling.is, c.if-level.true) (idle_advances c.args.reader.now c.args.spelling.now c.args.now c.args.errors)
-
-pub returns-then-is_taking : goal.returns-then-is_taking
-returns-then-is_taking c = other_advances c.args.state c.args.reader.now c.reader_after_sof.result c.args.spelling.now c.args.now c.args.errors c.args.level c.turn_of-turn.result (no_sending c.args.state c.in_default-state.not-Sending)
-    (c.turn_of-turn.ensures (no_taking c.args.state c.in_default.not-Taking) (no_sending c.args.state c.in_default-state.not-Sending))
-    (λ is. c.reader_after_sof.ensures.stands) (λ is. c.reader_after_sof.ensures.reading)
-
-pub returns : goal.returns
-returns c = other_advances c.args.state c.args.reader.now c.args.reader.now c.args.spelling.now c.args.now c.args.errors c.args.level c.turn_of-turn.result (no_sending c.args.state c.in_default-state.not-Sending)
-    (c.turn_of-turn.ensures (no_taking c.args.state c.in_default.not-Taking) (no_sending c.args.state c.in_default-state.not-Sending))
-    (λ is. absurd (cc (is, c.is_taking.ensures, c.if-is_taking.false))) (λ is. absurd (cc (is, c.is_taking.ensures, c.if-is_taking.false)))
+pub returns-in-Idling : goal.returns-in-Idling
+returns-in-Idling c =
+    rw (c.in-Idling.is, c.if-level.true)
+    (quiet_steps Idling Idling c.args.counters.now c.args.reader.now c.args.reader.now c.args.spelling.now c.args.now _ (λ errors. idle_advances c.args.reader.now c.args.spelling.now c.args.now errors))

@@ -15,11 +15,12 @@ not_none u b e f none = let is : (length u == 0) ≡ true = ap (λ t. length t =
 pub returns-then-is_empty : goal.returns-then-is_empty
 returns-then-is_empty c text place h =
     let none = is_none c.args.self.now.levels.items (sym c.is_empty.ensures ∙ c.if-is_empty.true) in
-    next_sof _ _ c.args.self.now.levels.items text c.args.level _ h (no_length _ none) c.if-level.true refl
+    rw c.fail.ensures.answer (next_sof _ _ c.args.self.now.levels.items text c.args.level c.fail.new.self h (no_length _ none) c.if-level.true c.fail.ensures.place)
 
 pub returns-in-Fault : goal.returns-in-Fault
 returns-in-Fault c text place h =
-    next_sixth _ _ _ _ c.args.self.now.levels.items text c.args.level _ c.push.result h c.in-Fault.is (c.push.ensures (reverse text) h.destuffed) refl
+    rw c.fail-in-Fault.ensures.answer
+    (next_sixth _ _ _ _ c.args.self.now.levels.items text c.args.level c.fail-in-Fault.new.self c.push.result h c.in-Fault.is (c.push.ensures (reverse text) h.destuffed) c.fail-in-Fault.ensures.place)
 
 pub returns-then-is_complete : goal.returns-then-is_complete
 returns-then-is_complete c text place h =
