@@ -11,4 +11,3 @@ pub mod Empties
 pub mod Standing
 pub mod BusSide
 pub mod RouteSide
-pub mod SliceLemmas

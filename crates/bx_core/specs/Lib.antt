@@ -9,4 +9,3 @@ pub mod TxBus
 pub mod RouteTx
 pub mod PlainMail
 pub mod Stands
-pub mod Slices
