@@ -9,3 +9,7 @@ pub mod NextBits
 pub mod Makes
 pub mod Moves
 pub mod Keeps
+pub mod Brought
+pub mod Shown
+pub mod Fresh
+pub mod Calm

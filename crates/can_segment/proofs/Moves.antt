@@ -56,10 +56,10 @@ started_by false mid after h = refl
 on_by : (on bit : ℕ) → nat_le on bit ≡ true → on ≤ bit
 on_by on bit e = elim (leb_tells on bit) [ inl is ↦ omega (arith, is.1) | inr isnt ↦ absurd (cc (e, isnt.0)) ]
 
-pub port_moves : {P : Type 0} (after : P → BusPast → Type 0) (transmitting : P → Option Item) (sink : P → List FrameValue → Type 0) (stays : P → P → Type 0) (bit : ℕ) (level : Bool) (old mid new : Member) (from between to : P) →
-    ((x y z : P) → stays x y → stays y z → stays x z) → ((x y : P) (past : List FrameValue) → stays x y → sink x past → sink y past) →
-    PortStarts after transmitting stays bit old mid from between → PortSettles after transmitting sink stays bit level mid new between to → PortMoves after transmitting sink stays bit new from to
-port_moves after transmitting sink stays bit level old mid new from between to stays_on sink_stays starts settles =
+pub port_moves : {P : Type 0} (after : P → BusPast → Type 0) (transmitting : P → Option Item) (sink : P → List FrameValue → Type 0) (bus_stays stays : P → P → Type 0) (bit : ℕ) (level : Bool) (old mid new : Member) (from between to : P) →
+    ((x y : P) → bus_stays x y → stays x y) → ((x y z : P) → stays x y → stays y z → stays x z) → ((x y : P) (past : List FrameValue) → bus_stays x y → sink x past → sink y past) →
+    PortStarts after transmitting bus_stays bit old mid from between → PortSettles after transmitting sink stays bit level mid new between to → PortMoves after transmitting sink stays bit new from to
+port_moves after transmitting sink bus_stays stays bit level old mid new from between to of_bus stays_on sink_stays starts settles =
     let same_on : is_on bit mid ≡ is_on bit new = ap (λ n. nat_le n bit) (sym settles.member.on_is) in
     let item : started_item (is_on bit mid && mid.deed.began) mid.station.sending ≡ item_of (cond (is_on bit new) (begun_by new.deed) None) =
     started_by (is_on bit mid) mid new (λ on. let s = settles.member.samples (on_by mid.on bit on) in (s.began_is, s.sent_is)) ∙ ap (λ b. item_of (cond b (begun_by new.deed) None)) same_on in
@@ -69,5 +69,6 @@ port_moves after transmitting sink stays bit level old mid new from between to s
           (subst (λ i. after to (settled_at (is_on bit mid) (started past i) new.deed)) item (settles.bus _ (starts.bus past h)));
       transmits = settles.transmits;
       offers = λ past h. subst (λ b. sink to (past ++ taken_at b new.deed)) same_on (settles.offers past (sink_stays from between past starts.stays_on h));
-      stays_on = stays_on from between to starts.stays_on settles.stays_on;
+      stays_on = stays_on from between to (of_bus from between starts.stays_on) settles.stays_on;
+      reaps = λ on. settles.member.reaps (omega (arith, on_by new.on bit on, settles.member.on_is));
     }

@@ -1,10 +1,22 @@
 -- Laws of what a loop over nodes, or over nodes and their ports, does.
-use Rattle.std.proofs.Common.{◌≡◌, ◌≢◌, ℕ, subst, inl, inr, ◌+◌, ◌<◌, ◌≤◌, List, Some, slice_get, length, set, arith, refl, sym, ◌∙◌, ap}
+use Rattle.std.proofs.Common.{◌≡◌, ◌≢◌, ℕ, zero, suc, [], ◌∷◌, subst, inl, inr, ◌+◌, ◌<◌, ◌≤◌, List, Some, slice_get, length, set, arith, refl, sym, ◌∙◌, ap}
 use Rattle.std.proofs.lemmas.Bool.{cases_lt}
 use Rattle.std.proofs.lemmas.List.{length-set}
 use Rattle.std.proofs.lemmas.Option.{slice_get_within}
-use Rattle.bx_core.proofs.SliceLemmas.{get_set_same, get_set_other}
 use Rattle.can_segment.specs.Places.{AtPlaces, AtPlacesBelow, AtBoth, AtBothBelow}
+
+-- a list that was written to at a place
+pub get_set_same : {P : Type 0} (xs : List P) (i : ℕ) (y : P) → i < length xs → slice_get (set xs i y) i ≡ Some y
+get_set_same [] i y h = absurd (omega (arith, h))
+get_set_same (x ∷ xs) zero y h = refl
+get_set_same (x ∷ xs) (suc i) y h = get_set_same xs i y (omega (arith, h))
+
+pub get_set_other : {P : Type 0} (xs : List P) (i k : ℕ) (y : P) → k ≢ i → slice_get (set xs i y) k ≡ slice_get xs k
+get_set_other [] i k y h = refl
+get_set_other (x ∷ xs) zero zero y h = absurd (h refl)
+get_set_other (x ∷ xs) zero (suc k) y h = refl
+get_set_other (x ∷ xs) (suc i) zero y h = refl
+get_set_other (x ∷ xs) (suc i) (suc k) y h = get_set_other xs i k y (λ e. h (ap suc e))
 
 pub same_some : {M : Type 0} (a b : M) → Some a ≡ Some b → a ≡ b
 same_some a b e = cc e

@@ -9,3 +9,6 @@ pub mod Kept
 pub mod Places
 pub mod Tellings
 pub mod Moves
+pub mod Brought
+pub mod Segments
+pub mod Fresh

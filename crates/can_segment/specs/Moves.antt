@@ -1,12 +1,12 @@
 -- What the nodes of a segment and their ports do at one bit. Private clauses cite it.
-use Rattle.std.specs.Prelude.{◌≡◌, ℕ, ◌+◌, ◌&&◌, Bool, List, Some, Option, None, length, slice_get, ◌++◌, if◌then◌else◌}
+use Rattle.std.specs.Prelude.{◌≡◌, ℕ, ◌+◌, ◌&&◌, Bool, true, List, Some, Option, None, IfSome, length, slice_get, ◌++◌, if◌then◌else◌}
 use Rattle.std.specs.List.{list_all}
 use Rattle.can_frame.specs.Frames.{FrameValue}
 use Rattle.bx_core.specs.TxBus.{Item, BusPast}
 use Rattle.can_segment.specs.declared.member.Member.{Member}
 use Rattle.can_segment.specs.declared.plan.SegmentPlan.{SegmentPlan}
 use Rattle.can_segment.specs.Faults.{line_level, sampled_level}
-use Rattle.can_segment.specs.Ports.{item_of, started}
+use Rattle.can_segment.specs.Ports.{item_of, started, Reaps}
 use Rattle.can_segment.specs.Members.{TalkerStarts, TalkerSamples, StartsRequest, SamplesAndSettles, is_on, settled_at, taken_at, drives_at}
 use Rattle.can_segment.specs.Places.{AtPlaces}
 use Rattle.can_segment.specs.Kept.{begun_by}
@@ -34,3 +34,4 @@ pub record PortMoves {P : Type 0} (after : P → BusPast → Type 0) (transmitti
   pub transmits : transmitting to ≡ item_of new.station.sending
   pub offers : (past : List FrameValue) → sink from past → sink to (past ++ taken_at (is_on bit new) new.deed)
   pub stays_on : stays from to
+  pub reaps : is_on bit new ≡ true → IfSome new.deed.reaped (λ label. Reaps new.deed.sent new.deed.outcome label)

@@ -11,6 +11,7 @@ mod port;
 mod record;
 mod rx_sink;
 mod seg_fault;
+mod segment;
 mod sent;
 mod station;
 mod tell;
@@ -20,3 +21,7 @@ pub use crate::plan::{Controller, LineFault, NodeFault, SegmentPlan, Talker};
 pub use crate::record::Record;
 pub use crate::rx_sink::RxSink;
 pub use crate::seg_fault::SegFault;
+pub use crate::segment::Segment;
+
+#[cfg(test)]
+mod tests;

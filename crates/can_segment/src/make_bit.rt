@@ -1,6 +1,7 @@
 //! One bit of a segment.
 
-ghost use Rattle.std.specs.Prelude.{◌≡◌, ◌+◌, ◌*◌, ◌<◌, ◌≤◌, ◌++◌, ◌∷◌, [], ℕ, Bool, Some, length, slice_get, vec_len, vec_capacity};
+ghost use Rattle.std.specs.Prelude.{◌≡◌, true, ◌+◌, ◌*◌, ◌<◌, ◌≤◌, ◌++◌, ◌∷◌, [], ℕ, Bool, Some, length, slice_get, vec_len, vec_capacity};
+ghost use Rattle.can_segment.specs.Faults.{IsCalm};
 ghost use Rattle.can_segment.specs.Ports.{item_of};
 ghost use Rattle.can_segment.specs.Moves.{PortMoves};
 ghost use Rattle.can_segment.specs.Kept.{SegmentKept};
@@ -31,7 +32,9 @@ pub(crate) fn make_bit<R, P: RxSink<R>>(
     ports: &mut [P],
     levels: &mut Vec<bool>,
     events: &mut Vec<Event>,
+    calm: bool,
 )
+    requires calm { calm ≡ true → IsCalm plan.now (length levels.old.items) }
     requires kept { SegmentKept plan.now levels.old.items events.old.items talkers.old controllers.old }
     requires still { length levels.old.items < plan.now.bits }
     requires ports { length ports.old ≡ length controllers.old }
@@ -47,11 +50,11 @@ pub(crate) fn make_bit<R, P: RxSink<R>>(
         ++ bit_lines (length levels.old.items) talkers.new controllers.new }
     ensures port { (k : ℕ) (m : Member) (p q : P) → slice_get controllers.new k ≡ Some m
         → slice_get ports.old k ≡ Some p → slice_get ports.new k ≡ Some q
-        → PortMoves P.bus_after P.transmitting P.sink_after P.bus_stays (length levels.old.items) m p q }
+        → PortMoves P.bus_after P.transmitting P.sink_after P.port_stays (length levels.old.items) m p q }
     ensures size { length ports.new ≡ length ports.old }
 {
     let bit = levels.len() as u64;
-    let level = move_nodes(rt, plan, talkers, controllers, ports, bit);
+    let level = move_nodes(rt, plan, talkers, controllers, ports, bit, calm);
     let first = talkers.len() as u32;
     tell_starts(events, bit, 0, talkers);
     tell_starts(events, bit, first, controllers);

@@ -5,6 +5,8 @@ ghost use Rattle.can_frame.specs.Frames.{FrameValue};
 ghost use Rattle.bx_core.specs.TxBus.{BusPast};
 ghost use Rattle.can_node.specs.Node.{bit_of};
 ghost use Rattle.can_segment.specs.Ports.{item_of, started, started_item};
+ghost use Rattle.can_segment.specs.Fresh.{IsFresh};
+ghost use Rattle.can_segment.specs.Segments.{AreOf};
 ghost use Rattle.can_segment.specs.Members.{
   is_on,
   StartsTalking,
@@ -22,7 +24,7 @@ use crate::rx_sink::RxSink;
 use crate::sent::Sent;
 use crate::station::Station;
 use can_frame::Frame;
-use can_node::Outcome;
+use can_node::{Counters, Outcome};
 
 /// What a node did at the last bit: whether it began to send, what it sent, and what became of it.
 #[derive(Clone, Copy)]
@@ -42,6 +44,29 @@ pub(crate) struct Member {
 }
 
 impl Member {
+    /// A node that is switched on at this bit.
+    pub(crate) fn new(on: u64) -> Member
+        ensures { IsFresh on result }
+    {
+        Member {
+            on,
+            station: Station::new(on),
+            deed: Deed {
+                began: false,
+                sent: None,
+                outcome: Outcome::Nothing,
+                reaped: None,
+            },
+        }
+    }
+
+    /// Its error counters.
+    pub(crate) fn counters(&self) -> Counters
+        ensures { AreOf self.now result }
+    {
+        self.station.node.counters()
+    }
+
     /// A talker takes its next message at the start of this bit.
     pub(crate) fn start_talking(&mut self, bit: u64, frames: &[Frame])
         ensures { StartsTalking bit self.old self.new frames.now }
@@ -113,7 +138,7 @@ impl Member {
         ensures transmits { P.transmitting port.new ≡ item_of self.new.station.sending }
         ensures sink { (past : List FrameValue) → P.sink_after port.old past
             → P.sink_after port.new (past ++ taken_at (is_on bit self.old) self.new.deed) }
-        ensures stays { P.bus_stays port.old port.new }
+        ensures stays { P.port_stays port.old port.new }
     {
         self.sample(bit, level);
         if bit < self.on {

@@ -1,9 +1,9 @@
 //! The nodes of a segment, one after another.
 
-ghost use Rattle.std.specs.Prelude.{◌≡◌, ◌+◌, ◌<◌, ◌≤◌, ◌&&◌, ℕ, Some, length, slice_get};
+ghost use Rattle.std.specs.Prelude.{◌≡◌, true, ◌+◌, ◌<◌, ◌≤◌, ◌&&◌, ℕ, Some, length, slice_get};
 ghost use Rattle.std.specs.List.{list_all};
 ghost use Rattle.can_node.specs.Node.{bit_of};
-ghost use Rattle.can_segment.specs.Faults.{sampled_level};
+ghost use Rattle.can_segment.specs.Faults.{sampled_level, IsCalm};
 ghost use Rattle.can_segment.specs.Ports.{item_of};
 ghost use Rattle.can_segment.specs.Places.{AtPlaces, AtBoth};
 ghost use Rattle.can_segment.specs.Members.{
@@ -16,7 +16,7 @@ ghost use Rattle.can_segment.specs.Members.{
 ghost use Rattle.can_segment.specs.Moves.{NodesMove, PortMoves};
 ghost use Rattle.can_segment.specs.declared.member.Member.{Member};
 
-use crate::faults::{line_level, sampled_level};
+use crate::faults::{level_at, node_faults_at, sampled_level};
 use crate::member::Member;
 use crate::plan::{NodeFault, SegmentPlan, Talker};
 use crate::rx_sink::RxSink;
@@ -96,7 +96,7 @@ pub(crate) fn sample_controllers<R, P: RxSink<R>>(
     requires few { first + length members.old ≤ 1000 }
     requires port { (k : ℕ) (m : Member) (p : P) → slice_get members.old k ≡ Some m
         → slice_get ports.old k ≡ Some p → P.transmitting p ≡ item_of m.station.sending }
-    ensures { AtBoth (λ k. PortSettles P.bus_after P.transmitting P.sink_after P.bus_stays bit
+    ensures { AtBoth (λ k. PortSettles P.bus_after P.transmitting P.sink_after P.port_stays bit
         (sampled_level faults.now (first + k) bit level)) members.old members.new ports.old ports.new }
 {
     for place in 0..members.len() {
@@ -105,7 +105,8 @@ pub(crate) fn sample_controllers<R, P: RxSink<R>>(
     }
 }
 
-/// What all nodes do at a bit: they start, and sample the line, which has this level.
+/// What all nodes do at a bit: they start, and sample the line, which has this level. Faults are looked for
+/// unless it is known that none stands at this bit.
 pub(crate) fn move_nodes<R, P: RxSink<R>>(
     rt: &R,
     plan: &SegmentPlan,
@@ -113,7 +114,9 @@ pub(crate) fn move_nodes<R, P: RxSink<R>>(
     controllers: &mut [Member],
     ports: &mut [P],
     bit: u64,
+    calm: bool,
 ) -> bool
+    requires calm { calm ≡ true → IsCalm plan.now bit }
     requires talkers { length talkers.old ≡ length plan.now.talkers.items }
     requires ports { length ports.old ≡ length controllers.old }
     requires few { length talkers.old + length controllers.old ≤ 1000 }
@@ -126,15 +129,15 @@ pub(crate) fn move_nodes<R, P: RxSink<R>>(
     ensures nodes { NodesMove plan.now bit result talkers.old talkers.new controllers.old controllers.new }
     ensures port { (k : ℕ) (m : Member) (p q : P) → slice_get controllers.new k ≡ Some m
         → slice_get ports.old k ≡ Some p → slice_get ports.new k ≡ Some q
-        → PortMoves P.bus_after P.transmitting P.sink_after P.bus_stays bit m p q }
+        → PortMoves P.bus_after P.transmitting P.sink_after P.port_stays bit m p q }
     ensures size { length ports.new ≡ length ports.old }
 {
     let first = talkers.len() as u32;
     start_talkers(talkers, plan.talkers.as_slice(), bit);
     start_controllers(rt, controllers, ports, bit);
     let driven = driven_by_all(talkers, controllers, bit);
-    let level = line_level(plan.line_faults.as_slice(), bit, driven);
-    let faults = plan.node_faults.as_slice();
+    let level = level_at(plan, bit, driven, calm);
+    let faults = node_faults_at(plan, bit, calm);
     sample_talkers(talkers, faults, bit, level);
     sample_controllers(rt, controllers, ports, faults, first, bit, level);
     level

@@ -54,7 +54,7 @@ pub(crate) fn settle<R, P: RxSink<R>>(
     ensures transmits { P.transmitting port.new ≡ item_of (sending_after sending outcome) }
     ensures sink { (past : List FrameValue) → P.sink_after port.old past
         → P.sink_after port.new (past ++ taken_by outcome) }
-    ensures stays { P.bus_stays port.old port.new }
+    ensures stays { P.port_stays port.old port.new }
     ensures reaps { IfSome result (λ label. Reaps sending outcome label) }
 {
     match outcome {

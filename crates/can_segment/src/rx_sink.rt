@@ -15,13 +15,20 @@ pub trait RxSink<R>: TxBus<R> {
     // it may have been offered this since it was made, in this order
     ghost sink_after: { Self → List FrameValue → Type 0 };
 
+    // what neither a call of the bus side nor an offer changes
+    ghost port_stays: { Self → Self → Type 0 };
+
     /// The controller has taken this frame.
     fn offer(&mut self, rt: &R, frame: Frame)
         ensures past { (past : List FrameValue) → sink_after self.old past → sink_after self.new (past ++ frame ∷ []) }
         ensures bus { (past : BusPast) → Self.bus_after self.old past → Self.bus_after self.new past }
         ensures transmits { Self.transmitting self.new ≡ Self.transmitting self.old }
-        ensures stays { Self.bus_stays self.old self.new };
+        ensures stays { port_stays self.old self.new };
 
     // no call of the bus side changes what was offered
     ghost sink_stays: { (x y : Self) (past : List FrameValue) → Self.bus_stays x y → sink_after x past → sink_after y past };
+
+    ghost port_of_bus: { (x y : Self) → Self.bus_stays x y → port_stays x y };
+
+    ghost port_stays_on: { (x y z : Self) → port_stays x y → port_stays y z → port_stays x z };
 }

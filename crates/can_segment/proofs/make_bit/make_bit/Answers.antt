@@ -28,4 +28,4 @@ returns-clause-kept g c =
 pub returns-clause-port : goal.returns-clause-port
 returns-clause-port g c k m p q e f h =
     let here : c.len-bit.result ≡ length c.args.levels.now.items = search rules in
-    subst (λ b. PortMoves g.P.TxBus.bus_after g.P.TxBus.transmitting g.P.RxSink.sink_after g.P.TxBus.bus_stays b m p q) here (c.move_nodes-level.ensures.port k m p q e f h)
+    subst (λ b. PortMoves g.P.TxBus.bus_after g.P.TxBus.transmitting g.P.RxSink.sink_after g.P.RxSink.port_stays b m p q) here (c.move_nodes-level.ensures.port k m p q e f h)

@@ -1,8 +1,7 @@
-use Rattle.std.proofs.Common.{◌&&◌, ap, ◌∙◌, arith}
-use Rattle.std.specs.List.{list_all}
+use Rattle.std.proofs.Common.{◌+◌, length, ap, subst, ◌∙◌, arith}
 use Rattle.std.proofs.lemmas.Option.{slice_get_within}
-use Rattle.can_segment.specs.Faults.{line_level}
-use Rattle.can_segment.specs.Members.{drives_at}
+use Rattle.can_segment.specs.Faults.{line_level, sampled_level}
+use Rattle.can_segment.specs.Members.{Samples, SamplesAndSettles}
 use Rattle.can_segment.proofs.NextBits.{some_there}
 use Rattle.can_segment.proofs.Moves.{talker_clock, controller_clock, port_moves}
 use Rattle.can_segment.proofs.members.move_nodes.Goals as goal
@@ -57,7 +56,10 @@ returns-clause-nodes g c =
       t1 = c.start_talkers.new.members;
       c1 = c.start_controllers.new.members;
       starts = rw c.as_slice.ensures.value at c.start_talkers.ensures;
-      samples = rw c.as_slice-faults.ensures.value at c.sample_talkers.ensures;
+      samples = record {
+        at = λ k a b e f. subst (λ l. Samples c.args.bit l a b) (c.node_faults_at-faults.ensures k c.level_at-level.result) (c.sample_talkers.ensures.at k a b e f);
+        size = c.sample_talkers.ensures.size;
+      };
       controls = record {
         starts = λ k a b ea eb.
             let within = slice_get_within c.args.controllers.now k a ea in
@@ -68,12 +70,12 @@ returns-clause-nodes g c =
             let within = slice_get_within c.start_controllers.new.members k a ea in
             let from = some_there c.start_controllers.new.ports k (omega (arith, within, starts.size, starts.size_too, c.requires.ports)) in
             let to = some_there c.sample_controllers.new.ports k (omega (arith, within, starts.size, starts.size_too, settles.size_too, c.requires.ports)) in
-            rw (c.as_slice-faults.ensures.value, c.requires.talkers) at (settles.at k a b from.0 to.0 ea eb from.1 to.1).member;
+            subst (λ n. SamplesAndSettles c.args.bit (sampled_level c.args.plan.now.node_faults.items (n + k) c.args.bit c.level_at-level.result) a b) c.requires.talkers
+            (subst (λ l. SamplesAndSettles c.args.bit l a b) (c.node_faults_at-faults.ensures (length c.args.talkers.now + k) c.level_at-level.result) (settles.at k a b from.0 to.0 ea eb from.1 to.1).member);
         mid_size = starts.size;
         after_size = settles.size;
       };
-      level_is = c.line_level-level.ensures ∙ ap (λ d. line_level c.as_slice-2.result.now c.args.bit d) c.driven_by_all-driven.ensures
-          ∙ ap (λ fs. line_level fs c.args.bit (list_all (drives_at c.args.bit) c.start_talkers.new.members && list_all (drives_at c.args.bit) c.start_controllers.new.members)) c.as_slice-2.ensures.value;
+      level_is = c.level_at-level.ensures ∙ ap (λ d. line_level c.args.plan.now.line_faults.items c.args.bit d) c.driven_by_all-driven.ensures;
     }
 
 pub returns-clause-port : goal.returns-clause-port
@@ -84,5 +86,5 @@ returns-clause-port g c k m p q e f h =
     let old = some_there c.args.controllers.now k (omega (arith, within, starts.size, settles.size)) in
     let mid = some_there c.start_controllers.new.members k (omega (arith, within, settles.size)) in
     let between = some_there c.start_controllers.new.ports k (omega (arith, within, starts.size, settles.size, starts.size_too, c.requires.ports)) in
-    port_moves g.P.TxBus.bus_after g.P.TxBus.transmitting g.P.RxSink.sink_after g.P.TxBus.bus_stays c.args.bit _ old.0 mid.0 m p between.0 q g.met.P.TxBus.bus_stays_on g.met.P.RxSink.sink_stays
+    port_moves g.P.TxBus.bus_after g.P.TxBus.transmitting g.P.RxSink.sink_after g.P.TxBus.bus_stays g.P.RxSink.port_stays c.args.bit _ old.0 mid.0 m p between.0 q g.met.P.RxSink.port_of_bus g.met.P.RxSink.port_stays_on g.met.P.RxSink.sink_stays
     (starts.at k old.0 mid.0 p between.0 old.1 mid.1 f between.1) (settles.at k mid.0 m between.0 q mid.1 e between.1 h)

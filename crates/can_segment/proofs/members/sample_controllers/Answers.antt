@@ -10,7 +10,7 @@ loop-place-preserved g c =
     let members = c.loop-place.members in
     let ports = c.loop-place.ports in
     let place = c.loop-place.place in
-    both_step (λ k. PortSettles g.P.TxBus.bus_after g.P.TxBus.transmitting g.P.RxSink.sink_after g.P.TxBus.bus_stays c.args.bit (sampled_level c.args.faults.now (c.args.first + k) c.args.bit c.args.level))
+    both_step (λ k. PortSettles g.P.TxBus.bus_after g.P.TxBus.transmitting g.P.RxSink.sink_after g.P.RxSink.port_stays c.args.bit (sampled_level c.args.faults.now (c.args.first + k) c.args.bit c.args.level))
     c.args.members.now members c.args.ports.now ports place _ c.sample_and_settle.new.self _ c.sample_and_settle.new.port
     (omega (arith, c.loop-place-test.true, c.loop-place.invariant.size)) c.requires.size
     (slice_get-get_or members place c.index-members-place.result (omega (arith, c.loop-place-test.true)))
@@ -24,6 +24,6 @@ loop-place-preserved g c =
     }) c.loop-place.invariant
 
 pub returns : goal.returns
-returns g c = both_end (λ k. PortSettles g.P.TxBus.bus_after g.P.TxBus.transmitting g.P.RxSink.sink_after g.P.TxBus.bus_stays c.args.bit (sampled_level c.args.faults.now (c.args.first + k) c.args.bit c.args.level))
+returns g c = both_end (λ k. PortSettles g.P.TxBus.bus_after g.P.TxBus.transmitting g.P.RxSink.sink_after g.P.RxSink.port_stays c.args.bit (sampled_level c.args.faults.now (c.args.first + k) c.args.bit c.args.level))
     c.args.members.now c.loop-place.members c.args.ports.now c.loop-place.ports c.loop-place.place
     (omega (arith, c.loop-place-test.false, c.loop-place.invariant.size)) c.loop-place.invariant

@@ -1,0 +1,73 @@
+-- What the lines of a record tell of a node is what its port was brought: the bus side its starts, its
+-- completions and what was reaped, the sink the frames that were taken.
+use Rattle.std.specs.Prelude.{◌≡◌, ℕ, ◌≤◌, ◌==◌, Option, List, [], ◌∷◌, ◌++◌, length, option_to_list, if◌then◌else◌}
+use Rattle.can_frame.specs.Frames.{FrameValue}
+use Rattle.bx_core.specs.TxBus.{Item, BusPast}
+use Rattle.can_segment.specs.declared.event.Event.{Event}
+use Rattle.can_segment.specs.declared.event.Told.{Told}
+use Rattle.can_segment.specs.declared.event.Told.TheVariants as told
+use Rattle.can_segment.specs.Ports.{item_with}
+
+-- what is told of a node
+abbrev pub told_of : ℕ → List Event → List Told
+told_of node [] = []
+told_of node (event ∷ more) = if event.node == node then event.told ∷ told_of node more else told_of node more
+
+-- a line names a request that started, one that was sent, one that was reaped, or a frame that was taken
+abbrev pub start_in : Told → List Item
+start_in (told.Started frame label) = option_to_list (item_with frame label)
+start_in (told.Took start frame) = []
+start_in (told.Completed start frame label) = []
+start_in (told.Lost start) = []
+start_in (told.Error kind) = []
+start_in told.Off = []
+start_in told.Back = []
+start_in (told.Reaped label) = []
+
+abbrev pub sent_in : Told → List Item
+sent_in (told.Started frame label) = []
+sent_in (told.Took start frame) = []
+sent_in (told.Completed start frame label) = option_to_list (item_with frame label)
+sent_in (told.Lost start) = []
+sent_in (told.Error kind) = []
+sent_in told.Off = []
+sent_in told.Back = []
+sent_in (told.Reaped label) = []
+
+abbrev pub reaped_in : Told → List (ℕ × ℕ)
+reaped_in (told.Started frame label) = []
+reaped_in (told.Took start frame) = []
+reaped_in (told.Completed start frame label) = []
+reaped_in (told.Lost start) = []
+reaped_in (told.Error kind) = []
+reaped_in told.Off = []
+reaped_in told.Back = []
+reaped_in (told.Reaped label) = (label.route, label.number) ∷ []
+
+abbrev pub taken_in : Told → List FrameValue
+taken_in (told.Started frame label) = []
+taken_in (told.Took start frame) = frame ∷ []
+taken_in (told.Completed start frame label) = []
+taken_in (told.Lost start) = []
+taken_in (told.Error kind) = []
+taken_in told.Off = []
+taken_in told.Back = []
+taken_in (told.Reaped label) = []
+
+-- what all of them name, in their order
+abbrev pub all_in : {X : Type 0} → (Told → List X) → List Told → List X
+all_in names [] = []
+all_in names (one ∷ more) = names one ++ all_in names more
+
+-- the past of a bus side which was brought this
+abbrev pub grown : BusPast → List Told → BusPast
+grown past tells = record { started = past.started ++ all_in start_in tells; done = past.done ++ all_in sent_in tells; reaped = past.reaped ++ all_in reaped_in tells }
+
+-- a port was brought what is told of its node, which sends this then
+pub record IsBrought {P : Type 0} (after : P → BusPast → Type 0) (transmitting : P → Option Item) (sink : P → List FrameValue → Type 0) (stays : P → P → Type 0)
+    (tells : List Told) (sends : Option Item) (from to : P) : Type 0 where
+  pub bus : (past : BusPast) → after from past → after to (grown past tells)
+  pub transmits : transmitting to ≡ sends
+  pub offers : (past : List FrameValue) → sink from past → sink to (past ++ all_in taken_in tells)
+  pub one_at_most : length (all_in taken_in tells) ≤ 1
+  pub stays_on : stays from to

@@ -1,0 +1,85 @@
+-- A segment, as contracts see it.
+use Rattle.std.specs.Prelude.{◌≡◌, ℕ, ◌+◌, ◌≤◌, Bool, Option, Some, None, List, [], ◌∷◌, ◌++◌, length, map, slice_get}
+use Rattle.can_frame.specs.Frames.{FrameValue}
+use Rattle.bx_core.specs.TxBus.{Item, BusPast}
+use Rattle.can_node.specs.Histories.{Past}
+use Rattle.can_node.specs.Node.{StandsAfter}
+use Rattle.can_node.specs.declared.counters.Counters.{Counters}
+use Rattle.can_node.specs.Counters.{StandsAfter as CountersStandAfter}
+use Rattle.can_segment.specs.declared.event.Event.{Event}
+use Rattle.can_segment.specs.declared.member.Member.{Member}
+use Rattle.can_segment.specs.declared.plan.SegmentPlan.{SegmentPlan}
+use Rattle.can_segment.specs.declared.record.Record.{Record}
+use Rattle.can_segment.specs.Brought.{told_of, IsBrought}
+use Rattle.can_segment.specs.Kept.{SegmentKept}
+use Rattle.can_segment.specs.Ports.{item_of}
+
+-- its plan, what it recorded so far, and what each controller has on the bus
+pub record SegmentValue : Type 0 where
+  pub plan : SegmentPlan
+  pub levels : List Bool
+  pub events : List Event
+  pub counters : List Counters
+  pub sending : List (Option Item)
+
+-- a record of this plan shows what the segment recorded
+pub record IsRecordOf (segment : SegmentValue) (record_of : Record) : Type 0 where
+  pub levels_is : record_of.levels.items ≡ segment.levels
+  pub events_is : record_of.events.items ≡ segment.events
+  pub counters_is : record_of.counters.items ≡ segment.counters
+
+-- there is a port for each controller, and it transmits what the segment has sending there
+pub record Fit {P : Type 0} (transmitting : P → Option Item) (segment : SegmentValue) (ports : List P) : Type 0 where
+  pub size : length ports ≡ length segment.sending
+  pub transmits : (k : ℕ) (sends : Option Item) (p : P) → slice_get segment.sending k ≡ Some sends → slice_get ports k ≡ Some p → transmitting p ≡ sends
+
+-- it makes one more bit: each port was brought what the new lines tell of its node
+pub record MakesBit {P : Type 0} (after : P → BusPast → Type 0) (transmitting : P → Option Item) (sink : P → List FrameValue → Type 0) (stays : P → P → Type 0)
+    (old new : SegmentValue) (from to : List P) : Type 0 where
+  pub level : Bool
+  pub lines : List Event
+  pub plan_is : new.plan ≡ old.plan
+  pub levels_is : new.levels ≡ old.levels ++ level ∷ []
+  pub events_is : new.events ≡ old.events ++ lines
+  pub size : length to ≡ length from
+  pub ports : (k : ℕ) (sends : Option Item) (p q : P) → slice_get new.sending k ≡ Some sends → slice_get from k ≡ Some p → slice_get to k ≡ Some q →
+      IsBrought after transmitting sink stays (told_of (length old.plan.talkers.items + k) lines) sends p q
+
+-- a segment of this plan before its first bit
+pub record IsOpening (plan : SegmentPlan) (segment : SegmentValue) : Type 0 where
+  pub plan_is : segment.plan ≡ plan
+  pub no_levels : segment.levels ≡ []
+  pub no_events : segment.events ≡ []
+  pub one_each : length segment.sending ≡ length plan.controllers.items
+  pub idle : (k : ℕ) (sends : Option Item) → slice_get segment.sending k ≡ Some sends → sends ≡ None
+
+-- counters show those of a node
+abbrev pub AreOf : Member → Counters → Type 0
+AreOf member counters = (past : Past) → StandsAfter member.station.node past → CountersStandAfter counters past.events
+
+-- from this place on, the counters of these nodes
+abbrev pub AreFrom : ℕ → List Member → List Counters → Type 0
+AreFrom first members counters = (k : ℕ) (member : Member) (shown : Counters) → slice_get members k ≡ Some member → slice_get counters (first + k) ≡ Some shown → AreOf member shown
+
+-- what stands in a segment between two bits
+pub record SegmentHolds (plan : SegmentPlan) (record_of : Record) (talkers controllers : List Member) : Type 0 where
+  pub kept : SegmentKept plan record_of.levels.items record_of.events.items talkers controllers
+  pub few : length talkers + length controllers ≤ 16
+  pub size : length record_of.counters.items ≡ length talkers + length controllers
+  pub talkers_shown : AreFrom 0 talkers record_of.counters.items
+  pub controllers_shown : AreFrom (length talkers) controllers record_of.counters.items
+
+-- the requests that these nodes have on the bus
+abbrev pub sending_of_all : List Member → List (Option Item)
+sending_of_all = map (λ member. item_of member.station.sending)
+
+-- the record grows by a bit, and each port was brought what its lines tell
+pub record Grows {P : Type 0} (after : P → BusPast → Type 0) (transmitting : P → Option Item) (sink : P → List FrameValue → Type 0) (stays : P → P → Type 0)
+    (plan : SegmentPlan) (old new : Record) (controllers : List Member) (from to : List P) : Type 0 where
+  pub level : Bool
+  pub lines : List Event
+  pub levels_is : new.levels.items ≡ old.levels.items ++ level ∷ []
+  pub events_is : new.events.items ≡ old.events.items ++ lines
+  pub ports : (k : ℕ) (m : Member) (p q : P) → slice_get controllers k ≡ Some m → slice_get from k ≡ Some p → slice_get to k ≡ Some q →
+      IsBrought after transmitting sink stays (told_of (length plan.talkers.items + k) lines) (item_of m.station.sending) p q
+  pub size : length to ≡ length from
