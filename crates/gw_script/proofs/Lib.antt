@@ -4,3 +4,9 @@ pub mod FaultLaws
 pub mod NameLaws
 pub mod BankLaws
 pub mod NodeLaws
+pub mod WhereLaws
+pub mod Readings
+pub mod SoundLaws
+pub mod SoundNodes
+pub mod Hexadecimal
+pub mod LineLaws

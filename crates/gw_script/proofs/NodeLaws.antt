@@ -1,9 +1,11 @@
 -- Laws of nodes and their places.
-use Rattle.std.proofs.Common.{◌≡◌, ◌∙◌, ap, sym, ℕ, suc, ◌+◌, ◌<◌, ◌≤◌, ◌==◌, List, [], ◌∷◌, ◌++◌, length, drop, get_or, Bool, true, false, cond, Some, None, drop-cons, add-one, arith}
+use Rattle.std.proofs.Common.{◌≡◌, ◌∙◌, ap, sym, ℕ, suc, ◌+◌, ◌<◌, ◌≤◌, ◌==◌, List, [], ◌∷◌, ◌++◌, length, drop, get_or, count_by, length-append, Bool, true, false, cond, Some, None, drop-cons, add-one, arith}
 use Rattle.std.proofs.lemmas.Bool.{eq-eqb}
-use Rattle.std.proofs.lemmas.List.{drop_all}
+use Rattle.std.proofs.lemmas.List.{drop_all, length-map}
+use Rattle.std.proofs.lemmas.List.Sums.{length-filter}
 use Rattle.std.specs.List.{position_from}
 use Rattle.std.specs.Str.{bytes_eq}
+use Rattle.gw_script.specs.Talkers.{TalkerValue, talker_names}
 use Rattle.gw_script.specs.Segments.{SegmentValue}
 use Rattle.gw_script.specs.Controllers.{ControllerValue, controller_names, controllers_on, node_names}
 use Rattle.gw_script.specs.PlannedFaults.{node_from, or_later}
@@ -74,3 +76,12 @@ node_later cs name ss i s lt is none =
 
 pub node_nowhere : (cs : List ControllerValue) (name : List ℕ) (ss : List SegmentValue) (i : ℕ) → length ss ≤ i → node_from cs name i (drop i ss) ≡ None
 node_nowhere cs name ss i beyond = ap (node_from cs name i) (drop_all i ss beyond)
+
+-- as many names as talkers and controllers
+pub length-names : (ts : List TalkerValue) (place : ℕ) (cs : List ControllerValue) →
+    length (talker_names ts ++ controller_names (controllers_on place cs)) ≡ length ts + count_by (λ (c : ControllerValue). c.segment == place) cs
+length-names ts place cs =
+    let on = controllers_on place cs in
+    length-append (talker_names ts) (controller_names on)
+    ∙ ap (λ n. n + length (controller_names on)) (length-map ts (λ (t : TalkerValue). t.name))
+    ∙ ap (λ n. length ts + n) (length-map on (λ (one : ControllerValue). one.name) ∙ length-filter (λ (one : ControllerValue). one.segment == place) cs)

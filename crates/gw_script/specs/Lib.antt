@@ -18,3 +18,8 @@ pub mod PlannedAborts
 pub mod Scripts
 pub mod ScriptParts
 pub mod SoundScripts
+pub mod Lines
+pub mod FrameTexts
+pub mod Nodes
+pub mod NamedPlaces
+pub mod ReportTexts

@@ -77,11 +77,12 @@ impl Named for Controller {
     ghost name_of = { λ c. c.name };
 
     fn name(&self) -> &str {
-        self.name.as_str()
+        Controller::name(self)
     }
 }
 
-fn count_on(controllers: &[Controller], place: usize) -> usize
+/// How many of these controllers are on a segment.
+pub fn count_on(controllers: &[Controller], place: usize) -> usize
     ensures value { result ≡ count_by (λ c. c.segment == place) controllers.now }
     ensures few { result ≤ length controllers.now }
 {

@@ -83,7 +83,7 @@ impl Named for Route {
     ghost name_of = { λ r. r.name };
 
     fn name(&self) -> &str {
-        self.name.as_str()
+        Route::name(self)
     }
 }
 

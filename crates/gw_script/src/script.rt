@@ -1,20 +1,25 @@
 //! A script: what a run of the gateway is made of.
 
-ghost use Rattle.std.specs.Prelude.{◌≡◌, ◌≤◌, IfOk, IfErr};
+ghost use Rattle.std.specs.Prelude.{◌≡◌, ◌<◌, ◌≤◌, length, slice_get, option_and_then, IfOk, IfErr, IfSome};
+ghost use Rattle.std.specs.Option.{option_map};
 ghost use Rattle.serde_json.specs.View.{view};
 ghost use Rattle.gw_script.specs.Faults.{Reads, ReadsUnlessMemory, UnlessMemory};
 ghost use Rattle.gw_script.specs.Documents.{IsTextOf, FirstFault};
+ghost use Rattle.gw_script.specs.Controllers.{controllers_on};
 ghost use Rattle.gw_script.specs.Scripts.{version_of, lists_of, script_of};
 ghost use Rattle.gw_script.specs.SoundScripts.{IsSound};
+ghost use Rattle.gw_script.specs.Nodes.{controller_places, controller_at, names_of_nodes, route_at, talkers_on};
 
-use crate::controller::{Controller, controllers_of};
+use crate::controller::{Controller, controllers_of, count_on};
 use crate::document::document;
 use crate::fields::{natural, object_of, whole};
 use crate::planned_abort::{PlannedAbort, planned_aborts_of};
 use crate::planned_fault::{PlannedFault, planned_faults_of};
 use crate::route::{Route, routes_of};
 use crate::script_fault::ScriptFault;
+use crate::script_places::{nth_into, nth_on};
 use crate::segment::{Segment, segments_of};
+use crate::talker::Talker;
 use serde_json::Value;
 use std::alloc::Global;
 use std::marker::Model;
@@ -68,6 +73,72 @@ impl Script {
         ensures { result.now ≡ self.now.routes }
     {
         self.routes.as_slice()
+    }
+
+    /// A controller by its place among those on a segment, in the order of the script: its place in the
+    /// script, or `None` behind the last.
+    pub fn controller_on(&self, segment: usize, nth: usize) -> Option<usize>
+        ensures value { result ≡ slice_get (controller_places self.now segment) nth }
+        ensures controller { option_and_then (λ place. slice_get self.now.controllers place) result
+            ≡ slice_get (controllers_on segment self.now.controllers) nth }
+        ensures range { IfSome result (λ place. place < length self.now.controllers) }
+    {
+        nth_on(self.controllers.as_slice(), segment, nth)
+    }
+
+    /// The controller that is a node of a segment: its place in the script. `None` for a talker, and where
+    /// the segment has no such node.
+    pub fn controller_at(&self, segment: usize, node: usize) -> Option<usize>
+        ensures value { result ≡ controller_at self.now segment node }
+        ensures range { IfSome result (λ place. place < length self.now.controllers) }
+    {
+        let talkers = self.talkers_on(segment).len();
+        if node < talkers {
+            return None;
+        }
+        self.controller_on(segment, node - talkers)
+    }
+
+    /// How many nodes a segment has: its talkers and the controllers on it.
+    pub fn node_count(&self, segment: usize) -> usize
+        ensures { result ≡ length (names_of_nodes self.now segment) }
+    {
+        let talkers = self.talkers_on(segment).len();
+        talkers + count_on(self.controllers.as_slice(), segment)
+    }
+
+    /// The name of a node of a segment, by its place among the segment's talkers and, behind them, the
+    /// controllers on it. `None` where the segment has no such node.
+    pub fn node_name(&self, segment: usize, node: usize) -> Option<&str>
+        ensures { option_map (λ name. name.now) result ≡ slice_get (names_of_nodes self.now segment) node }
+    {
+        let talkers = self.talkers_on(segment);
+        if node < talkers.len() {
+            return Some(talkers[node].name());
+        }
+        match self.controller_on(segment, node - talkers.len()) {
+            Some(place) => Some(self.controllers[place].name()),
+            None => None,
+        }
+    }
+
+    /// A route by its number at the controller that it leads into: its place in the script. `None` where
+    /// fewer routes lead there.
+    pub fn route_at(&self, controller: usize, number: usize) -> Option<usize>
+        ensures value { result ≡ route_at self.now controller number }
+        ensures range { IfSome result (λ place. place < length self.now.routes) }
+    {
+        nth_into(self.routes.as_slice(), controller, number)
+    }
+
+    /// The talkers on a segment; none where there is no such segment.
+    fn talkers_on(&self, segment: usize) -> &[Talker]
+        ensures { result.now ≡ talkers_on (slice_get self.now.segments segment) }
+    {
+        match self.segments.get(segment) {
+            Some(segment) => segment.talkers(),
+            None => &[],
+        }
     }
 
     /// Its faults, in the order of its list.

@@ -58,7 +58,7 @@ impl Named for Segment {
     ghost name_of = { λ s. s.name };
 
     fn name(&self) -> &str {
-        self.name.as_str()
+        Segment::name(self)
     }
 }
 

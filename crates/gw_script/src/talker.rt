@@ -71,7 +71,7 @@ impl Named for Talker {
     ghost name_of = { λ t. t.name };
 
     fn name(&self) -> &str {
-        self.name.as_str()
+        Talker::name(self)
     }
 }
 
