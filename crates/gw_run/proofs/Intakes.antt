@@ -1,0 +1,46 @@
+-- Laws of what comes to a receive FIFO.
+use Rattle.std.proofs.Common.{◌≡◌, ℕ, ◌+◌, ◌≤◌, List, [], ◌∷◌, ◌++◌, length, refl, sym, ap, subst, arith, ◌∙◌, length-append}
+use Rattle.std.proofs.lemmas.List.{map-append}
+use Rattle.bx_rx.specs.declared.rx_frame.RxFrame.{RxFrame}
+use Rattle.bx_rx.specs.RxIn.{AreLastOf}
+use Rattle.can_frame.specs.Frames.{FrameValue}
+use Rattle.gw_route.specs.RouteHand.{frames_of}
+use Rattle.gw_run.specs.Intakes.{LeavesOut, IntakeStands}
+use Rattle.gw_run.specs.Intakes.LeavesOut.{nothing, keeps, drops}
+use Rattle.gw_run.specs.declared.intake.Intake.{Intake}
+
+pub left-length : {X : Type 0} {xs ys : List X} {n : ℕ} → LeavesOut xs ys n → length xs ≡ length ys + n
+left-length nothing = refl
+left-length (keeps {xs = xs} {ys = ys} x h) = omega (arith, length-append xs (x ∷ []), length-append ys (x ∷ []), left-length h)
+left-length (drops {xs = xs} x h) = omega (arith, length-append xs (x ∷ []), left-length h)
+
+pub opens : (intake : Intake) → intake.accepted ≡ 0 → intake.overrun ≡ 0 → intake.rxin.stored ≡ [] → IntakeStands intake []
+opens intake a o s = record {
+  accepted_is = a;
+  stored_is = subst (λ n. LeavesOut [] (frames_of intake.rxin.stored) n) (sym o) (subst (λ xs. LeavesOut [] (frames_of xs) 0) (sym s) nothing);
+  full = λ ne. absurd (ne o);
+}
+
+pub stores : (old new : Intake) (x : RxFrame) (offered : List FrameValue) → new.accepted ≡ old.accepted + 1 → new.overrun ≡ old.overrun → new.rxin.stored ≡ old.rxin.stored ++ x ∷ [] →
+    IntakeStands old offered → IntakeStands new (offered ++ x.frame ∷ [])
+stores old new x offered a o s h = record {
+  accepted_is = omega (arith, a, h.accepted_is, length-append offered (x.frame ∷ []));
+  stored_is = subst (λ n. LeavesOut (offered ++ x.frame ∷ []) (frames_of new.rxin.stored) n) (sym o)
+      (subst (λ ys. LeavesOut (offered ++ x.frame ∷ []) ys old.overrun) (sym (ap frames_of s ∙ map-append (λ (y : RxFrame). y.frame) old.rxin.stored (x ∷ []))) (keeps x.frame h.stored_is));
+  full = λ ne. (let before = h.full (λ e. ne (o ∙ e)) in omega (arith, before, ap length s, length-append old.rxin.stored (x ∷ [])));
+}
+
+three_of : (stored : List RxFrame) → ((items : List RxFrame) × (length items ≡ 3) × AreLastOf stored items) → 3 ≤ length stored
+three_of stored h = omega (arith, h.1, ap length h.2.1, length-append h.2.0 h.0)
+
+pub discards : (old new : Intake) (x : FrameValue) (offered : List FrameValue) → new.accepted ≡ old.accepted + 1 → new.overrun ≡ old.overrun + 1 → new.rxin.stored ≡ old.rxin.stored →
+    ((items : List RxFrame) × (length items ≡ 3) × AreLastOf old.rxin.stored items) → IntakeStands old offered → IntakeStands new (offered ++ x ∷ [])
+discards old new x offered a o s held h = record {
+  accepted_is = omega (arith, a, h.accepted_is, length-append offered (x ∷ []));
+  stored_is = subst (λ n. LeavesOut (offered ++ x ∷ []) (frames_of new.rxin.stored) n) (sym o)
+      (subst (λ ys. LeavesOut (offered ++ x ∷ []) ys (old.overrun + 1)) (sym (ap frames_of s)) (drops x h.stored_is));
+  full = λ ne. omega (arith, three_of old.rxin.stored held, ap length s);
+}
+
+pub few_discarded : (intake : Intake) (offered : List FrameValue) → IntakeStands intake offered → intake.overrun ≤ length offered
+few_discarded intake offered h = omega (arith, left-length h.stored_is)

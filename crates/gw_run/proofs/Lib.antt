@@ -1,0 +1,11 @@
+pub mod Counts
+pub mod Links
+pub mod Intakes
+pub mod Ports
+pub mod Lanes
+pub mod Settles
+pub mod Ends
+pub mod Sites
+pub mod Worlds
+pub mod WorldTurns
+pub mod Passes

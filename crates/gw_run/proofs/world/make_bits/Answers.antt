@@ -1,0 +1,19 @@
+use Rattle.std.proofs.Common.{arith}
+use Rattle.std.proofs.lemmas.Option.{slice_get-get_or}
+use Rattle.can_segment.proofs.Places.{places_step, places_end}
+use Rattle.gw_run.specs.Sites.{SiteMoves}
+use Rattle.gw_run.proofs.Worlds.{world_bits}
+use Rattle.gw_run.proofs.world.make_bits.Goals as goal
+
+pub loop-place-preserved : goal.loop-place-preserved
+loop-place-preserved g c =
+    places_step (λ i. SiteMoves) c.args.sites.now c.loop-place.sites c.loop-place.place _ c.make_bit.new.self
+    (omega (arith, c.loop-place-test.true, c.loop-place.invariant.size)) (slice_get-get_or c.loop-place.sites c.loop-place.place c.index-sites-place.result (omega (arith, c.loop-place-test.true)))
+    c.in_ok-make_bit.ensures c.loop-place.invariant
+
+pub returns-clause-moves : goal.returns-clause-moves
+returns-clause-moves g c = places_end (λ i. SiteMoves) c.args.sites.now c.loop-place.sites c.loop-place.place (omega (arith, c.loop-place-test.false, c.loop-place.invariant.size)) c.loop-place.invariant
+
+pub returns-clause-world : goal.returns-clause-world
+returns-clause-world g c lanes w =
+    world_bits c.args.sites.now c.loop-place.sites lanes (places_end (λ i. SiteMoves) c.args.sites.now c.loop-place.sites c.loop-place.place (omega (arith, c.loop-place-test.false, c.loop-place.invariant.size)) c.loop-place.invariant) w

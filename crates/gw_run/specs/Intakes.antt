@@ -1,0 +1,32 @@
+-- What comes to the receive FIFOs of a controller (RM0008, bxCAN, "Identifier filtering" and "Reception handling").
+use Rattle.std.specs.Prelude.{◌≡◌, ◌≢◌, ℕ, ◌+◌, ◌≤◌, Option, Some, None, List, [], ◌∷◌, ◌++◌, length}
+use Rattle.can_frame.specs.Frames.{FrameValue}
+use Rattle.bx_rx.specs.Bank.{BankValue}
+use Rattle.bx_rx.specs.Banks.{IsFound}
+use Rattle.gw_route.specs.RouteHand.{frames_of}
+use Rattle.gw_run.specs.declared.intake.Intake.{Intake}
+
+-- the second list is the first without so many of its elements
+pub data LeavesOut {X : Type 0} : List X → List X → ℕ → Type 0 where
+  nothing : LeavesOut [] [] 0
+  keeps : {xs ys : List X} {n : ℕ} (x : X) → LeavesOut xs ys n → LeavesOut (xs ++ x ∷ []) (ys ++ x ∷ []) n
+  drops : {xs ys : List X} {n : ℕ} (x : X) → LeavesOut xs ys n → LeavesOut (xs ++ x ∷ []) ys (n + 1)
+
+-- the FIFO that a filter belongs to, as the banks tell it
+abbrev pub fifo_of : Option (ℕ × ℕ) → Option ℕ
+fifo_of None = None
+fifo_of (Some found) = Some found.0
+
+-- the second list are those of the first whose chosen filter has this FIFO
+pub data GoTo (banks : List BankValue) (fifo : ℕ) : List FrameValue → List FrameValue → Type 0 where
+  nothing : GoTo banks fifo [] []
+  here : {taken offered : List FrameValue} (frame : FrameValue) (found : Option (ℕ × ℕ)) → IsFound banks frame found → fifo_of found ≡ Some fifo →
+      GoTo banks fifo taken offered → GoTo banks fifo (taken ++ frame ∷ []) (offered ++ frame ∷ [])
+  elsewhere : {taken offered : List FrameValue} (frame : FrameValue) (found : Option (ℕ × ℕ)) → IsFound banks frame found → fifo_of found ≢ Some fifo →
+      GoTo banks fifo taken offered → GoTo banks fifo (taken ++ frame ∷ []) offered
+
+-- it was offered these frames: what it stored is all of them but those it discarded, and it discards only when full
+pub record IntakeStands (intake : Intake) (offered : List FrameValue) : Type 0 where
+  pub accepted_is : intake.accepted ≡ length offered
+  pub stored_is : LeavesOut offered (frames_of intake.rxin.stored) intake.overrun
+  pub full : intake.overrun ≢ 0 → 3 ≤ length intake.rxin.stored

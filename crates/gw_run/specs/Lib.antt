@@ -1,0 +1,9 @@
+pub mod Headline
+pub mod Links
+pub mod Intakes
+pub mod Slots
+pub mod Ports
+pub mod Lanes
+pub mod Ends
+pub mod Sites
+pub mod Worlds

@@ -1,0 +1,30 @@
+-- A receive FIFO that a route takes from, or none.
+use Rattle.std.specs.Prelude.{◌≡◌, ℕ, ◌<◌, Option, Some, None, List, [], ◌∷◌, ◌++◌, length}
+use Rattle.can_frame.specs.Frames.{FrameValue}
+use Rattle.bx_rx.specs.Bank.{BankValue}
+use Rattle.gw_run.specs.Intakes.{GoTo, IntakeStands}
+use Rattle.gw_run.specs.declared.intake.Intake.{Intake}
+
+-- it is the same FIFO
+abbrev pub SameFifo : Option Intake → Option Intake → Type 0
+SameFifo None None = Unit {0}
+SameFifo None (Some new) = ⊥
+SameFifo (Some old) None = ⊥
+SameFifo (Some old) (Some new) = new.rxin.queue ≡ old.rxin.queue
+
+-- a FIFO that was offered those of these frames which go to it
+pub record FifoStands (banks : List BankValue) (fifo : ℕ) (intake : Intake) (taken : List FrameValue) : Type 0 where
+  pub offered : List FrameValue
+  pub goes : GoTo banks fifo taken offered
+  pub stands : IntakeStands intake offered
+
+abbrev pub SlotStands : List BankValue → ℕ → Option Intake → List FrameValue → Type 0
+SlotStands banks fifo None taken = Unit {0}
+SlotStands banks fifo (Some intake) taken = FifoStands banks fifo intake taken
+
+-- it was offered this frame
+abbrev pub SlotOffers : Option Intake → Option Intake → FrameValue → Type 0
+SlotOffers None None frame = Unit {0}
+SlotOffers None (Some new) frame = ⊥
+SlotOffers (Some old) None frame = ⊥
+SlotOffers (Some old) (Some new) frame = (offered : List FrameValue) → length offered < 18446744073709551615 → IntakeStands old offered → IntakeStands new (offered ++ frame ∷ [])

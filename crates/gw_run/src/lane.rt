@@ -1,0 +1,59 @@
+//! A route's turn in a run.
+
+ghost use Rattle.std.specs.Prelude.{◌≡◌, ◌<◌, List, length};
+ghost use Rattle.bx_core.specs.PlainMail.{core_of};
+ghost use Rattle.bx_core.specs.Stands.{RouteStands};
+ghost use Rattle.gw_route.specs.RouteHand.{hand_value, IsLinked, LogsReleased};
+ghost use Rattle.gw_route.specs.declared.planned_abort.PlannedAbort.{PlannedAbort};
+ghost use Rattle.gw_run.specs.Lanes.{FromPlan, TurnLeaves};
+
+use crate::port::Port;
+use bx_core::{NoGate, PlainRoute};
+use bx_rx::Memory;
+use gw_route::RouteHand;
+use std::sync::Wait;
+
+/// Where a controller is: the place of its segment in the script, and its own among the controllers on it.
+#[derive(Clone, Copy, Debug, PartialEq, Eq)]
+pub(crate) struct Place {
+    pub(crate) site: usize,
+    pub(crate) port: usize,
+}
+
+/// A route of a run: its hand, the FIFO that it takes from, and the controller that it leads into, whose mailboxes know
+/// it by this number.
+#[derive(Drop)]
+pub(crate) struct Lane {
+    pub(crate) hand: RouteHand,
+    pub(crate) source: Place,
+    pub(crate) fifo: u8,
+    pub(crate) target: Place,
+    pub(crate) number: u8,
+}
+
+/// One turn of a route into the mailboxes of this controller. `Memory` where it was refused to the hand, or to the
+/// mailboxes at any time before.
+pub(crate) fn turn_on<R: Wait>(
+    rt: &R,
+    hand: &mut RouteHand,
+    port: &mut Port,
+    number: u8,
+) -> Result<(), Memory>
+    requires route { number < length (core_of port.old.mail).routes }
+    requires linked { IsLinked (RouteStands (core_of port.old.mail) number) (hand_value hand.old) }
+    ensures linked { IsLinked (RouteStands (core_of port.new.mail) number) (hand_value hand.new) }
+    ensures log { LogsReleased (hand_value hand.old) → LogsReleased (hand_value hand.new) }
+    ensures queue { hand.new.out.queue ≡ hand.old.out.queue }
+    ensures plan { (planned : List PlannedAbort) → FromPlan planned (hand_value hand.old) → FromPlan planned (hand_value hand.new) }
+    ensures port { TurnLeaves number port.old port.new }
+{
+    let mut side = PlainRoute {
+        mail: &mut port.mail,
+        route: number,
+    };
+    hand.turn(rt, &mut side, &mut NoGate)?;
+    if port.mail.short() {
+        return Err(Memory);
+    }
+    Ok(())
+}

@@ -1,0 +1,104 @@
+//! All segments and routes of a run.
+
+ghost use Rattle.std.specs.Prelude.{◌≡◌, ◌<◌, ◌+◌, ℕ, List, OnOk, Some, length, slice_get};
+ghost use Rattle.can_segment.specs.Places.{AtPlaces};
+ghost use Rattle.gw_run.specs.declared.site.Site.{Site};
+ghost use Rattle.gw_run.specs.declared.lane.Lane.{Lane};
+ghost use Rattle.gw_run.specs.Sites.{SiteHolds, SiteMoves};
+ghost use Rattle.gw_run.specs.Worlds.{Leads, LaneTurns, LanesKeep, WorldHolds, SameSegments, HaveMade};
+
+use crate::lane::{Lane, turn_on};
+use crate::site::Site;
+use bx_rx::Memory;
+use std::sync::Wait;
+
+/// One more bit of each segment, in their order.
+pub(crate) fn make_bits<R: Wait>(rt: &R, sites: &mut [Site]) -> Result<(), Memory>
+    requires holds { (i : ℕ) (site : Site) → slice_get sites.old i ≡ Some site → SiteHolds site.segment site.ports.items }
+    requires still { (i : ℕ) (site : Site) → slice_get sites.old i ≡ Some site
+        → length site.segment.levels < site.segment.plan.bits }
+    ensures moves { OnOk result (AtPlaces (λ i. SiteMoves) sites.old sites.new) }
+    ensures world { OnOk result ((lanes : List Lane) → WorldHolds sites.old lanes → WorldHolds sites.new lanes) }
+{
+    for place in 0..sites.len() {
+        sites[place].make_bit(rt)?;
+    }
+    Ok(())
+}
+
+/// One turn of a route. `Memory` where it was refused to the hand, or to the mailboxes at any time before.
+fn turn_of<R: Wait>(rt: &R, sites: &mut [Site], lane: &mut Lane) -> Result<(), Memory>
+    requires { Leads sites.old lane.old }
+    ensures { LaneTurns sites.old sites.new lane.old lane.new }
+{
+    let place = lane.target;
+    turn_on(
+        rt,
+        &mut lane.hand,
+        &mut sites[place.site].ports[place.port],
+        lane.number,
+    )
+}
+
+/// One turn of each route, in their order.
+pub(crate) fn make_turns<R: Wait>(
+    rt: &R,
+    sites: &mut [Site],
+    lanes: &mut [Lane],
+) -> Result<(), Memory>
+    requires { WorldHolds sites.old lanes.old }
+    ensures world { OnOk result (WorldHolds sites.new lanes.new) }
+    ensures segments { OnOk result (SameSegments sites.old sites.new) }
+    ensures lanes { OnOk result (LanesKeep lanes.old lanes.new) }
+{
+    for place in 0..lanes.len() {
+        turn_of(rt, sites, &mut lanes[place])?;
+    }
+    Ok(())
+}
+
+/// One bit of each segment, and a turn of each route where the bits made are a multiple of this.
+fn step<R: Wait>(
+    rt: &R,
+    sites: &mut [Site],
+    lanes: &mut [Lane],
+    bits: u64,
+    bit: u64,
+    turn: u64,
+) -> Result<(), Memory>
+    requires world { WorldHolds sites.old lanes.old }
+    requires made { HaveMade bits bit sites.old }
+    requires still { bit < bits }
+    requires turn { 0 < turn }
+    ensures world { OnOk result (WorldHolds sites.new lanes.new) }
+    ensures made { OnOk result (HaveMade bits (bit + 1) sites.new) }
+    ensures lanes { OnOk result (LanesKeep lanes.old lanes.new) }
+{
+    make_bits(rt, sites)?;
+    if (bit + 1) % turn != 0 {
+        return Ok(());
+    }
+    make_turns(rt, sites, lanes)?;
+    Ok(())
+}
+
+/// All bits of all segments, with the turns of the routes between them.
+pub(crate) fn make_all<R: Wait>(
+    rt: &R,
+    sites: &mut [Site],
+    lanes: &mut [Lane],
+    bits: u64,
+    turn: u64,
+) -> Result<(), Memory>
+    requires world { WorldHolds sites.old lanes.old }
+    requires made { HaveMade bits 0 sites.old }
+    requires turn { 0 < turn }
+    ensures world { OnOk result (WorldHolds sites.new lanes.new) }
+    ensures made { OnOk result (HaveMade bits bits sites.new) }
+    ensures lanes { OnOk result (LanesKeep lanes.old lanes.new) }
+{
+    for bit in 0..bits {
+        step(rt, sites, lanes, bits, bit, turn)?;
+    }
+    Ok(())
+}
