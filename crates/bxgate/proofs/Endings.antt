@@ -1,5 +1,5 @@
 -- From the failure that a run ends with to its status.
-use Rattle.std.proofs.Common.{◌≡◌, ◌⊎◌, inl, inr, ℕ, List, Option, Result, Err, IfSome}
+use Rattle.std.proofs.Common.{◌≡◌, inl, inr, ℕ, List, Option, Err, IfSome}
 use Rattle.std.proofs.lemmas.Option.{IfSome_then}
 use Rattle.std.specs.Io.KnownBytes.{Keeps}
 use Rattle.gw_script.specs.declared.script_fault.ScriptFault.TheVariants as fault

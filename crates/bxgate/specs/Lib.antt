@@ -1,4 +1,3 @@
-pub mod FrameTexts
 pub mod Reports
 pub mod Words
 pub mod Outcomes

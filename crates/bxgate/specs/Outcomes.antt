@@ -7,7 +7,6 @@ use Rattle.gw_script.specs.Documents.{IsTextOf, FirstFault}
 use Rattle.bxgate.specs.Reports.{IsReport}
 use Rattle.bxgate.specs.declared.failure.Failure.{Failure}
 use Rattle.bxgate.specs.declared.failure.Failure.TheVariants as failure
-use Rattle.gw_script.specs.declared.script_fault.ScriptFault.{ScriptFault}
 use Rattle.gw_script.specs.declared.script_fault.ScriptFault.TheVariants as fault
 
 abbrev pub status_of : Failure → ℕ

@@ -12,7 +12,8 @@ use Rattle.bx_core.specs.States.{State, RouteLists, opening, lists_of, waits_of}
 use Rattle.bx_core.specs.Steps.{after}
 use Rattle.bx_core.specs.Law.{left_by, run}
 use Rattle.gw_script.specs.EventLists.{EventListValue}
-use Rattle.bxgate.specs.FrameTexts.{frame_text}
+use Rattle.gw_script.specs.FrameTexts.{frame_text}
+use Rattle.gw_script.specs.Lines.{line}
 
 abbrev pub code_of : Refused → List ℕ
 code_of NotEmpty = codes "C1"
@@ -21,11 +22,6 @@ code_of NotOldest = codes "C3"
 code_of WrongState = codes "C4"
 code_of NumberOrder = codes "C5"
 code_of Memory = codes "C6"
-
--- these pieces, one after the other, and a line feed
-abbrev pub line : List (List ℕ) → List ℕ
-line [] = 10 ∷ []
-line (piece ∷ pieces) = piece ++ line pieces
 
 -- what an event at this place adds: nothing, or the line of its refusal
 abbrev pub refused_line : ℕ → Result State Refused → List ℕ

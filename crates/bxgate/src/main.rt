@@ -3,7 +3,6 @@
 
 mod command;
 mod failure;
-mod frame_text;
 mod input;
 mod program;
 mod report;

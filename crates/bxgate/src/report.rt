@@ -8,10 +8,9 @@ ghost use Rattle.bx_core.specs.Law.{run, left_by};
 ghost use Rattle.gw_script.specs.EventLists.{list_view};
 ghost use Rattle.bxgate.specs.Reports.{code_of, digit, AppendsWire, AppendsDone, AppendsDones, AppendsRoute, AppendsRoutes, refused_line, refused_lines, IsReport};
 
-use crate::frame_text::push_frame;
 use bx_core::{Core, Entry, Event, Refused};
 use can_frame::{Frame, wire};
-use gw_script::EventList;
+use gw_script::{EventList, push_frame};
 use std::alloc::{AllocError, Global};
 
 fn code_of(why: Refused) -> &'static str

@@ -1,6 +1,6 @@
-use Rattle.std.proofs.Common.{rules, ap, ap₂, refl, sym, codes, true, map, option_map, List, ℕ, Option, Some, None, [], ◌∷◌, ◌≡◌, ◌∙◌}
+use Rattle.std.proofs.Common.{rules, ap, ap₂, refl, codes, true, option_map, List, Option, Some, None, [], ◌∷◌, ◌≡◌, ◌∙◌}
 use Rattle.std.proofs.lemmas.Result.{IfErr-weaker, IfOk-weaker}
-use Rattle.clap.specs.Words.{App, Row, Rule, Text, app_of, is_simple, new_app, subcommand_of, subcommand_rows_of, subcommand_name_of, takes, with_subcommand}
+use Rattle.clap.specs.Words.{App, Text, app_of, is_simple, new_app, subcommand_of, subcommand_rows_of, subcommand_name_of, takes, with_subcommand}
 use Rattle.clap.specs.Simple.{app_of_fields}
 use Rattle.clap.specs.declared.parser.matches.ArgMatches.{ArgMatches}
 use Rattle.clap.proofs.OnLiterals.{clap_on_literals}

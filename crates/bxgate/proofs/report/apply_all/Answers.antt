@@ -1,10 +1,5 @@
 -- One event more is one step more.
-use Rattle.std.proofs.Common.{◌≡◌, ℕ, ◌+◌, List, ◌++◌, drop, length, get_or, ap, sym, ◌∙◌, drop-cons, add-one, string_bytes, arith, append_assoc}
-use Rattle.bx_core.specs.declared.event.Event.{Event}
-use Rattle.bx_core.specs.States.{State}
-use Rattle.bx_core.specs.Steps.{after}
-use Rattle.bx_core.specs.Law.{left_by, run}
-use Rattle.bxgate.specs.Reports.{refused_line, refused_lines}
+use Rattle.std.proofs.Common.{◌∙◌, arith}
 use Rattle.bxgate.proofs.ReportLaws.{events-left, run-step, refused-step, refused-end}
 use Rattle.bxgate.proofs.report.apply_all.Goals as goal
 

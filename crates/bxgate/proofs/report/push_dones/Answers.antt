@@ -1,5 +1,5 @@
 -- One frame more is one line more.
-use Rattle.std.proofs.Common.{take, get_or, ap, sym, string_bytes, subst, List, ◌∷◌, [], ◌++◌, ◌∙◌}
+use Rattle.std.proofs.Common.{take, ap, sym, string_bytes, subst, List, ◌∷◌, [], ◌++◌, ◌∙◌}
 use Rattle.std.proofs.lemmas.List.{take_more}
 use Rattle.bx_core.specs.declared.entry.Entry.{Entry}
 use Rattle.bxgate.specs.Reports.{AppendsDones}

@@ -1,5 +1,5 @@
 -- The line of counts follows the lines of what was sent.
-use Rattle.std.proofs.Common.{ap, length, subst, string_bytes, sym, List, ◌∙◌}
+use Rattle.std.proofs.Common.{ap, length, subst, string_bytes, List, ◌∙◌}
 use Rattle.bx_core.specs.declared.entry.Entry.{Entry}
 use Rattle.bx_core.specs.States.{lists_of, waits_of}
 use Rattle.bxgate.specs.Reports.{AppendsDones}

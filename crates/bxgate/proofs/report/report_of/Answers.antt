@@ -1,7 +1,4 @@
 -- The lines of the refused events, then those of the routes.
-use Rattle.std.proofs.Common.{◌≡◌, ℕ, List, ap, sym, subst, length, string_bytes, ◌∙◌}
-use Rattle.bx_core.specs.declared.event.Event.{Event}
-use Rattle.bx_core.specs.States.{State, opening}
 use Rattle.bxgate.proofs.ReportLaws.{whole_report}
 use Rattle.bxgate.proofs.report.report_of.Goals as goal
 
