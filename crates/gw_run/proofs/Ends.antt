@@ -101,5 +101,7 @@ ends r core number intake h waiting left p =
         accepted_is = p.accepted_is ∙ stands.accepted_is;
         stored = subst (λ n. LeavesOut offered (r.released.items ++ frames_of left) n) (sym p.overrun_is) (subst (λ fs. LeavesOut offered fs intake.overrun) stored stands.stored_is);
         full = λ ne. (let three = stands.full (λ e. ne (p.overrun_is ∙ e)) in omega (arith, three, ap length stored, length-map intake.rxin.stored (λ (x : RxFrame). x.frame)));
+        few_left = omega (arith, p.few_left, length-map left (λ (x : RxFrame). x.frame));
+        left_held = omega (arith, p.held_is, length-map left (λ (x : RxFrame). x.frame));
       };
     }

@@ -9,3 +9,6 @@ pub mod Sites
 pub mod Worlds
 pub mod WorldTurns
 pub mod Passes
+pub mod Pairs
+pub mod PlacesWhere
+pub mod Plans

@@ -11,12 +11,14 @@ use Rattle.gw_run.specs.declared.intake.Intake.{Intake}
 use Rattle.gw_run.specs.Links.{RouteLinked}
 
 -- what a report says of the FIFO that was offered these frames: it accepted all of them, and what it stored, which is
--- what was released and what is left, is all of them but those that it discarded
+-- what was released and what is left, is all of them but those that it discarded; what is left, three at most, is held
 pub record TellsFifo (r : RouteReport) (offered : List FrameValue) : Type 0 where
   pub left : List FrameValue
   pub accepted_is : r.accepted ≡ length offered
   pub stored : LeavesOut offered (r.released.items ++ left) r.overrun
   pub full : r.overrun ≢ 0 → 3 ≤ length (r.released.items ++ left)
+  pub few_left : length left ≤ 3
+  pub left_held : length left ≤ r.held
 
 -- the report of a route, whose parts were these
 pub record IsEndOf (r : RouteReport) (core : State) (number : ℕ) (intake : Intake) (h : HandValue) : Type 0 where

@@ -1,3 +1,4 @@
+pub mod Pairs
 pub mod Headline
 pub mod Links
 pub mod Intakes
@@ -7,3 +8,5 @@ pub mod Lanes
 pub mod Ends
 pub mod Sites
 pub mod Worlds
+pub mod Plans
+pub mod Reports

@@ -1,11 +1,18 @@
 //! Runs of a script: its segments bit by bit, and its routes turn by turn.
 #![tactic(auto)]
 
+mod inline;
 mod intake;
 mod lane;
+mod plan;
 mod linked;
 mod port;
 mod route_end;
+mod run_fault;
+
 mod settling;
 mod site;
 mod world;
+
+pub use crate::run_fault::RunFault;
+pub use crate::inline::run_inline;

@@ -1,0 +1,57 @@
+-- Laws of two lists, place by place.
+use Rattle.std.proofs.Common.{◌≡◌, ℕ, zero, suc, ◌+◌, ◌⊎◌, inl, inr, Some, List, [], ◌∷◌, ◌++◌, length, slice_get, refl, sym, ap, subst, arith, ◌∙◌, length-append}
+use Rattle.std.proofs.lemmas.Option.{slice_get_within}
+use Rattle.can_segment.proofs.NextBits.{some_there}
+use Rattle.can_segment.proofs.Places.{same_some}
+use Rattle.bx_core.specs.Lists.{Each}
+use Rattle.gw_run.specs.Pairs.{Pairs}
+
+-- an element of a list that one was put behind
+pub pushed : {X : Type 0} (xs : List X) (y : X) (k : ℕ) (m : X) → slice_get (xs ++ y ∷ []) k ≡ Some m → (slice_get xs k ≡ Some m) ⊎ ((k ≡ length xs) × (y ≡ m))
+pushed [] y zero m e = inr (refl, same_some y m e)
+pushed [] y (suc k) m e = absurd (cc e)
+pushed (x ∷ xs) y zero m e = inl e
+pushed (x ∷ xs) y (suc k) m e = elim (pushed xs y k m e) [ inl is ↦ inl is | inr is ↦ inr (omega (arith, is.0), is.1) ]
+
+-- pairs so far: the second list has the first places alone
+pub record PairsBelow {X Y : Type 0} (R : ℕ → X → Y → Type 0) (xs : List X) (ys : List Y) (i : ℕ) : Type 0 where
+  pub at : (k : ℕ) (x : X) (y : Y) → slice_get xs k ≡ Some x → slice_get ys k ≡ Some y → R k x y
+  pub size : length ys ≡ i
+
+pub pairs_start : {X Y : Type 0} (R : ℕ → X → Y → Type 0) (xs : List X) → PairsBelow R xs [] 0
+pairs_start R xs = record { at = λ k x y e f. absurd (cc f); size = refl }
+
+pub pairs_step : {X Y : Type 0} (R : ℕ → X → Y → Type 0) (xs : List X) (ys : List Y) (i : ℕ) (x : X) (y : Y) → slice_get xs i ≡ Some x → R i x y →
+    PairsBelow R xs ys i → PairsBelow R xs (ys ++ y ∷ []) (i + 1)
+pairs_step R xs ys i x y here holds b = record {
+  at = λ k z w e f. elim (pushed ys y k w f) [
+    | inl is ↦ b.at k z w e is
+    | inr is ↦ (let place : i ≡ k = omega (arith, is.0, b.size) in
+        let same : x ≡ z = same_some x z (sym here ∙ ap (slice_get xs) place ∙ e) in
+        subst (λ n. R n z w) place (subst (λ v. R i z v) is.1 (subst (λ v. R i v y) same holds)))
+  ];
+  size = omega (arith, length-append ys (y ∷ []), b.size);
+}
+
+pub pairs_end : {X Y : Type 0} (R : ℕ → X → Y → Type 0) (xs : List X) (ys : List Y) (i : ℕ) → i ≡ length xs → PairsBelow R xs ys i → Pairs R xs ys
+pairs_end R xs ys i all b = record { at = b.at; size = omega (arith, b.size, all) }
+
+-- what stands at a place of the second list, and in the first one at the same place
+pub pair_at : {X Y : Type 0} (R : ℕ → X → Y → Type 0) (xs : List X) (ys : List Y) (k : ℕ) (y : Y) → Pairs R xs ys → slice_get ys k ≡ Some y → (x : X) × (slice_get xs k ≡ Some x) × R k x y
+pair_at R xs ys k y p e =
+    let within = slice_get_within ys k y e in
+    let x = some_there xs k (omega (arith, within, p.size)) in
+    (x.0, x.1, p.at k x.0 y x.1 e)
+
+-- and the other way round
+pub pair_of : {X Y : Type 0} (R : ℕ → X → Y → Type 0) (xs : List X) (ys : List Y) (k : ℕ) (x : X) → Pairs R xs ys → slice_get xs k ≡ Some x → (y : Y) × (slice_get ys k ≡ Some y) × R k x y
+pair_of R xs ys k x p e =
+    let within = slice_get_within xs k x e in
+    let y = some_there ys k (omega (arith, within, p.size)) in
+    (y.0, y.1, p.at k x y.0 e y.1)
+
+-- what holds of each element holds of the one at a place
+pub each_at : {X : Type 0} (P : X → Type 0) (xs : List X) (k : ℕ) (x : X) → slice_get xs k ≡ Some x → Each P xs → P x
+each_at P [] k x e all = absurd (cc e)
+each_at P (y ∷ xs) zero x e all = subst P (same_some y x e) all.0
+each_at P (y ∷ xs) (suc k) x e all = each_at P xs k x e all.1

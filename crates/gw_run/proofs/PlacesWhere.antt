@@ -1,0 +1,33 @@
+-- Laws of the places of those elements of a list that pass a test.
+use Rattle.std.proofs.Common.{◌≡◌, ℕ, zero, suc, ◌+◌, Bool, true, false, cond, Some, List, [], ◌∷◌, length, take, count_by, slice_get, refl, sym, ap, arith, ◌∙◌}
+use Rattle.std.proofs.lemmas.List.Sums.{sum_by-cons}
+use Rattle.can_segment.proofs.Places.{same_some}
+use Rattle.gw_script.specs.Nodes.{places_where}
+
+count-cons : {X : Type 0} (test : X → Bool) (x : X) (xs : List X) → count_by test (x ∷ xs) ≡ cond (test x) 1 0 + count_by test xs
+count-cons test x xs = sum_by-cons (λ y. cond (test y) 1 0) x xs
+
+length-step : (b : Bool) (first : ℕ) (later : List ℕ) (count : ℕ) → length later ≡ count → length (cond b (first ∷ later) later) ≡ cond b 1 0 + count
+length-step true first later count e = omega (arith, e)
+length-step false first later count e = omega (arith, e)
+
+pub places-length : {X : Type 0} (test : X → Bool) (first : ℕ) (xs : List X) → length (places_where test first xs) ≡ count_by test xs
+places-length test first [] = refl
+places-length test first (x ∷ xs) = length-step (test x) first (places_where test (first + 1) xs) (count_by test xs) (places-length test (first + 1) xs) ∙ sym (count-cons test x xs)
+
+found-step : (b : Bool) (first : ℕ) (later : List ℕ) (count place : ℕ) → slice_get later count ≡ Some place → slice_get (cond b (first ∷ later) later) (cond b 1 0 + count) ≡ Some place
+found-step true first later count place e = (let more : 1 + count ≡ suc count = omega arith in ap (slice_get (first ∷ later)) more ∙ e)
+found-step false first later count place e = (let same : 0 + count ≡ count = omega arith in ap (slice_get later) same ∙ e)
+
+-- an element that passes stands behind as many of them as pass in front of it
+pub place-found : {X : Type 0} (test : X → Bool) (first : ℕ) (xs : List X) (k : ℕ) (x : X) → slice_get xs k ≡ Some x → test x ≡ true →
+    slice_get (places_where test first xs) (count_by test (take k xs)) ≡ Some (first + k)
+place-found test first [] k x e passes = absurd (cc e)
+place-found test first (y ∷ xs) zero x e passes =
+    let same : y ≡ x = same_some y x e in
+    let yes : test y ≡ true = ap test same ∙ passes in
+    rw yes (ap Some (let here : first ≡ first + 0 = omega arith in here))
+place-found test first (y ∷ xs) (suc k) x e passes =
+    ap (slice_get (places_where test first (y ∷ xs))) (count-cons test y (take k xs))
+    ∙ found-step (test y) first (places_where test (first + 1) xs) (count_by test (take k xs)) (first + suc k)
+    (place-found test (first + 1) xs k x e passes ∙ ap Some (let at : first + 1 + k ≡ first + suc k = omega arith in at))

@@ -1,0 +1,93 @@
+-- What a report says of a run of its script: of each segment what it did, and of each route what became of its frames.
+use Rattle.std.specs.Prelude.{◌≡◌, ◌≢◌, ℕ, Some, List, length, map, slice_get, filter, ◌==◌, AllPairs}
+use Rattle.can_frame.specs.Frames.{FrameValue}
+use Rattle.bx_core.specs.declared.entry.Entry.{Entry}
+use Rattle.bx_core.specs.Lists.{Each, Has}
+use Rattle.bx_core.specs.Stands.{entries_of}
+use Rattle.can_segment.specs.declared.event.Event.{Event}
+use Rattle.can_segment.specs.declared.event.Told.{Told}
+use Rattle.can_segment.specs.declared.plan.SegmentPlan.{SegmentPlan}
+use Rattle.can_segment.specs.declared.record.Record.{Record}
+use Rattle.can_segment.specs.Brought.{told_of, all_in, start_in, sent_in, taken_in}
+use Rattle.can_segment.specs.Runs.{IsRun}
+use Rattle.gw_script.specs.declared.planned_abort.PlannedAbort.{PlannedAbort}
+use Rattle.gw_script.specs.declared.report.Report.{Report}
+use Rattle.gw_script.specs.declared.route_report.RouteReport.{RouteReport}
+use Rattle.gw_script.specs.Controllers.{ControllerValue}
+use Rattle.gw_script.specs.Routes.{RouteValue}
+use Rattle.gw_script.specs.Scripts.{ScriptValue}
+use Rattle.gw_script.specs.Nodes.{controller_at, route_at}
+use Rattle.gw_run.specs.Ends.{TellsFifo}
+use Rattle.gw_run.specs.Headline.{Headline}
+use Rattle.gw_run.specs.Intakes.{GoTo}
+use Rattle.gw_run.specs.Pairs.{Pairs}
+use Rattle.gw_run.specs.Plans.{IsPlanOf}
+
+-- the record of a segment is that of a run of it over all the script's bits
+pub record IsSegmentRun (s : ScriptValue) (segment : ℕ) (record_of : Record) : Type 0 where
+  pub plan : SegmentPlan
+  pub plan_is : IsPlanOf s segment plan
+  pub run : IsRun plan record_of
+  pub whole : length record_of.levels.items ≡ s.bits
+
+-- so is the record of each segment
+abbrev pub RunsSegments : ScriptValue → Report → Type 0
+RunsSegments s report = Pairs (λ segment said. IsSegmentRun s segment) s.segments report.segments.items
+
+-- the lines of each segment
+abbrev pub lines_of : Report → List (List Event)
+lines_of report = map (λ (record_of : Record). record_of.events.items) report.segments.items
+
+-- these lines tell this of a controller, which is a node of its segment
+pub record AreToldOf (s : ScriptValue) (lines : List (List Event)) (controller : ℕ) (tells : List Told) : Type 0 where
+  pub value : ControllerValue
+  pub value_is : slice_get s.controllers controller ≡ Some value
+  pub node : ℕ
+  pub node_is : controller_at s value.segment node ≡ Some controller
+  pub events : List Event
+  pub events_is : slice_get lines value.segment ≡ Some events
+  pub tells_is : tells ≡ told_of node events
+
+-- the aborts of a route in a script
+abbrev pub aborts_of : ScriptValue → ℕ → List PlannedAbort
+aborts_of s route = filter (λ (abort : PlannedAbort). abort.route == route) s.aborts
+
+-- the numbers that they name
+abbrev pub aborted_in : ScriptValue → ℕ → List ℕ
+aborted_in s route = map (λ (abort : PlannedAbort). abort.number) (aborts_of s route)
+
+-- What became of the frames of a route, by what the lines of the segments tell of its two controllers.
+pub record IsRouteRun (s : ScriptValue) (lines : List (List Event)) (place : ℕ) (route : RouteValue) (r : RouteReport) : Type 0 where
+  -- what is told of the controller that it takes from, and of the one that it leads into
+  pub from : List Told
+  pub from_is : AreToldOf s lines route.source from
+  pub to : List Told
+  pub to_is : AreToldOf s lines route.target to
+  -- its number at the controller that it leads into
+  pub number : ℕ
+  pub number_is : route_at s route.target number ≡ Some place
+  -- it was offered the frames which its source took and whose filter has its FIFO
+  pub offered : List FrameValue
+  pub offers : GoTo from_is.value.banks route.fifo (all_in taken_in from) offered
+  pub fifo : TellsFifo r offered
+  -- it completed what its target completed of its requests
+  pub completed_is : r.completed.items ≡ entries_of number (all_in sent_in to)
+  -- the claims, given what its target started of its requests
+  pub claims : Headline r (entries_of number (all_in start_in to))
+  -- the aborted numbers differ, and an abort of the script names each
+  pub apart : AllPairs (λ number later. number ≢ later) r.aborted.items
+  pub named : Each (Has (aborted_in s place)) r.aborted.items
+
+-- so it is for each route
+abbrev pub RunsRoutes : ScriptValue → Report → Type 0
+RunsRoutes s report = Pairs (λ place route. IsRouteRun s (lines_of report) place route) s.routes report.routes.items
+
+-- what was started of a route's requests, as the lines of its target show it
+pub record AreStartsOf (s : ScriptValue) (lines : List (List Event)) (place : ℕ) (started : List Entry) : Type 0 where
+  pub route : RouteValue
+  pub route_is : slice_get s.routes place ≡ Some route
+  pub to : List Told
+  pub to_is : AreToldOf s lines route.target to
+  pub number : ℕ
+  pub number_is : route_at s route.target number ≡ Some place
+  pub started_is : started ≡ entries_of number (all_in start_in to)
