@@ -10,3 +10,5 @@ pub mod Sites
 pub mod Worlds
 pub mod Plans
 pub mod Reports
+pub mod Openings
+pub mod Changes

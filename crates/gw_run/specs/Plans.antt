@@ -1,5 +1,5 @@
--- What a script says of a segment, as the plan of its run.
-use Rattle.std.specs.Prelude.{◌≡◌, ℕ, ◌<◌, ◌==◌, Option, Some, None, slice_get, filter_map, if◌then◌else◌}
+-- What a script says of a segment and of a route, as the plan of a run.
+use Rattle.std.specs.Prelude.{◌≡◌, ℕ, ◌<◌, ◌==◌, Option, Some, None, List, slice_get, filter_map, if◌then◌else◌}
 use Rattle.can_segment.specs.declared.plan.Talker.{Talker}
 use Rattle.can_segment.specs.declared.plan.Controller.{Controller}
 use Rattle.can_segment.specs.declared.plan.NodeFault.{NodeFault}
@@ -7,6 +7,8 @@ use Rattle.can_segment.specs.declared.plan.LineFault.{LineFault}
 use Rattle.can_segment.specs.declared.plan.SegmentPlan.{SegmentPlan}
 use Rattle.gw_script.specs.declared.planned_fault.PlannedFault.{PlannedFault}
 use Rattle.gw_script.specs.declared.planned_fault.PlannedFault.TheVariants.{AtNode, OnLine}
+use Rattle.gw_script.specs.declared.planned_abort.PlannedAbort.{PlannedAbort as ScriptAbort}
+use Rattle.gw_route.specs.declared.planned_abort.PlannedAbort.{PlannedAbort}
 use Rattle.gw_script.specs.Talkers.{TalkerValue}
 use Rattle.gw_script.specs.Controllers.{ControllerValue, controllers_on}
 use Rattle.gw_script.specs.Scripts.{ScriptValue}
@@ -45,3 +47,11 @@ pub record IsPlanOf (s : ScriptValue) (segment : ℕ) (plan : SegmentPlan) : Typ
   pub controllers : Pairs (λ k. IsControllerOf) (controllers_on segment s.controllers) plan.controllers.items
   pub node_faults : plan.node_faults.items ≡ filter_map (node_fault_in segment) s.faults
   pub line_faults : plan.line_faults.items ≡ filter_map (line_fault_in segment) s.faults
+
+-- an abort of this route
+abbrev pub abort_in : ℕ → ScriptAbort → Option PlannedAbort
+abort_in route abort = if abort.route == route then Some (record { number = abort.number; turn = abort.turn }) else None
+
+-- the aborts of a route, in the order of the script
+abbrev pub aborts_of : ScriptValue → ℕ → List PlannedAbort
+aborts_of s route = filter_map (abort_in route) s.aborts

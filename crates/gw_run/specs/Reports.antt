@@ -1,5 +1,5 @@
 -- What a report says of a run of its script: of each segment what it did, and of each route what became of its frames.
-use Rattle.std.specs.Prelude.{◌≡◌, ◌≢◌, ℕ, Some, List, length, map, slice_get, filter, ◌==◌, AllPairs}
+use Rattle.std.specs.Prelude.{◌≡◌, ◌≢◌, ℕ, Some, List, length, map, slice_get, AllPairs}
 use Rattle.can_frame.specs.Frames.{FrameValue}
 use Rattle.bx_core.specs.declared.entry.Entry.{Entry}
 use Rattle.bx_core.specs.Lists.{Each, Has}
@@ -10,7 +10,7 @@ use Rattle.can_segment.specs.declared.plan.SegmentPlan.{SegmentPlan}
 use Rattle.can_segment.specs.declared.record.Record.{Record}
 use Rattle.can_segment.specs.Brought.{told_of, all_in, start_in, sent_in, taken_in}
 use Rattle.can_segment.specs.Runs.{IsRun}
-use Rattle.gw_script.specs.declared.planned_abort.PlannedAbort.{PlannedAbort}
+use Rattle.gw_route.specs.declared.planned_abort.PlannedAbort.{PlannedAbort}
 use Rattle.gw_script.specs.declared.report.Report.{Report}
 use Rattle.gw_script.specs.declared.route_report.RouteReport.{RouteReport}
 use Rattle.gw_script.specs.Controllers.{ControllerValue}
@@ -21,7 +21,7 @@ use Rattle.gw_run.specs.Ends.{TellsFifo}
 use Rattle.gw_run.specs.Headline.{Headline}
 use Rattle.gw_run.specs.Intakes.{GoTo}
 use Rattle.gw_run.specs.Pairs.{Pairs}
-use Rattle.gw_run.specs.Plans.{IsPlanOf}
+use Rattle.gw_run.specs.Plans.{IsPlanOf, aborts_of}
 
 -- the record of a segment is that of a run of it over all the script's bits
 pub record IsSegmentRun (s : ScriptValue) (segment : ℕ) (record_of : Record) : Type 0 where
@@ -48,11 +48,7 @@ pub record AreToldOf (s : ScriptValue) (lines : List (List Event)) (controller :
   pub events_is : slice_get lines value.segment ≡ Some events
   pub tells_is : tells ≡ told_of node events
 
--- the aborts of a route in a script
-abbrev pub aborts_of : ScriptValue → ℕ → List PlannedAbort
-aborts_of s route = filter (λ (abort : PlannedAbort). abort.route == route) s.aborts
-
--- the numbers that they name
+-- the numbers that the script's aborts of a route name
 abbrev pub aborted_in : ScriptValue → ℕ → List ℕ
 aborted_in s route = map (λ (abort : PlannedAbort). abort.number) (aborts_of s route)
 

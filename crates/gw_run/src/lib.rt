@@ -1,9 +1,12 @@
 //! Runs of a script: its segments bit by bit, and its routes turn by turn.
 #![tactic(auto)]
 
+mod growing;
 mod inline;
 mod intake;
 mod lane;
+mod opening;
+mod places;
 mod plan;
 mod linked;
 mod port;

@@ -1,12 +1,13 @@
 //! The plan of a segment, from a script.
 
-ghost use Rattle.std.specs.Prelude.{◌≡◌, ◌<◌, ◌++◌, IfOk, OnOk, Some, length, slice_get, filter_map, option_to_list};
+ghost use Rattle.std.specs.Prelude.{◌≡◌, ◌<◌, IfOk, length, filter_map};
 ghost use Rattle.gw_script.specs.Controllers.{controllers_on};
-ghost use Rattle.gw_script.specs.Nodes.{controller_places};
 ghost use Rattle.gw_run.specs.Pairs.{Pairs};
 ghost use Rattle.gw_script.specs.SoundScripts.{IsSound};
 ghost use Rattle.gw_run.specs.Plans.{IsSmall, IsTalkerOf, IsControllerOf, IsPlanOf, node_fault_in, line_fault_in};
 
+use crate::growing::push_some;
+use crate::places::{controller_there, count_on};
 use can_segment::{Controller, LineFault, NodeFault, SegmentPlan, Talker};
 use gw_script::{PlannedFault, Script};
 use std::alloc::{AllocError, Global};
@@ -29,31 +30,6 @@ fn talkers_of(alloc: Global, said: &[gw_script::Talker]) -> Result<Vec<Talker>, 
         talkers.push(talker_of(alloc, one)?)?;
     }
     Ok(talkers)
-}
-
-/// The place in the script of a controller, by its place among those on a segment.
-pub(crate) fn controller_there(script: &Script, segment: usize, nth: usize) -> usize
-    requires { nth < length (controller_places script.now segment) }
-    ensures place { slice_get (controller_places script.now segment) nth ≡ Some result }
-    ensures range { result < length script.now.controllers }
-    ensures controller { slice_get script.now.controllers result ≡ slice_get (controllers_on segment script.now.controllers) nth }
-{
-    match script.controller_on(segment, nth) {
-        Some(place) => place,
-        None => unreachable!(),
-    }
-}
-
-/// How many controllers are on a segment.
-pub(crate) fn count_on(script: &Script, segment: usize) -> usize
-    ensures places { result ≡ length (controller_places script.now segment) }
-    ensures controllers { result ≡ length (controllers_on segment script.now.controllers) }
-{
-    script
-        .controllers()
-        .iter()
-        .filter(|controller| controller.segment() == segment)
-        .count()
 }
 
 fn controllers_of(
@@ -99,16 +75,6 @@ fn line_fault_in(segment: usize, fault: &PlannedFault) -> Option<LineFault>
         }),
         _ => None,
     }
-}
-
-/// One element more, if there is one.
-fn push_some<T: Drop>(list: &mut Vec<T>, one: Option<T>) -> Result<(), AllocError>
-    ensures { OnOk result (list.new.items ≡ list.old.items ++ option_to_list one) }
-{
-    if let Some(value) = one {
-        list.push(value)?;
-    }
-    Ok(())
 }
 
 fn node_faults_of(

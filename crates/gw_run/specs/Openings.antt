@@ -1,0 +1,88 @@
+-- A run before its first bit.
+use Rattle.std.specs.Prelude.{◌≡◌, ℕ, max, Option, Some, None, List, [], length, slice_get}
+use Rattle.bx_core.specs.declared.plain_mail.PlainMail.{PlainMail}
+use Rattle.bx_core.specs.PlainMail.{core_of, sending}
+use Rattle.bx_core.specs.RouteTx.{no_route_past}
+use Rattle.bx_core.specs.States.{opening}
+use Rattle.bx_core.specs.Stands.{BusStands, RouteStands}
+use Rattle.bx_core.specs.TxBus.{no_bus_past}
+use Rattle.can_segment.specs.Segments.{IsOpening}
+use Rattle.gw_route.specs.RouteHand.{hand_value, LogMatches, LogsReleased}
+use Rattle.gw_script.specs.Controllers.{ControllerValue}
+use Rattle.gw_script.specs.Routes.{RouteValue}
+use Rattle.gw_script.specs.Scripts.{ScriptValue}
+use Rattle.gw_script.specs.Nodes.{controller_places, route_places, route_at}
+use Rattle.gw_run.specs.declared.intake.Intake.{Intake}
+use Rattle.gw_run.specs.declared.lane.Lane.{Lane}
+use Rattle.gw_run.specs.declared.lane.Place.{Place}
+use Rattle.gw_run.specs.declared.port.Port.{Port}
+use Rattle.gw_run.specs.declared.site.Site.{Site}
+use Rattle.gw_run.specs.Intakes.{IntakeStands}
+use Rattle.gw_run.specs.Lanes.{FromPlan}
+use Rattle.gw_run.specs.Pairs.{Pairs}
+use Rattle.gw_run.specs.Plans.{IsPlanOf, aborts_of}
+use Rattle.gw_run.specs.Worlds.{IsAt, TakesFrom}
+
+-- mailboxes for so many routes, of which nothing was asked yet
+pub record IsNewMail (routes : ℕ) (mail : PlainMail) : Type 0 where
+  pub core_is : core_of mail ≡ opening routes
+  pub idle : sending (core_of mail) ≡ None
+  pub bus : BusStands (core_of mail) no_bus_past
+  pub route : (route : ℕ) → RouteStands (core_of mail) route no_route_past
+
+-- no FIFO, or one that was offered nothing yet
+abbrev pub IsEmptySlot : Option Intake → Type 0
+IsEmptySlot None = Unit {0}
+IsEmptySlot (Some intake) = IntakeStands intake []
+
+-- for how many routes a controller has mailboxes: for those into it, and for one that nobody is where there is none
+abbrev pub routes_at : ScriptValue → ℕ → ℕ
+routes_at s controller = max 1 (length (route_places s controller))
+
+-- the port of a controller, by its place in the script
+pub record IsNewPort (s : ScriptValue) (controller : ℕ) (port : Port) : Type 0 where
+  pub value : ControllerValue
+  pub value_is : slice_get s.controllers controller ≡ Some value
+  pub banks_is : port.banks ≡ value.banks
+  pub mail : IsNewMail (routes_at s controller) port.mail
+  pub first : IsEmptySlot port.first
+  pub second : IsEmptySlot port.second
+
+-- the segment at a place of the script, with the ports of the controllers on it
+pub record IsNewSite (s : ScriptValue) (segment : ℕ) (site : Site) : Type 0 where
+  pub plan_is : IsPlanOf s segment site.segment.plan
+  pub opens : IsOpening site.segment.plan site.segment
+  pub ports : Pairs (λ k. IsNewPort s) (controller_places s segment) site.ports.items
+
+abbrev pub AreNewSites : ScriptValue → List Site → Type 0
+AreNewSites s sites = Pairs (λ i segment. IsNewSite s i) s.segments sites
+
+-- where a controller of the script is
+abbrev pub IsPlaceOf : ScriptValue → ℕ → Place → Type 0
+IsPlaceOf s controller place = slice_get (controller_places s place.site) place.port ≡ Some controller
+
+-- the route at a place of the script, as a run makes it
+pub record IsLaneOf (s : ScriptValue) (k : ℕ) (route : RouteValue) (lane : Lane) : Type 0 where
+  pub source_is : IsPlaceOf s route.source lane.source
+  pub fifo_is : lane.fifo ≡ route.fifo
+  pub target_is : IsPlaceOf s route.target lane.target
+  pub number_is : route_at s route.target lane.number ≡ Some k
+  pub plan : FromPlan (aborts_of s k) (hand_value lane.hand)
+
+-- one that made no turn
+pub record IsNewLane (s : ScriptValue) (k : ℕ) (route : RouteValue) (lane : Lane) : Type 0 where
+  pub lane_is : IsLaneOf s k route lane
+  pub linked : LogMatches (hand_value lane.hand) no_route_past
+  pub log : LogsReleased (hand_value lane.hand)
+
+-- a route takes from a FIFO of the controller that it comes from
+pub record Takes (sites : List Site) (lane : Lane) : Type 0 where
+  pub from : Port
+  pub from_is : IsAt sites lane.source from
+  pub takes : TakesFrom lane from
+
+-- all segments and routes before the first bit
+pub record Opens (s : ScriptValue) (sites : List Site) (lanes : List Lane) : Type 0 where
+  pub each_site : AreNewSites s sites
+  pub each_lane : Pairs (λ k route. IsNewLane s k route) s.routes lanes
+  pub takes : (k : ℕ) (lane : Lane) → slice_get lanes k ≡ Some lane → Takes sites lane
