@@ -12,3 +12,4 @@ pub mod Passes
 pub mod Pairs
 pub mod PlacesWhere
 pub mod Plans
+pub mod Changes

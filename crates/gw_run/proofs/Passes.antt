@@ -9,7 +9,8 @@ use Rattle.gw_run.specs.declared.lane.Lane.{Lane}
 use Rattle.gw_run.specs.declared.site.Site.{Site}
 use Rattle.gw_run.specs.Sites.{SiteMoves}
 use Rattle.gw_run.specs.Worlds.{LaneKeeps, LanesKeep, LaneTurns, SameSegments, HaveMade}
-use Rattle.gw_run.proofs.WorldTurns.{place_cases, lane_cases}
+use Rattle.gw_run.proofs.WorldTurns.{lane_cases}
+use Rattle.gw_run.proofs.Changes.{place_cases}
 
 pub segments_start : (sites : List Site) → SameSegments sites sites
 segments_start sites = record { at = λ i a b p q. ap (λ (s : Site). s.segment) (same_some b a (sym q ∙ p)); size = refl }
@@ -18,12 +19,12 @@ segments_start sites = record { at = λ i a b p q. ap (λ (s : Site). s.segment)
 pub segments_turn : (first old new : List Site) (lane after : Lane) → LaneTurns old new lane after → SameSegments first old → SameSegments first new
 segments_turn first old new lane after t s = record {
   at = λ i a b p q. (let middle = some_there old i (let within = slice_get_within first i a p in omega (arith, within, s.size)) in
-      elim (place_cases old new lane.target.site t.site t.late_site t.site_is t.late_site_is t.other_sites i b q) [
-        | inl here ↦ ap (λ (x : Site). x.segment) here.1 ∙ t.segment_is
-            ∙ ap (λ (x : Site). x.segment) (same_some t.site middle.0 (sym t.site_is ∙ ap (slice_get old) (sym here.0) ∙ middle.1)) ∙ s.at i a middle.0 p middle.1
+      elim (place_cases old new lane.target.site t.at.site t.at.late_site t.at.site_is t.at.late_site_is t.at.other_sites i b q) [
+        | inl here ↦ ap (λ (x : Site). x.segment) here.1 ∙ t.at.segment_is
+            ∙ ap (λ (x : Site). x.segment) (same_some t.at.site middle.0 (sym t.at.site_is ∙ ap (slice_get old) (sym here.0) ∙ middle.1)) ∙ s.at i a middle.0 p middle.1
         | inr there ↦ ap (λ (x : Site). x.segment) (same_some b middle.0 (sym there.1 ∙ middle.1)) ∙ s.at i a middle.0 p middle.1
       ]);
-  size = t.sites_size ∙ s.size;
+  size = t.at.sites_size ∙ s.size;
 }
 
 pub made_turns : (bits made : ℕ) (old new : List Site) → SameSegments old new → HaveMade bits made old → HaveMade bits made new

@@ -1,20 +1,20 @@
 -- A turn of a route keeps what joins segments and routes.
 use Rattle.std.proofs.Common.{◌≡◌, ◌≢◌, ℕ, ◌+◌, ◌⊎◌, inl, inr, Some, List, length, set, slice_get, sym, ap, subst, arith, ◌∙◌}
 use Rattle.std.proofs.lemmas.Option.{slice_get_within}
-use Rattle.std.proofs.lemmas.Bool.Decides.{eqb_tells}
 use Rattle.bx_core.specs.PlainMail.{core_of, sending}
 use Rattle.bx_core.specs.Stands.{RouteStands}
 use Rattle.can_segment.specs.Segments.{SegmentValue}
 use Rattle.can_segment.proofs.Places.{same_some, get_set_same, get_set_other}
 use Rattle.gw_route.specs.RouteHand.{hand_value, IsLinked}
 use Rattle.gw_run.specs.declared.lane.Lane.{Lane}
-use Rattle.gw_run.specs.declared.lane.Place.{Place}
 use Rattle.gw_run.specs.declared.port.Port.{Port}
 use Rattle.gw_run.specs.declared.site.Site.{Site}
 use Rattle.gw_run.specs.Lanes.{TurnLeaves}
 use Rattle.gw_run.specs.Ports.{slot_leaves, same_fifo}
 use Rattle.gw_run.specs.Sites.{PortHolds, SiteHolds}
 use Rattle.gw_run.specs.Worlds.{IsAt, slot_of, LaneHolds, TakesFrom, Leads, WorldHolds, LaneTurns}
+use Rattle.gw_run.proofs.Changes.{place_cases, Late, late_of}
+use Rattle.gw_run.proofs.Changes.Late.{same_port, changed_to}
 use Rattle.gw_run.proofs.Worlds.{takes_on}
 
 -- the port that was turned on
@@ -28,86 +28,59 @@ port_turned number node segment old new t h = record {
   few = h.few;
 }
 
--- a place of a list of which another place may have changed
-pub place_cases : {X : Type 0} (old new : List X) (at : ℕ) (was is : X) → slice_get old at ≡ Some was → slice_get new at ≡ Some is → ((i : ℕ) → i ≢ at → slice_get new i ≡ slice_get old i) →
-    (i : ℕ) (x : X) → slice_get new i ≡ Some x → ((i ≡ at) × (x ≡ is)) ⊎ ((i ≢ at) × (slice_get old i ≡ Some x))
-place_cases old new at was is eo en others i x e = elim (eqb_tells i at) [
-  | inl same ↦ inl (same.1, same_some x is (sym e ∙ ap (slice_get new) same.1 ∙ en))
-  | inr other ↦ inr (other.1, sym (others i other.1) ∙ e)
-]
-
-site_turned : (old new : List Site) (lane after : Lane) (t : LaneTurns old new lane after) → SiteHolds t.site.segment t.site.ports.items → SiteHolds t.late_site.segment t.late_site.ports.items
+site_turned : (old new : List Site) (lane after : Lane) (t : LaneTurns old new lane after) → SiteHolds t.at.site.segment t.at.site.ports.items → SiteHolds t.at.late_site.segment t.at.late_site.ports.items
 site_turned old new lane after t h =
-    subst (λ s. SiteHolds s t.late_site.ports.items) (sym t.segment_is) (record {
+    subst (λ s. SiteHolds s t.at.late_site.ports.items) (sym t.at.segment_is) (record {
       fit = record {
-        size = t.ports_size ∙ h.fit.size;
-        transmits = λ k sends p e f. elim (place_cases t.site.ports.items t.late_site.ports.items lane.target.port t.port t.late t.port_is t.late_is t.other_ports k p f) [
-          | inl here ↦ ap (λ (q : Port). sending (core_of q.mail)) here.1 ∙ t.leaves.mail.sends ∙ h.fit.transmits k sends t.port e (ap (slice_get t.site.ports.items) here.0 ∙ t.port_is)
+        size = t.at.ports_size ∙ h.fit.size;
+        transmits = λ k sends p e f. elim (place_cases t.at.site.ports.items t.at.late_site.ports.items lane.target.port t.at.port t.at.late t.at.port_is t.at.late_is t.at.other_ports k p f) [
+          | inl here ↦ ap (λ (q : Port). sending (core_of q.mail)) here.1 ∙ t.at.changes.mail.sends ∙ h.fit.transmits k sends t.at.port e (ap (slice_get t.at.site.ports.items) here.0 ∙ t.at.port_is)
           | inr there ↦ h.fit.transmits k sends p e there.1
         ];
       };
-      each = λ k p e. elim (place_cases t.site.ports.items t.late_site.ports.items lane.target.port t.port t.late t.port_is t.late_is t.other_ports k p e) [
-        | inl here ↦ subst (PortHolds (length t.site.segment.plan.talkers.items + k) t.site.segment) (sym here.1)
-            (port_turned lane.number _ t.site.segment t.port t.late t.leaves (h.each k t.port (ap (slice_get t.site.ports.items) here.0 ∙ t.port_is)))
+      each = λ k p e. elim (place_cases t.at.site.ports.items t.at.late_site.ports.items lane.target.port t.at.port t.at.late t.at.port_is t.at.late_is t.at.other_ports k p e) [
+        | inl here ↦ subst (PortHolds (length t.at.site.segment.plan.talkers.items + k) t.at.site.segment) (sym here.1)
+            (port_turned lane.number _ t.at.site.segment t.at.port t.at.late t.at.changes (h.each k t.at.port (ap (slice_get t.at.site.ports.items) here.0 ∙ t.at.port_is)))
         | inr there ↦ h.each k p there.1
       ];
     })
 
--- where a port is after a turn: it is the one that was turned on, or it is as before
-pub data Late (old new : List Site) (lane after : Lane) (t : LaneTurns old new lane after) (place : Place) (port : Port) : Type 0 where
-  same_port : IsAt new place port → (place ≡ lane.target → ⊥) → Late old new lane after t place port
-  turned_port : IsAt new place t.late → place ≡ lane.target → port ≡ t.port → Late old new lane after t place port
-
-late_of : (old new : List Site) (lane after : Lane) (t : LaneTurns old new lane after) (place : Place) (port : Port) → IsAt old place port → Late old new lane after t place port
-late_of old new lane after t place port at = elim (eqb_tells place.site lane.target.site) [
-  | inl same ↦ (let site_same : at.site ≡ t.site = same_some at.site t.site (sym at.site_is ∙ ap (slice_get old) same.1 ∙ t.site_is) in
-      let site_late : slice_get new place.site ≡ Some t.late_site = ap (slice_get new) same.1 ∙ t.late_site_is in
-      elim (eqb_tells place.port lane.target.port) [
-        | inl here ↦ turned_port (record { site = t.late_site; site_is = site_late; port_is = ap (slice_get t.late_site.ports.items) here.1 ∙ t.late_is })
-            (ap (λ s. record { site = s; port = place.port }) same.1 ∙ ap (λ q. record { site = lane.target.site; port = q }) here.1)
-            (same_some port t.port (sym at.port_is ∙ ap (λ (s : Site). slice_get s.ports.items place.port) site_same ∙ ap (slice_get t.site.ports.items) here.1 ∙ t.port_is))
-        | inr there ↦ same_port (record { site = t.late_site; site_is = site_late; port_is = t.other_ports place.port there.1 ∙ ap (λ (s : Site). slice_get s.ports.items place.port) (sym site_same) ∙ at.port_is })
-            (λ e. there.1 (ap (λ (q : Place). q.port) e))
-      ])
-  | inr other ↦ same_port (record { site = at.site; site_is = t.other_sites place.site other.1 ∙ at.site_is; port_is = at.port_is }) (λ e. other.1 (ap (λ (q : Place). q.site) e))
-]
-
 -- the FIFO that a route takes from is where it was
 from_late : (old new : List Site) (lane after : Lane) (t : LaneTurns old new lane after) (other : Lane) (port : Port) → IsAt old other.source port → TakesFrom other port → (late : Port) × IsAt new other.source late × TakesFrom other late
-from_late old new lane after t other port at takes = by_late (late_of old new lane after t other.source port at)
+from_late old new lane after t other port at takes = by_late (late_of (TurnLeaves lane.number) old new lane.target t.at other.source port at)
   where
-    by_late : Late old new lane after t other.source port → (late : Port) × IsAt new other.source late × TakesFrom other late
+    by_late : Late (TurnLeaves lane.number) old new lane.target t.at other.source port → (late : Port) × IsAt new other.source late × TakesFrom other late
     by_late (same_port there apart) = (port, there, takes)
-    by_late (turned_port there here is) = (t.late, there, takes_on other t.port t.late (same_fifo t.port.first t.late.first t.leaves.first) (same_fifo t.port.second t.late.second t.leaves.second) (subst (TakesFrom other) is takes))
+    by_late (changed_to there here is) = (t.at.late, there, takes_on other t.at.port t.at.late (same_fifo t.at.port.first t.at.late.first t.at.changes.first) (same_fifo t.at.port.second t.at.late.second t.at.changes.second) (subst (TakesFrom other) is takes))
 
 -- another route's mailboxes are as it left them
 to_late : (old new : List Site) (lane after : Lane) (t : LaneTurns old new lane after) (other : Lane) (port : Port) → (other.target ≡ lane.target → other.number ≢ lane.number) →
     IsAt old other.target port → LaneHolds other port → (late : Port) × IsAt new other.target late × LaneHolds other late
-to_late old new lane after t other port apart at holds = by_late (late_of old new lane after t other.target port at)
+to_late old new lane after t other port apart at holds = by_late (late_of (TurnLeaves lane.number) old new lane.target t.at other.target port at)
   where
-    by_late : Late old new lane after t other.target port → (late : Port) × IsAt new other.target late × LaneHolds other late
+    by_late : Late (TurnLeaves lane.number) old new lane.target t.at other.target port → (late : Port) × IsAt new other.target late × LaneHolds other late
     by_late (same_port there no_target) = (port, there, holds)
-    by_late (turned_port there here is) =
-        let held : LaneHolds other t.port = subst (LaneHolds other) is holds in (
-          t.late,
+    by_late (changed_to there here is) =
+        let held : LaneHolds other t.at.port = subst (LaneHolds other) is holds in (
+          t.at.late,
           there,
           record {
-            in_range = omega (arith, held.in_range, t.leaves.mail.routes);
-            linked = (held.linked.0, t.leaves.mail.others other.number (apart here) held.linked.0 held.linked.1, held.linked.2);
+            in_range = omega (arith, held.in_range, t.at.changes.mail.routes);
+            linked = (held.linked.0, t.at.changes.mail.others other.number (apart here) held.linked.0 held.linked.1, held.linked.2);
           },
         )
 
 -- the route that made the turn
 leads_after : (old new : List Site) (lane after : Lane) (t : LaneTurns old new lane after) → Leads old lane → Leads new after
 leads_after old new lane after t l =
-    let port_same : l.to ≡ t.port = to_same l.to_is in
+    let port_same : l.to ≡ t.at.port = to_same l.to_is in
     let from = from_late old new lane after t lane l.from l.from_is l.takes in
     record {
-      to = t.late;
-      to_is = subst (λ p. IsAt new p t.late) (sym t.keeps.target_is) (record { site = t.late_site; site_is = t.late_site_is; port_is = t.late_is });
+      to = t.at.late;
+      to_is = subst (λ p. IsAt new p t.at.late) (sym t.keeps.target_is) (record { site = t.at.late_site; site_is = t.at.late_site_is; port_is = t.at.late_is });
       holds = record {
-        in_range = (let before = subst (LaneHolds lane) port_same l.holds in omega (arith, before.in_range, t.leaves.mail.routes, t.keeps.number_is));
-        linked = subst (λ n. IsLinked (RouteStands (core_of t.late.mail) n) (hand_value after.hand)) (sym t.keeps.number_is) t.linked;
+        in_range = (let before = subst (LaneHolds lane) port_same l.holds in omega (arith, before.in_range, t.at.changes.mail.routes, t.keeps.number_is));
+        linked = subst (λ n. IsLinked (RouteStands (core_of t.at.late.mail) n) (hand_value after.hand)) (sym t.keeps.number_is) t.linked;
       };
       from = from.0;
       from_is = subst (λ p. IsAt new p from.0) (sym t.keeps.source_is) from.1;
@@ -119,10 +92,10 @@ leads_after old new lane after t l =
       log = t.log l.log;
     }
   where
-    to_same : {port : Port} → IsAt old lane.target port → port ≡ t.port
+    to_same : {port : Port} → IsAt old lane.target port → port ≡ t.at.port
     to_same {port} at =
-        let site_same : at.site ≡ t.site = same_some at.site t.site (sym at.site_is ∙ t.site_is) in
-        same_some port t.port (sym at.port_is ∙ ap (λ (s : Site). slice_get s.ports.items lane.target.port) site_same ∙ t.port_is)
+        let site_same : at.site ≡ t.at.site = same_some at.site t.at.site (sym at.site_is ∙ t.at.site_is) in
+        same_some port t.at.port (sym at.port_is ∙ ap (λ (s : Site). slice_get s.ports.items lane.target.port) site_same ∙ t.at.port_is)
 
 leads_other : (old new : List Site) (lane after : Lane) (t : LaneTurns old new lane after) (other : Lane) → (other.target ≡ lane.target → other.number ≢ lane.number) → Leads old other → Leads new other
 leads_other old new lane after t other apart l =
@@ -138,8 +111,8 @@ lane_cases lanes k lane after found j m e =
 
 pub world_turn : (old new : List Site) (lanes : List Lane) (k : ℕ) (lane after : Lane) → slice_get lanes k ≡ Some lane → LaneTurns old new lane after → WorldHolds old lanes → WorldHolds new (set lanes k after)
 world_turn old new lanes k lane after found t w = record {
-  each_site = λ i site e. elim (place_cases old new lane.target.site t.site t.late_site t.site_is t.late_site_is t.other_sites i site e) [
-    | inl here ↦ subst (λ (s : Site). SiteHolds s.segment s.ports.items) (sym here.1) (site_turned old new lane after t (w.each_site lane.target.site t.site t.site_is))
+  each_site = λ i site e. elim (place_cases old new lane.target.site t.at.site t.at.late_site t.at.site_is t.at.late_site_is t.at.other_sites i site e) [
+    | inl here ↦ subst (λ (s : Site). SiteHolds s.segment s.ports.items) (sym here.1) (site_turned old new lane after t (w.each_site lane.target.site t.at.site t.at.site_is))
     | inr there ↦ w.each_site i site there.1
   ];
   each_lane = λ j m e. elim (lane_cases lanes k lane after found j m e) [

@@ -11,4 +11,3 @@ pub mod Worlds
 pub mod Plans
 pub mod Reports
 pub mod Openings
-pub mod Changes

@@ -1,9 +1,10 @@
 -- A receive FIFO that a route takes from, or none.
-use Rattle.std.specs.Prelude.{◌≡◌, ℕ, ◌<◌, Option, Some, None, List, [], ◌∷◌, ◌++◌, length}
+use Rattle.std.specs.Prelude.{◌≡◌, ℕ, ◌<◌, ◌==◌, Option, Some, None, List, [], ◌∷◌, ◌++◌, length, if◌then◌else◌}
 use Rattle.can_frame.specs.Frames.{FrameValue}
 use Rattle.bx_rx.specs.Bank.{BankValue}
 use Rattle.gw_run.specs.Intakes.{GoTo, IntakeStands}
 use Rattle.gw_run.specs.declared.intake.Intake.{Intake}
+use Rattle.gw_run.specs.declared.port.Port.{Port}
 
 -- it is the same FIFO
 abbrev pub SameFifo : Option Intake → Option Intake → Type 0
@@ -28,3 +29,10 @@ SlotOffers None None frame = Unit {0}
 SlotOffers None (Some new) frame = ⊥
 SlotOffers (Some old) None frame = ⊥
 SlotOffers (Some old) (Some new) frame = (offered : List FrameValue) → length offered < 18446744073709551615 → IntakeStands old offered → IntakeStands new (offered ++ frame ∷ [])
+
+-- this stands in the place of the FIFO of this number, and the rest of the port is as it was
+pub record SetsSlot (fifo : ℕ) (slot : Option Intake) (old new : Port) : Type 0 where
+  pub mail_is : new.mail ≡ old.mail
+  pub banks_is : new.banks ≡ old.banks
+  pub first_is : new.first ≡ (if fifo == 0 then slot else old.first)
+  pub second_is : new.second ≡ (if fifo == 0 then old.second else slot)

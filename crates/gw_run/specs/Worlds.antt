@@ -59,23 +59,27 @@ pub record LaneKeeps (old new : Lane) : Type 0 where
   pub queue_is : new.hand.out.queue ≡ old.hand.out.queue
   pub plan : (planned : List PlannedAbort) → FromPlan planned (hand_value old.hand) → FromPlan planned (hand_value new.hand)
 
--- one turn of a route, at the port that it leads to: nothing else has changed
-pub record LaneTurns (old new : List Site) (lane after : Lane) : Type 0 where
+-- the port at this place changes so, and nothing else
+pub record PortChanges (Change : Port → Port → Type 0) (old new : List Site) (place : Place) : Type 0 where
   pub site : Site
   pub late_site : Site
   pub port : Port
   pub late : Port
-  pub site_is : slice_get old lane.target.site ≡ Some site
-  pub late_site_is : slice_get new lane.target.site ≡ Some late_site
-  pub port_is : slice_get site.ports.items lane.target.port ≡ Some port
-  pub late_is : slice_get late_site.ports.items lane.target.port ≡ Some late
-  pub other_sites : (i : ℕ) → i ≢ lane.target.site → slice_get new i ≡ slice_get old i
-  pub other_ports : (j : ℕ) → j ≢ lane.target.port → slice_get late_site.ports.items j ≡ slice_get site.ports.items j
+  pub site_is : slice_get old place.site ≡ Some site
+  pub late_site_is : slice_get new place.site ≡ Some late_site
+  pub port_is : slice_get site.ports.items place.port ≡ Some port
+  pub late_is : slice_get late_site.ports.items place.port ≡ Some late
+  pub other_sites : (i : ℕ) → i ≢ place.site → slice_get new i ≡ slice_get old i
+  pub other_ports : (j : ℕ) → j ≢ place.port → slice_get late_site.ports.items j ≡ slice_get site.ports.items j
   pub sites_size : length new ≡ length old
   pub ports_size : length late_site.ports.items ≡ length site.ports.items
   pub segment_is : late_site.segment ≡ site.segment
-  pub leaves : TurnLeaves lane.number port late
-  pub linked : IsLinked (RouteStands (core_of late.mail) lane.number) (hand_value after.hand)
+  pub changes : Change port late
+
+-- one turn of a route, at the port that it leads to
+pub record LaneTurns (old new : List Site) (lane after : Lane) : Type 0 where
+  pub at : PortChanges (TurnLeaves lane.number) old new lane.target
+  pub linked : IsLinked (RouteStands (core_of at.late.mail) lane.number) (hand_value after.hand)
   pub log : LogsReleased (hand_value lane.hand) → LogsReleased (hand_value after.hand)
   pub keeps : LaneKeeps lane after
 

@@ -15,6 +15,7 @@ mod run_fault;
 
 mod settling;
 mod site;
+mod slots;
 mod world;
 
 pub use crate::run_fault::RunFault;

@@ -16,20 +16,22 @@ returns g c =
     let same : c.requires.to_is.site ≡ site = same_some c.requires.to_is.site site (sym c.requires.to_is.site_is ∙ found) in
     let inside : q < length site.ports.items = subst (λ (s : Site). q < length s.ports.items) same (slice_get_within c.requires.to_is.site.ports.items q c.requires.to c.requires.to_is.port_is) in
     record {
-      site = site;
-      late_site = _;
-      port = c.index_mut.result.now;
-      late = c.turn_on.new.port;
-      site_is = found;
-      late_site_is = get_set_same sites t _ within;
-      port_is = slice_get-get_or site.ports.items q c.index_mut.result.now inside ∙ ap Some (sym c.index_mut.ensures.value);
-      late_is = get_set_same site.ports.items q c.turn_on.new.port inside;
-      other_sites = λ i ne. get_set_other sites t i _ ne;
-      other_ports = λ j ne. get_set_other site.ports.items q j c.turn_on.new.port ne;
-      sites_size = simp length-set refl;
-      ports_size = simp length-set refl;
-      segment_is = refl;
-      leaves = c.turn_on.ensures.port;
+      at = record {
+        site = site;
+        late_site = _;
+        port = c.index_mut.result.now;
+        late = c.turn_on.new.port;
+        site_is = found;
+        late_site_is = get_set_same sites t _ within;
+        port_is = slice_get-get_or site.ports.items q c.index_mut.result.now inside ∙ ap Some (sym c.index_mut.ensures.value);
+        late_is = get_set_same site.ports.items q c.turn_on.new.port inside;
+        other_sites = λ i ne. get_set_other sites t i _ ne;
+        other_ports = λ j ne. get_set_other site.ports.items q j c.turn_on.new.port ne;
+        sites_size = simp length-set refl;
+        ports_size = simp length-set refl;
+        segment_is = refl;
+        changes = c.turn_on.ensures.port;
+      };
       linked = c.turn_on.ensures.linked;
       log = c.turn_on.ensures.log;
       keeps = record { source_is = refl; fifo_is = refl; target_is = refl; number_is = refl; queue_is = c.turn_on.ensures.queue; plan = c.turn_on.ensures.plan };

@@ -1,0 +1,57 @@
+//! Receive FIFOs are put into controllers, and taken out again.
+
+ghost use Rattle.std.specs.Prelude.{◌≡◌, ◌<◌, ◌≤◌, Some, None, Option};
+ghost use Rattle.gw_run.specs.declared.port.Port.{Port};
+ghost use Rattle.gw_run.specs.Slots.{SetsSlot};
+ghost use Rattle.gw_run.specs.Worlds.{IsAt, PortChanges, slot_of};
+
+use crate::intake::Intake;
+use crate::lane::Place;
+use crate::port::Port;
+use crate::site::Site;
+use std::mem::replace;
+
+/// The FIFO of this number gets this in its place, and what was there comes out.
+fn exchange(port: &mut Port, fifo: u8, slot: Option<Intake>) -> Option<Intake>
+    ensures sets { SetsSlot fifo slot port.old port.new }
+    ensures was { result ≡ slot_of port.old fifo }
+{
+    if fifo == 0 {
+        return replace(&mut port.first, slot);
+    }
+    replace(&mut port.second, slot)
+}
+
+/// The same at a place of a run.
+fn exchange_at(
+    sites: &mut [Site],
+    place: Place,
+    fifo: u8,
+    slot: Option<Intake>,
+) -> Option<Intake>
+    requires { (port : Port) × IsAt sites.old place port }
+    ensures sets { PortChanges (SetsSlot fifo slot) sites.old sites.new place }
+    ensures was { (port : Port) → IsAt sites.old place port → result ≡ slot_of port fifo }
+{
+    exchange(&mut sites[place.site].ports[place.port], fifo, slot)
+}
+
+/// Frames come into the FIFO of this number there.
+pub(crate) fn put(sites: &mut [Site], place: Place, fifo: u8, intake: Intake)
+    requires { (port : Port) × IsAt sites.old place port }
+    ensures { PortChanges (SetsSlot fifo (Some intake)) sites.old sites.new place }
+{
+    let _ = exchange_at(sites, place, fifo, Some(intake));
+}
+
+/// No more frames come into the FIFO of this number there.
+pub(crate) fn take(sites: &mut [Site], place: Place, fifo: u8) -> Intake
+    requires { (port : Port) × (intake : Intake) × IsAt sites.old place port × (slot_of port fifo ≡ Some intake) }
+    ensures sets { PortChanges (SetsSlot fifo None) sites.old sites.new place }
+    ensures was { (port : Port) → IsAt sites.old place port → slot_of port fifo ≡ Some result }
+{
+    match exchange_at(sites, place, fifo, None) {
+        Some(intake) => intake,
+        None => unreachable!(),
+    }
+}
