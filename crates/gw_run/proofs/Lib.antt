@@ -13,3 +13,4 @@ pub mod Pairs
 pub mod PlacesWhere
 pub mod Plans
 pub mod Changes
+pub mod Openings

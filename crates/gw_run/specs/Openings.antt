@@ -1,5 +1,5 @@
 -- A run before its first bit.
-use Rattle.std.specs.Prelude.{◌≡◌, ℕ, max, Option, Some, None, List, [], length, slice_get}
+use Rattle.std.specs.Prelude.{◌≡◌, ◌≢◌, ◌==◌, ℕ, max, Option, Some, None, List, [], length, slice_get}
 use Rattle.bx_core.specs.declared.plain_mail.PlainMail.{PlainMail}
 use Rattle.bx_core.specs.PlainMail.{core_of, sending}
 use Rattle.bx_core.specs.RouteTx.{no_route_past}
@@ -80,6 +80,10 @@ pub record Takes (sites : List Site) (lane : Lane) : Type 0 where
   pub from : Port
   pub from_is : IsAt sites lane.source from
   pub takes : TakesFrom lane from
+
+-- they don't take from the same FIFO of one controller
+abbrev pub TakesApart : Lane → Lane → Type 0
+TakesApart other lane = other.source ≡ lane.source → (other.fifo == 0) ≢ (lane.fifo == 0)
 
 -- all segments and routes before the first bit
 pub record Opens (s : ScriptValue) (sites : List Site) (lanes : List Lane) : Type 0 where

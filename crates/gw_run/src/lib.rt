@@ -5,12 +5,14 @@ mod growing;
 mod inline;
 mod intake;
 mod lane;
+
 mod opening;
 mod places;
 mod plan;
 mod linked;
 mod port;
 mod route_end;
+mod route_start;
 mod run_fault;
 
 mod settling;
