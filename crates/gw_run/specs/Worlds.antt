@@ -1,6 +1,7 @@
 -- All of a run between two bits or two turns: segments with their controllers, and the routes between these.
 use Rattle.std.specs.Prelude.{◌≡◌, ◌≢◌, ℕ, ◌<◌, ◌==◌, Option, Some, List, length, slice_get, if◌then◌else◌}
 use Rattle.bx_core.specs.PlainMail.{core_of}
+use Rattle.bx_core.specs.RouteTx.{no_route_past}
 use Rattle.bx_core.specs.Stands.{RouteStands}
 use Rattle.gw_route.specs.RouteHand.{hand_value, IsLinked, LogsReleased}
 use Rattle.gw_run.specs.declared.intake.Intake.{Intake}
@@ -94,3 +95,20 @@ SameSegments old new = AtPlaces (λ i (a b : Site). b.segment ≡ a.segment) old
 pub record HaveMade (bits made : ℕ) (sites : List Site) : Type 0 where
   pub plans : (i : ℕ) (site : Site) → slice_get sites i ≡ Some site → site.segment.plan.bits ≡ bits
   pub levels : (i : ℕ) (site : Site) → slice_get sites i ≡ Some site → length site.segment.levels ≡ made
+
+-- no route has this number at the port of this place
+abbrev pub IsSpared : List Lane → Place → ℕ → Type 0
+IsSpared lanes place n = (k : ℕ) (lane : Lane) → slice_get lanes k ≡ Some lane → lane.target ≡ place → lane.number ≢ n
+
+-- what a run leaves of a port: its banks, and that nothing was asked under a number which no route has there
+pub record PortKeeps (lanes : List Lane) (place : Place) (old new : Port) : Type 0 where
+  pub banks_is : new.banks ≡ old.banks
+  pub spared : (n : ℕ) → IsSpared lanes place n → RouteStands (core_of old.mail) n no_route_past → RouteStands (core_of new.mail) n no_route_past
+
+-- and of a segment: its plan
+pub record SiteKeeps (lanes : List Lane) (i : ℕ) (old new : Site) : Type 0 where
+  pub plan_is : new.segment.plan ≡ old.segment.plan
+  pub ports : AtPlaces (λ k. PortKeeps lanes (record { site = i; port = k })) old.ports.items new.ports.items
+
+abbrev pub SitesKeep : List Lane → List Site → List Site → Type 0
+SitesKeep lanes old new = AtPlaces (SiteKeeps lanes) old new

@@ -5,7 +5,7 @@ ghost use Rattle.can_segment.specs.Places.{AtPlaces};
 ghost use Rattle.gw_run.specs.declared.site.Site.{Site};
 ghost use Rattle.gw_run.specs.declared.lane.Lane.{Lane};
 ghost use Rattle.gw_run.specs.Sites.{SiteHolds, SiteMoves};
-ghost use Rattle.gw_run.specs.Worlds.{Leads, LaneTurns, LanesKeep, WorldHolds, SameSegments, HaveMade};
+ghost use Rattle.gw_run.specs.Worlds.{Leads, LaneTurns, LanesKeep, SitesKeep, WorldHolds, SameSegments, HaveMade};
 
 use crate::lane::{Lane, turn_on};
 use crate::site::Site;
@@ -19,6 +19,7 @@ pub(crate) fn make_bits<R: Wait>(rt: &R, sites: &mut [Site]) -> Result<(), Memor
         → length site.segment.levels < site.segment.plan.bits }
     ensures moves { OnOk result (AtPlaces (λ i. SiteMoves) sites.old sites.new) }
     ensures world { OnOk result ((lanes : List Lane) → WorldHolds sites.old lanes → WorldHolds sites.new lanes) }
+    ensures keeps { OnOk result ((lanes : List Lane) → SitesKeep lanes sites.old sites.new) }
 {
     for place in 0..sites.len() {
         sites[place].make_bit(rt)?;
@@ -50,6 +51,7 @@ pub(crate) fn make_turns<R: Wait>(
     ensures world { OnOk result (WorldHolds sites.new lanes.new) }
     ensures segments { OnOk result (SameSegments sites.old sites.new) }
     ensures lanes { OnOk result (LanesKeep lanes.old lanes.new) }
+    ensures keeps { OnOk result (SitesKeep lanes.old sites.old sites.new) }
 {
     for place in 0..lanes.len() {
         turn_of(rt, sites, &mut lanes[place])?;
@@ -73,6 +75,7 @@ fn step<R: Wait>(
     ensures world { OnOk result (WorldHolds sites.new lanes.new) }
     ensures made { OnOk result (HaveMade bits (bit + 1) sites.new) }
     ensures lanes { OnOk result (LanesKeep lanes.old lanes.new) }
+    ensures keeps { OnOk result (SitesKeep lanes.old sites.old sites.new) }
 {
     make_bits(rt, sites)?;
     if (bit + 1) % turn != 0 {
@@ -96,6 +99,7 @@ pub(crate) fn make_all<R: Wait>(
     ensures world { OnOk result (WorldHolds sites.new lanes.new) }
     ensures made { OnOk result (HaveMade bits bits sites.new) }
     ensures lanes { OnOk result (LanesKeep lanes.old lanes.new) }
+    ensures keeps { OnOk result (SitesKeep lanes.old sites.old sites.new) }
 {
     for bit in 0..bits {
         step(rt, sites, lanes, bits, bit, turn)?;

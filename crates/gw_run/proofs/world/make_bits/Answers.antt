@@ -3,6 +3,7 @@ use Rattle.std.proofs.lemmas.Option.{slice_get-get_or}
 use Rattle.can_segment.proofs.Places.{places_step, places_end}
 use Rattle.gw_run.specs.Sites.{SiteMoves}
 use Rattle.gw_run.proofs.Worlds.{world_bits}
+use Rattle.gw_run.proofs.Keeps.{sites_bit}
 use Rattle.gw_run.proofs.world.make_bits.Goals as goal
 
 pub loop-place-preserved : goal.loop-place-preserved
@@ -17,3 +18,7 @@ returns-clause-moves g c = places_end (λ i. SiteMoves) c.args.sites.now c.loop-
 pub returns-clause-world : goal.returns-clause-world
 returns-clause-world g c lanes w =
     world_bits c.args.sites.now c.loop-place.sites lanes (places_end (λ i. SiteMoves) c.args.sites.now c.loop-place.sites c.loop-place.place (omega (arith, c.loop-place-test.false, c.loop-place.invariant.size)) c.loop-place.invariant) w
+
+pub returns-clause-keeps : goal.returns-clause-keeps
+returns-clause-keeps g c lanes =
+    sites_bit lanes c.args.sites.now c.loop-place.sites (places_end (λ i. SiteMoves) c.args.sites.now c.loop-place.sites c.loop-place.place (omega (arith, c.loop-place-test.false, c.loop-place.invariant.size)) c.loop-place.invariant)

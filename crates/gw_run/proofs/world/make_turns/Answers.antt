@@ -2,10 +2,11 @@ use Rattle.std.proofs.Common.{arith}
 use Rattle.std.proofs.lemmas.Option.{slice_get-get_or}
 use Rattle.gw_run.proofs.WorldTurns.{world_turn}
 use Rattle.gw_run.proofs.Passes.{segments_start, segments_turn, lanes_start, lanes_turn}
+use Rattle.gw_run.proofs.Keeps.{sites-self, sites-on, sites_of_first, sites_turn}
 use Rattle.gw_run.proofs.world.make_turns.Goals as goal
 
 pub loop-place-init : goal.loop-place-init
-loop-place-init g c = (c.requires, segments_start c.args.sites.now, lanes_start c.args.lanes.now)
+loop-place-init g c = (c.requires, segments_start c.args.sites.now, lanes_start c.args.lanes.now, sites-self c.args.lanes.now c.args.sites.now)
 
 pub loop-place-preserved : goal.loop-place-preserved
 loop-place-preserved g c =
@@ -13,4 +14,7 @@ loop-place-preserved g c =
       world_turn c.loop-place.sites c.turn_of.new.sites c.loop-place.lanes c.loop-place.place _ c.turn_of.new.lane found c.turn_of.ensures c.loop-place.invariant.0,
       segments_turn c.args.sites.now c.loop-place.sites c.turn_of.new.sites _ c.turn_of.new.lane c.turn_of.ensures c.loop-place.invariant.1,
       lanes_turn c.args.lanes.now c.loop-place.lanes c.loop-place.place _ c.turn_of.new.lane found c.turn_of.ensures.keeps c.loop-place.invariant.2,
+      sites-on c.args.lanes.now c.args.sites.now c.loop-place.sites c.turn_of.new.sites c.loop-place.invariant.3
+      (sites_of_first c.args.lanes.now c.loop-place.lanes c.loop-place.sites c.turn_of.new.sites c.loop-place.invariant.2
+      (sites_turn c.loop-place.lanes c.loop-place.place _ c.turn_of.new.lane c.loop-place.sites c.turn_of.new.sites found c.turn_of.ensures)),
     )
