@@ -1,5 +1,5 @@
 -- What a route's parts make of its report.
-use Rattle.std.proofs.Common.{◌≡◌, ℕ, ◌+◌, ◌≤◌, inl, inr, List, [], ◌∷◌, ◌++◌, length, sym, ap, subst, arith, ◌∙◌}
+use Rattle.std.proofs.Common.{◌≡◌, ◌≢◌, AllPairs, ℕ, ◌+◌, ◌≤◌, inl, inr, List, [], ◌∷◌, ◌++◌, length, sym, ap, subst, arith, ◌∙◌}
 use Rattle.std.proofs.lemmas.List.{map-append, length-map}
 use Rattle.std.proofs.lemmas.Bool.Decides.{eqb_tells}
 use Rattle.can_frame.specs.Frames.{FrameValue}
@@ -18,6 +18,7 @@ use Rattle.gw_run.specs.Intakes.{LeavesOut, IntakeStands}
 use Rattle.gw_run.specs.declared.intake.Intake.{Intake}
 use Rattle.gw_run.specs.Ends.{IsEndOf}
 use Rattle.gw_run.proofs.Intakes.{left-length}
+use Rattle.gw_run.proofs.Settles.{settled_apart, settled_logged}
 
 entries_step : (core : State) (number : ℕ) (x : Item) (xs : List Item) (e : Entry) → Has (lists_of core x.0).requested (entry_on_bus x) →
     (Has (entries_of number xs) e → Has (lists_of core number).requested e) → Has (entries_of number (x ∷ xs)) e → Has (lists_of core number).requested e
@@ -96,6 +97,8 @@ ends r core number intake h waiting left p =
       linked = links r core number intake h waiting left p;
       completed_is = λ past bus. p.completed_is ∙ sym (bus.done_is number);
       released_is = p.released_is;
+      aborted_apart = subst (AllPairs (λ number later. number ≢ later)) (sym p.aborted_is) (settled_apart (numbers r.completed.items ++ waiting) h.aborted);
+      aborted_logged = subst (Each (Has h.aborted)) (sym p.aborted_is) (settled_logged (numbers r.completed.items ++ waiting) h.aborted);
       fifo = λ offered stands. record {
         left = frames_of left;
         accepted_is = p.accepted_is ∙ stands.accepted_is;

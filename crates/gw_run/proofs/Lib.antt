@@ -15,3 +15,4 @@ pub mod Plans
 pub mod Changes
 pub mod Openings
 pub mod Keeps
+pub mod Starts

@@ -1,6 +1,7 @@
 -- A route at the end of a run.
-use Rattle.std.specs.Prelude.{◌≡◌, ◌≢◌, ℕ, ◌≤◌, List, ◌++◌, length}
+use Rattle.std.specs.Prelude.{◌≡◌, ◌≢◌, ℕ, ◌≤◌, List, ◌++◌, length, AllPairs}
 use Rattle.can_frame.specs.Frames.{FrameValue}
+use Rattle.bx_core.specs.Lists.{Each, Has}
 use Rattle.bx_core.specs.States.{State}
 use Rattle.bx_core.specs.TxBus.{BusPast}
 use Rattle.bx_core.specs.Stands.{BusStands, entries_of}
@@ -25,4 +26,6 @@ pub record IsEndOf (r : RouteReport) (core : State) (number : ℕ) (intake : Int
   pub linked : (past : BusPast) → BusStands core past → RouteLinked r (entries_of number past.started)
   pub completed_is : (past : BusPast) → BusStands core past → r.completed.items ≡ entries_of number past.done
   pub released_is : r.released.items ≡ h.released
+  pub aborted_apart : AllPairs (λ number later. number ≢ later) r.aborted.items
+  pub aborted_logged : Each (Has h.aborted) r.aborted.items
   pub fifo : (offered : List FrameValue) → IntakeStands intake offered → TellsFifo r offered

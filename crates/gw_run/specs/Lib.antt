@@ -11,3 +11,4 @@ pub mod Worlds
 pub mod Plans
 pub mod Reports
 pub mod Openings
+pub mod Finals
