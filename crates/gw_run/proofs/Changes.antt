@@ -1,10 +1,15 @@
 -- What is at the places of a run when one port changed, and nothing else.
-use Rattle.std.proofs.Common.{◌≡◌, ◌≢◌, ℕ, ◌⊎◌, inl, inr, Some, List, length, slice_get, refl, sym, ap, subst, ◌∙◌}
+use Rattle.std.proofs.Common.{◌≡◌, ◌≢◌, ℕ, ◌⊎◌, inl, inr, Some, Option, List, length, slice_get, refl, sym, ap, subst, ◌∙◌}
 use Rattle.std.proofs.lemmas.Bool.Decides.{eqb_tells}
+use Rattle.bx_core.specs.declared.plain_mail.PlainMail.{PlainMail}
+use Rattle.bx_core.specs.PlainMail.{core_of}
+use Rattle.bx_core.specs.States.{State}
 use Rattle.can_segment.proofs.Places.{same_some}
+use Rattle.gw_run.specs.declared.intake.Intake.{Intake}
 use Rattle.gw_run.specs.declared.lane.Place.{Place}
 use Rattle.gw_run.specs.declared.port.Port.{Port}
 use Rattle.gw_run.specs.declared.site.Site.{Site}
+use Rattle.gw_run.specs.Slots.{SetsSlot}
 use Rattle.gw_run.specs.Worlds.{IsAt, PortChanges}
 
 -- a place of a list of which another place may have changed
@@ -67,3 +72,23 @@ site_was Change old new there t i late e = elim (place_cases old new there.site 
   | inl here ↦ subst (λ s. SiteWas Change old there i s) (sym here.1) (subst (λ n. SiteWas Change old there n t.late_site) (sym here.0) (changed_site Change old new there t))
   | inr beside ↦ same_site Change old there i late beside.1
 ]
+
+-- a FIFO that was put somewhere or taken leaves all mailboxes
+pub mail_after : (fifo : ℕ) (slot : Option Intake) (old new : List Site) (there : Place) → PortChanges (SetsSlot fifo slot) old new there → (place : Place) (port : Port) → IsAt old place port →
+    (late : Port) × IsAt new place late × (late.mail ≡ port.mail)
+mail_after fifo slot old new there t place port at = by_late (late_of (SetsSlot fifo slot) old new there t place port at)
+  where
+    by_late : Late (SetsSlot fifo slot) old new there t place port → (late : Port) × IsAt new place late × (late.mail ≡ port.mail)
+    by_late (same_port now elsewhere) = (port, now, refl)
+    by_late (changed_to now here is) = (t.late, now, t.changes.mail_is ∙ ap (λ (p : Port). p.mail) (sym is))
+
+-- there is one port at a place
+pub one_there : (sites : List Site) (place : Place) (a b : Port) → IsAt sites place a → IsAt sites place b → a ≡ b
+one_there sites place a b p q =
+    let same : p.site ≡ q.site = same_some p.site q.site (sym p.site_is ∙ q.site_is) in
+    same_some a b (sym p.port_is ∙ ap (λ (s : Site). slice_get s.ports.items place.port) same ∙ q.port_is)
+
+-- so what is read of them then is what they were
+pub core_after : (fifo : ℕ) (slot : Option Intake) (old new : List Site) (there : Place) → PortChanges (SetsSlot fifo slot) old new there → (place : Place) (port : Port) → IsAt old place port → (mail : PlainMail) (core : State) →
+    ((late : Port) → IsAt new place late → mail ≡ late.mail) → core ≡ core_of mail → core ≡ core_of port.mail
+core_after fifo slot old new there t place port at mail core read is = (let late = mail_after fifo slot old new there t place port at in is ∙ ap core_of (read late.0 late.1 ∙ late.2))

@@ -16,3 +16,4 @@ pub mod Changes
 pub mod Openings
 pub mod Keeps
 pub mod Starts
+pub mod Finals

@@ -1,6 +1,7 @@
 //! Runs of a script: its segments bit by bit, and its routes turn by turn.
 #![tactic(auto)]
 
+mod closing;
 mod growing;
 mod inline;
 mod intake;
