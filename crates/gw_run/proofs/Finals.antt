@@ -1,10 +1,6 @@
 -- What stands after the last bit.
-use Rattle.std.proofs.Common.{◌≡◌, ◌≢◌, ℕ, ◌+◌, ◌<◌, ◌≤◌, ◌==◌, Option, Some, None, List, [], ◌∷◌, ◌++◌, length, map, slice_get, refl, sym, ap, subst, arith, ◌∙◌}
+use Rattle.std.proofs.Common.{◌≡◌, ℕ, ◌≤◌, List, length, slice_get, sym, ap, subst, arith, ◌∙◌}
 use Rattle.std.proofs.lemmas.Option.{slice_get_within}
-use Rattle.bx_core.specs.PlainMail.{core_of, sending}
-use Rattle.bx_core.specs.declared.plain_mail.PlainMail.{PlainMail}
-use Rattle.can_segment.specs.declared.plan.SegmentPlan.{SegmentPlan}
-use Rattle.can_segment.specs.Segments.{SegmentValue}
 use Rattle.can_segment.proofs.NextBits.{some_there}
 use Rattle.can_segment.proofs.Places.{same_some}
 use Rattle.gw_script.specs.Nodes.{controller_places, route_places, route_at}
@@ -14,7 +10,7 @@ use Rattle.gw_run.specs.declared.lane.Lane.{Lane}
 use Rattle.gw_run.specs.declared.lane.Place.{Place}
 use Rattle.gw_run.specs.declared.port.Port.{Port}
 use Rattle.gw_run.specs.declared.site.Site.{Site}
-use Rattle.gw_run.specs.Finals.{IsDonePort, IsDoneSite, AreDoneSites, IsDoneLane, IsOver}
+use Rattle.gw_run.specs.Finals.{IsDonePort, IsDoneSite, IsOver}
 use Rattle.gw_run.specs.Openings.{IsNewPort, IsNewSite, IsPlaceOf, IsLaneOf, IsNewLane, Opens}
 use Rattle.gw_run.specs.Plans.{IsPlanOf, aborts_of}
 use Rattle.gw_run.specs.Sites.{SiteHolds}

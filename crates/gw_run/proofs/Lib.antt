@@ -17,3 +17,5 @@ pub mod Openings
 pub mod Keeps
 pub mod Starts
 pub mod Finals
+pub mod RouteRuns
+pub mod Closes

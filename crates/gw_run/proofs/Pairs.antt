@@ -1,5 +1,5 @@
 -- Laws of two lists, place by place.
-use Rattle.std.proofs.Common.{◌≡◌, ℕ, zero, suc, ◌+◌, ◌⊎◌, inl, inr, Some, List, [], ◌∷◌, ◌++◌, length, slice_get, refl, sym, ap, subst, arith, ◌∙◌, length-append}
+use Rattle.std.proofs.Common.{◌≡◌, ℕ, zero, suc, ◌+◌, ◌⊎◌, inl, inr, Some, List, [], ◌∷◌, ◌++◌, length, slice_get, map, refl, sym, ap, ap₂, subst, arith, ◌∙◌, length-append}
 use Rattle.std.proofs.lemmas.Option.{slice_get_within}
 use Rattle.can_segment.proofs.NextBits.{some_there}
 use Rattle.can_segment.proofs.Places.{same_some}
@@ -55,3 +55,10 @@ pub each_at : {X : Type 0} (P : X → Type 0) (xs : List X) (k : ℕ) (x : X) �
 each_at P [] k x e all = absurd (cc e)
 each_at P (y ∷ xs) zero x e all = subst P (same_some y x e) all.0
 each_at P (y ∷ xs) (suc k) x e all = each_at P xs k x e all.1
+
+-- lists whose elements are equal in this, place by place
+pub pairs-map : {X Y Z : Type 0} (f : X → Z) (g : Y → Z) (xs : List X) (ys : List Y) → Pairs (λ k x y. g y ≡ f x) xs ys → map g ys ≡ map f xs
+pairs-map f g [] [] p = refl
+pairs-map f g [] (y ∷ ys) p = absurd (omega (arith, p.size))
+pairs-map f g (x ∷ xs) [] p = absurd (omega (arith, p.size))
+pairs-map f g (x ∷ xs) (y ∷ ys) p = ap₂ (λ z zs. z ∷ zs) (p.at 0 x y refl refl) (pairs-map f g xs ys (record { at = λ k a b e h. p.at (suc k) a b e h; size = omega (arith, p.size) }))
