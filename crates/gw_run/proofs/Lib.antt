@@ -19,3 +19,4 @@ pub mod Starts
 pub mod Finals
 pub mod RouteRuns
 pub mod Closes
+pub mod Reports

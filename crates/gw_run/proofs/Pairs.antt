@@ -62,3 +62,19 @@ pairs-map f g [] [] p = refl
 pairs-map f g [] (y ∷ ys) p = absurd (omega (arith, p.size))
 pairs-map f g (x ∷ xs) [] p = absurd (omega (arith, p.size))
 pairs-map f g (x ∷ xs) (y ∷ ys) p = ap₂ (λ z zs. z ∷ zs) (p.at 0 x y refl refl) (pairs-map f g xs ys (record { at = λ k a b e h. p.at (suc k) a b e h; size = omega (arith, p.size) }))
+
+-- both lists grow by one
+pub pairs_more : {X Y : Type 0} (R : ℕ → X → Y → Type 0) (xs : List X) (ys : List Y) (x : X) (y : Y) → R (length xs) x y → Pairs R xs ys → Pairs R (xs ++ x ∷ []) (ys ++ y ∷ [])
+pairs_more R xs ys x y here p = record {
+  at = λ k a b e f. elim (pushed xs x k a e) [
+    | inl front ↦ elim (pushed ys y k b f) [
+      | inl both ↦ p.at k a b front both
+      | inr last ↦ (let inside = slice_get_within xs k a front in absurd (omega (arith, inside, last.0, p.size)))
+    ]
+    | inr last ↦ elim (pushed ys y k b f) [
+      | inl front ↦ (let inside = slice_get_within ys k b front in absurd (omega (arith, inside, last.0, p.size)))
+      | inr both ↦ subst (λ n. R n a b) (sym last.0) (subst (λ v. R (length xs) v b) last.1 (subst (λ v. R (length xs) x v) both.1 here))
+    ]
+  ];
+  size = omega (arith, length-append xs (x ∷ []), length-append ys (y ∷ []), p.size);
+}

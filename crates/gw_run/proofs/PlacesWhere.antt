@@ -1,5 +1,5 @@
 -- Laws of the places of those elements of a list that pass a test.
-use Rattle.std.proofs.Common.{◌≡◌, ℕ, zero, suc, ◌+◌, Bool, true, false, cond, Some, List, [], ◌∷◌, length, take, count_by, slice_get, refl, sym, ap, arith, ◌∙◌}
+use Rattle.std.proofs.Common.{◌≡◌, ◌≤◌, ℕ, zero, suc, ◌+◌, Bool, true, false, cond, Some, List, [], ◌∷◌, length, take, count_by, slice_get, refl, sym, ap, arith, ◌∙◌}
 use Rattle.std.proofs.lemmas.List.Sums.{sum_by-cons}
 use Rattle.can_segment.proofs.Places.{same_some}
 use Rattle.gw_script.specs.Nodes.{places_where}
@@ -52,3 +52,20 @@ passes-step test first x xs k place false is more e = passes-on test first x xs 
 pub place-passes : {X : Type 0} (test : X → Bool) (first : ℕ) (xs : List X) (k place : ℕ) → slice_get (places_where test first xs) k ≡ Some place → PlacePasses test first xs place
 place-passes test first [] k place e = absurd (cc e)
 place-passes test first (x ∷ xs) k place e = passes-step test first x xs k place (test x) refl (λ j f. place-passes test (first + 1) xs j place f) e
+
+-- they go up
+at-least : {X : Type 0} (test : X → Bool) (first : ℕ) (xs : List X) (k place : ℕ) → slice_get (places_where test first xs) k ≡ Some place → first ≤ place
+at-least test first xs k place e = (let p = place-passes test first xs k place e in omega (arith, p.place_is))
+
+once-step : {X : Type 0} (test : X → Bool) (first : ℕ) (xs : List X) (i j place : ℕ) (b : Bool) → ((i j : ℕ) → slice_get (places_where test (first + 1) xs) i ≡ Some place → slice_get (places_where test (first + 1) xs) j ≡ Some place → i ≡ j) →
+    slice_get (cond b (first ∷ places_where test (first + 1) xs) (places_where test (first + 1) xs)) i ≡ Some place → slice_get (cond b (first ∷ places_where test (first + 1) xs) (places_where test (first + 1) xs)) j ≡ Some place → i ≡ j
+once-step test first xs zero zero place true more e f = refl
+once-step test first xs zero (suc j) place true more e f = (let later = at-least test (first + 1) xs j place f in let here = same_some first place e in absurd (omega (arith, later, here)))
+once-step test first xs (suc i) zero place true more e f = (let later = at-least test (first + 1) xs i place e in let here = same_some first place f in absurd (omega (arith, later, here)))
+once-step test first xs (suc i) (suc j) place true more e f = ap suc (more i j e f)
+once-step test first xs i j place false more e f = more i j e f
+
+-- so each stands among them once
+pub place-once : {X : Type 0} (test : X → Bool) (first : ℕ) (xs : List X) (place i j : ℕ) → slice_get (places_where test first xs) i ≡ Some place → slice_get (places_where test first xs) j ≡ Some place → i ≡ j
+place-once test first [] place i j e f = absurd (cc e)
+place-once test first (x ∷ xs) place i j e f = once-step test first xs i j place (test x) (λ k l p q. place-once test (first + 1) xs place k l p q) e f

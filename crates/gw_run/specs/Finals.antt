@@ -3,7 +3,12 @@ use Rattle.std.specs.Prelude.{◌≡◌, ℕ, ◌≤◌, Some, List, length, map
 use Rattle.bx_core.specs.PlainMail.{core_of}
 use Rattle.bx_core.specs.RouteTx.{no_route_past}
 use Rattle.bx_core.specs.Stands.{RouteStands}
+use Rattle.bx_core.specs.Law.{Law}
+use Rattle.bx_core.specs.Lists.{Each}
 use Rattle.can_segment.specs.declared.event.Event.{Event}
+use Rattle.can_segment.specs.declared.record.Record.{Record}
+use Rattle.can_segment.specs.Runs.{IsRun}
+use Rattle.can_segment.specs.Segments.{IsRecordOf}
 use Rattle.gw_route.specs.RouteHand.{hand_value}
 use Rattle.gw_script.specs.declared.route_report.RouteReport.{RouteReport}
 use Rattle.gw_script.specs.Controllers.{ControllerValue}
@@ -65,3 +70,9 @@ pub record EndsLane (sites : List Site) (lane : Lane) (r : RouteReport) : Type 0
   pub from_is : IsAt sites lane.source from
   pub takes : TakesFrom lane from
   pub end_is : IsEndOf r (core_of to.mail) lane.number takes.intake (hand_value lane.hand)
+
+-- the record of a segment, whose controllers keep the core law
+pub record IsRecordAt (site : Site) (record_of : Record) : Type 0 where
+  pub value : IsRecordOf site.segment record_of
+  pub run : IsRun site.segment.plan record_of
+  pub laws : Each (λ (port : Port). Law (core_of port.mail)) site.ports.items

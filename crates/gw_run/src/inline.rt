@@ -1,19 +1,85 @@
 //! Runs in one thread.
 
-ghost use Rattle.std.specs.Prelude.{◌≡◌, ◌<◌, ℕ, List, IfOk, IfErr, Some, slice_get};
+ghost use Rattle.std.specs.Prelude.{◌≡◌, ◌<◌, ℕ, List, IfOk, IfErr, OnOk, Some, slice_get};
 ghost use Rattle.bx_core.specs.Lists.{Each};
 ghost use Rattle.bx_core.specs.declared.entry.Entry.{Entry};
 ghost use Rattle.gw_script.specs.NamedPlaces.{Names};
 ghost use Rattle.gw_script.specs.SoundScripts.{IsSound};
 ghost use Rattle.gw_script.specs.declared.route_report.RouteReport.{RouteReport};
+ghost use Rattle.gw_run.specs.Finals.{AreDoneSites, IsOver, lines_at};
+ghost use Rattle.gw_run.specs.Openings.{AreNewSites, Opens};
+ghost use Rattle.gw_run.specs.Pairs.{Pairs};
 ghost use Rattle.gw_run.specs.Headline.{InOrder, NotRefilled, Balances};
-ghost use Rattle.gw_run.specs.Reports.{RunsSegments, RunsRoutes, AreStartsOf, lines_of};
-ghost use Rattle.gw_run.specs.declared.run_fault.RunFault.TheVariants.{Memory};
+ghost use Rattle.gw_run.specs.Reports.{IsRouteRun, RunsSegments, RunsRoutes, AreStartsOf, lines_of};
+ghost use Rattle.gw_run.specs.declared.run_fault.RunFault.TheVariants.{Memory as WantOfMemory};
 
+use crate::closing::{end_lanes, records_of};
+use crate::lane::Lane;
+use crate::opening::sites_of;
+use crate::route_start::lanes_of;
 use crate::run_fault::RunFault;
-use gw_script::{Report, Script};
+use crate::site::Site;
+use crate::world::make_all;
+use bx_rx::Memory;
+use gw_script::{Report, RouteReport, Script};
 use std::alloc::Global;
 use std::sync::Wait;
+
+/// All bits of these segments, and all turns of the routes between them.
+fn make_bits_and_turns<R: Wait>(
+    rt: &R,
+    script: &Script,
+    sites: &mut [Site],
+    lanes: &mut [Lane],
+    turn: u32,
+) -> Result<(), Memory>
+    requires sound { IsSound script.now }
+    requires turn { 0 < turn }
+    requires opens { Opens script.now sites.old lanes.old }
+    ensures { OnOk result (IsOver script.now sites.new lanes.new) }
+{
+    make_all(
+        rt,
+        sites,
+        lanes,
+        u64::from(script.bits()),
+        u64::from(turn),
+    )?;
+    Ok(())
+}
+
+/// The routes of a script are made, run their turns while these segments make their bits, and end.
+fn run_routes<R: Wait>(
+    rt: &R,
+    alloc: Global,
+    script: &Script,
+    sites: &mut [Site],
+    turn: u32,
+) -> Result<Vec<RouteReport>, Memory>
+    requires sound { IsSound script.now }
+    requires turn { 0 < turn }
+    requires sites { AreNewSites script.now sites.old }
+    ensures sites { OnOk result (AreDoneSites script.now sites.new) }
+    ensures routes { IfOk result (λ reports. Pairs (λ k route. IsRouteRun script.now (lines_at sites.new) k route)
+        script.now.routes reports.items) }
+{
+    let mut lanes = lanes_of(alloc, script, sites)?;
+    make_bits_and_turns(rt, script, sites, lanes.as_mut_slice(), turn)?;
+    end_lanes(rt, alloc, script, sites, lanes)
+}
+
+/// All bits and turns of a script, and the report.
+fn run<R: Wait>(rt: &R, alloc: Global, script: &Script, turn: u32) -> Result<Report, Memory>
+    requires sound { IsSound script.now }
+    requires turn { 0 < turn }
+    ensures segments { IfOk result (RunsSegments script.now) }
+    ensures routes { IfOk result (RunsRoutes script.now) }
+{
+    let mut sites = sites_of(alloc, script)?;
+    let routes = run_routes(rt, alloc, script, sites.as_mut_slice(), turn)?;
+    let segments = records_of(alloc, sites)?;
+    Ok(Report { segments, routes })
+}
 
 /// Runs a script in this thread: for each of its bits, each segment in the order of the script makes one
 /// bit; and where the number of bits made is a multiple of `turn`, each route in the order of the script
@@ -40,7 +106,10 @@ pub fn run_inline<R: Wait>(
     ensures segments { IfOk result (RunsSegments script.now) }
     ensures routes { IfOk result (RunsRoutes script.now) }
     ensures names { IfOk result (Names script.now) }
-    ensures err { IfErr result (λ fault. fault ≡ Memory) }
+    ensures err { IfErr result (λ fault. fault ≡ WantOfMemory) }
 {
-    Err(RunFault::Memory)
+    match run(rt, alloc, script, turn) {
+        Ok(report) => Ok(report),
+        Err(_) => Err(RunFault::Memory),
+    }
 }

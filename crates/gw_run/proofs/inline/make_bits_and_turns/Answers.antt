@@ -1,0 +1,18 @@
+use Rattle.std.proofs.Common.{sym, subst, ◌∙◌}
+use Rattle.gw_run.specs.Worlds.{HaveMade}
+use Rattle.gw_run.proofs.Starts.{world_starts, none_made}
+use Rattle.gw_run.proofs.Finals.{is_over}
+use Rattle.gw_run.proofs.inline.make_bits_and_turns.Goals as goal
+
+pub make_all-requires-clause-world : goal.make_all-requires-clause-world
+make_all-requires-clause-world g c = world_starts c.args.script.now c.args.sites.now c.args.lanes.now c.requires.sound c.requires.opens
+
+pub make_all-requires-clause-made : goal.make_all-requires-clause-made
+make_all-requires-clause-made g c =
+    subst (λ bits. HaveMade bits 0 c.args.sites.now) (sym (c.from.ensures ∙ c.bits.ensures)) (none_made c.args.script.now c.args.sites.now c.args.lanes.now c.requires.opens)
+
+pub returns : goal.returns
+returns g c =
+    let ends = c.in_ok-make_all.ensures in
+    let made = subst (λ bits. HaveMade bits bits c.make_all.new.sites) (c.from.ensures ∙ c.bits.ensures) ends.made in
+    is_over c.args.script.now c.args.sites.now c.make_all.new.sites c.args.lanes.now c.make_all.new.lanes c.requires.opens ends.keeps ends.lanes ends.world made
