@@ -77,6 +77,7 @@ holds_taken fifo old there i late w h = record {
     by_transmits : (k : ℕ) (sends : Option Item) (port : Port) → slice_get w.site.segment.sending k ≡ Some sends → PortWas (SetsSlot fifo None) w.site there i k port → sending (core_of port.mail) ≡ sends
     by_transmits k sends port e (same_port is) = h.fit.transmits k sends port e is
     by_transmits k sends port e (changed_port was is change here) = ap (λ (m : PlainMail). sending (core_of m)) change.mail_is ∙ h.fit.transmits k sends was e is
+
     by_port : (k : ℕ) (port : Port) → PortWas (SetsSlot fifo None) w.site there i k port → PortHolds (length w.site.segment.plan.talkers.items + k) w.site.segment port
     by_port k port (same_port is) = h.each k port is
     by_port k port (changed_port was is change here) = port_taken fifo (length w.site.segment.plan.talkers.items + k) w.site.segment was port change (h.each k was is)

@@ -20,3 +20,5 @@ pub mod Finals
 pub mod RouteRuns
 pub mod Closes
 pub mod Reports
+pub mod Labels
+pub mod Named

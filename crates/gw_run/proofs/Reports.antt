@@ -1,7 +1,6 @@
 -- From what stands after the last bit to what the report says.
-use Rattle.std.proofs.Common.{◌≡◌, ◌≢◌, ℕ, zero, suc, ◌+◌, ◌-◌, ◌<◌, ◌≤◌, ◌==◌, nat_lt, Bool, true, false, cond, Option, Some, None, List, [], ◌∷◌, ◌++◌, length, map, slice_get, refl, sym, ap, subst, arith, ◌∙◌}
+use Rattle.std.proofs.Common.{◌≡◌, ℕ, suc, ◌-◌, ◌≤◌, ◌==◌, nat_lt, Bool, true, false, cond, Some, None, List, [], ◌∷◌, length, map, slice_get, refl, sym, ap, subst, arith, ◌∙◌}
 use Rattle.std.proofs.lemmas.Bool.{ltb-false}
-use Rattle.std.proofs.lemmas.Option.{slice_get_within}
 use Rattle.bx_core.specs.declared.entry.Entry.{Entry}
 use Rattle.bx_core.specs.Lists.{Each}
 use Rattle.bx_core.specs.Stands.{entries_of}
@@ -20,7 +19,7 @@ use Rattle.gw_run.specs.declared.site.Site.{Site}
 use Rattle.gw_run.specs.Finals.{IsDoneSite, AreDoneSites, IsRecordAt, lines_at}
 use Rattle.gw_run.specs.Headline.{InOrder, NotRefilled, Balances}
 use Rattle.gw_run.specs.Pairs.{Pairs}
-use Rattle.gw_run.specs.Reports.{IsSegmentRun, RunsSegments, lines_of, AreToldOf, IsRouteRun, RunsRoutes, AreStartsOf}
+use Rattle.gw_run.specs.Reports.{IsSegmentRun, lines_of, AreToldOf, IsRouteRun, RunsRoutes, AreStartsOf}
 use Rattle.gw_run.proofs.Pairs.{pair_at, pairs-map}
 use Rattle.gw_run.proofs.PlacesWhere.{place-once}
 

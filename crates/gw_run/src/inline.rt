@@ -38,13 +38,7 @@ fn make_bits_and_turns<R: Wait>(
     requires opens { Opens script.now sites.old lanes.old }
     ensures { OnOk result (IsOver script.now sites.new lanes.new) }
 {
-    make_all(
-        rt,
-        sites,
-        lanes,
-        u64::from(script.bits()),
-        u64::from(turn),
-    )?;
+    make_all(rt, sites, lanes, u64::from(script.bits()), u64::from(turn))?;
     Ok(())
 }
 
@@ -74,6 +68,7 @@ fn run<R: Wait>(rt: &R, alloc: Global, script: &Script, turn: u32) -> Result<Rep
     requires turn { 0 < turn }
     ensures segments { IfOk result (RunsSegments script.now) }
     ensures routes { IfOk result (RunsRoutes script.now) }
+    ensures names { IfOk result (Names script.now) }
 {
     let mut sites = sites_of(alloc, script)?;
     let routes = run_routes(rt, alloc, script, sites.as_mut_slice(), turn)?;

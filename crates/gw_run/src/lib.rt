@@ -6,20 +6,18 @@ mod growing;
 mod inline;
 mod intake;
 mod lane;
-
+mod linked;
 mod opening;
 mod places;
 mod plan;
-mod linked;
 mod port;
 mod route_end;
 mod route_start;
 mod run_fault;
-
 mod settling;
 mod site;
 mod slots;
 mod world;
 
-pub use crate::run_fault::RunFault;
 pub use crate::inline::run_inline;
+pub use crate::run_fault::RunFault;

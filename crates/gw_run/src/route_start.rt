@@ -55,12 +55,7 @@ fn fifo_of(alloc: Global) -> Result<(Intake, RxOut), Memory>
 }
 
 /// A route that takes its frames from here.
-fn lane_of(
-    alloc: Global,
-    script: &Script,
-    route: usize,
-    out: RxOut,
-) -> Result<Lane, AllocError>
+fn lane_of(alloc: Global, script: &Script, route: usize, out: RxOut) -> Result<Lane, AllocError>
     requires sound { IsSound script.now }
     requires there { route < length script.now.routes }
     requires released { out.released ≡ [] }

@@ -23,12 +23,7 @@ fn exchange(port: &mut Port, fifo: u8, slot: Option<Intake>) -> Option<Intake>
 }
 
 /// The same at a place of a run.
-fn exchange_at(
-    sites: &mut [Site],
-    place: Place,
-    fifo: u8,
-    slot: Option<Intake>,
-) -> Option<Intake>
+fn exchange_at(sites: &mut [Site], place: Place, fifo: u8, slot: Option<Intake>) -> Option<Intake>
     requires { (port : Port) × IsAt sites.old place port }
     ensures sets { PortChanges (SetsSlot fifo slot) sites.old sites.new place }
     ensures was { (port : Port) → IsAt sites.old place port → result ≡ slot_of port fifo }

@@ -38,5 +38,5 @@ returns-clause-ends g c =
       from_is = leads.from_is;
       takes = leads.takes;
       end_is = subst (λ s. IsEndOf r s c.args.lane.number leads.takes.intake (hand_value c.args.lane.hand)) core
-      (subst (λ i. IsEndOf r c.core-core.result.now c.args.lane.number i (hand_value c.args.lane.hand)) intake ends);
+          (subst (λ i. IsEndOf r c.core-core.result.now c.args.lane.number i (hand_value c.args.lane.hand)) intake ends);
     }) c.report_of.ensures

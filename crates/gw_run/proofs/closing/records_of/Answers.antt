@@ -11,5 +11,5 @@ loop-site-preserved c =
     let here : IsRecordAt c.in-Some.site c.record_of.result = record { value = c.record_of.ensures.value; run = c.record_of.ensures.run; laws = c.record_of.ensures.laws } in (
       append_assoc l.yielded (c.in-Some.site ∷ []) (into_iter_items c.next.new.self) ∙ ap (λ rest. l.yielded ++ rest) (sym c.in-Some.ensures.steps.0) ∙ l.invariant.0,
       subst (Pairs (λ i. IsRecordAt) (l.yielded ++ c.in-Some.site ∷ [])) (sym c.in_ok-push_one.ensures)
-      (pairs_more (λ i. IsRecordAt) l.yielded l.records.items c.in-Some.site c.record_of.result here l.invariant.1),
+          (pairs_more (λ i. IsRecordAt) l.yielded l.records.items c.in-Some.site c.record_of.result here l.invariant.1),
     )

@@ -11,5 +11,5 @@ loop-bit-preserved g c = (
   c.in_ok-step.ensures.made,
   lanes_on c.args.lanes.now c.loop-bit.lanes c.step.new.lanes c.loop-bit.invariant.2 c.in_ok-step.ensures.lanes,
   sites-on c.args.lanes.now c.args.sites.now c.loop-bit.sites c.step.new.sites c.loop-bit.invariant.3
-  (sites_of_first c.args.lanes.now c.loop-bit.lanes c.loop-bit.sites c.step.new.sites c.loop-bit.invariant.2 c.in_ok-step.ensures.keeps),
+      (sites_of_first c.args.lanes.now c.loop-bit.lanes c.loop-bit.sites c.step.new.sites c.loop-bit.invariant.2 c.in_ok-step.ensures.keeps),
 )

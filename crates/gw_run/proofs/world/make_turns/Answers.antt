@@ -15,6 +15,6 @@ loop-place-preserved g c =
       segments_turn c.args.sites.now c.loop-place.sites c.turn_of.new.sites _ c.turn_of.new.lane c.turn_of.ensures c.loop-place.invariant.1,
       lanes_turn c.args.lanes.now c.loop-place.lanes c.loop-place.place _ c.turn_of.new.lane found c.turn_of.ensures.keeps c.loop-place.invariant.2,
       sites-on c.args.lanes.now c.args.sites.now c.loop-place.sites c.turn_of.new.sites c.loop-place.invariant.3
-      (sites_of_first c.args.lanes.now c.loop-place.lanes c.loop-place.sites c.turn_of.new.sites c.loop-place.invariant.2
-      (sites_turn c.loop-place.lanes c.loop-place.place _ c.turn_of.new.lane c.loop-place.sites c.turn_of.new.sites found c.turn_of.ensures)),
+          (sites_of_first c.args.lanes.now c.loop-place.lanes c.loop-place.sites c.turn_of.new.sites c.loop-place.invariant.2
+          (sites_turn c.loop-place.lanes c.loop-place.place _ c.turn_of.new.lane c.loop-place.sites c.turn_of.new.sites found c.turn_of.ensures)),
     )
