@@ -6,7 +6,6 @@ mod growing;
 mod inline;
 mod intake;
 mod lane;
-mod linked;
 mod opening;
 mod places;
 mod plan;
@@ -21,3 +20,6 @@ mod world;
 
 pub use crate::inline::run_inline;
 pub use crate::run_fault::RunFault;
+
+#[cfg(test)]
+mod tests;
