@@ -49,7 +49,7 @@ acted_on : (Rules : Act → Type 0) (on k : ℕ) (trace : List Bit) (level : Boo
     IsAct (past_of on k trace) level act → Rules act → Acted Rules on k trace level mid after (Some act)
 acted_on Rules on k trace level mid after late on_is d is_act rules = record {
   starts = refl;
-  rest = ap (λ s. told_outcome s after.deed.outcome ++ told_reaped after.deed.reaped) (sym d.sent_is);
+  rest = ap (λ ts. ts ++ told_reaped after.deed.reaped) d.told;
   drives_is = sym (ap (λ b. cond b (driven_by mid.station.node) true) (is_on_now mid.on (length trace) (omega (arith, late, on_is))));
   stands = d.stands;
   before = λ early. absurd (omega (arith, early, late));
@@ -96,7 +96,7 @@ controller_acts on k trace level old mid after h starts samples = elim (cases_lt
             (record { history = d.history; samples = refl; begins = t.begins })
             (record {
               labelled = t.labelled;
-              reaps = λ label is. let r = t.reaps label is in record { sent = r.sent; sends = sym t.sent_is ∙ r.sends; is_its_label = r.label_is; fails = r.fails };
+              reaps = λ label is. let r = t.reaps label is in record { sent = r.sent; sends = sym d.now_is ∙ sym (t.names label is) ∙ r.sends; is_its_label = r.label_is; fails = r.fails };
             }),
       )
 ]

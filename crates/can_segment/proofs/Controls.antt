@@ -4,20 +4,20 @@ use Rattle.can_node.specs.Node.{StandsAfter, bit_of}
 use Rattle.can_segment.specs.declared.event.Label.{Label}
 use Rattle.can_segment.specs.declared.sent.Sent.{Sent}
 use Rattle.can_segment.specs.declared.member.Member.{Member}
-use Rattle.can_segment.specs.Traces.{Bit, past_of, sending_now, sending_of}
+use Rattle.can_segment.specs.Traces.{Bit, past_of}
 use Rattle.can_segment.specs.Runs.{IsBegun}
 use Rattle.can_segment.specs.Ports.{Reaps}
 use Rattle.can_segment.specs.Stations.{IsRequest}
 use Rattle.can_segment.specs.Members.{StartsRequest, SamplesAndSettles}
 use Rattle.can_segment.specs.Kept.{begun_by, StandsBehind}
-use Rattle.can_segment.proofs.Deeds.{Done, done, begun_is}
+use Rattle.can_segment.proofs.Deeds.{Done, done, begun_is, named_start, named_reaping}
 
 -- a controller at a bit at which it is on
 pub record Controlled (on k : ℕ) (trace : List Bit) (level : Bool) (mid after : Member) : Type 0 where
   pub made : Done on k trace level mid after
   pub begins : (sent : Sent) → begun_by after.deed ≡ Some sent → IsBegun (past_of on k trace) sent
   pub labelled : (sent : Sent) → begun_by after.deed ≡ Some sent → IsSome sent.label
-  pub sent_is : after.deed.sent ≡ sending_now (sending_of k trace) (begun_by after.deed)
+  pub names : (label : Label) → after.deed.reaped ≡ Some label → after.deed.sent ≡ mid.station.sending
   pub reaps : (label : Label) → after.deed.reaped ≡ Some label → Reaps after.deed.sent after.deed.outcome label
 
 reaped_by : (reaped : Option Label) (P : Label → Type 0) → IfSome reaped P → (label : Label) → reaped ≡ Some label → P label
@@ -35,14 +35,14 @@ controlled_by on k trace level old mid after true h late mid_on after_on began r
     let t = request.begins refl in
     let start = t.2 in
     let sent : Sent = record { start = start.start; frame = t.0; label = Some t.1 } in
-    let begun : begun_by after.deed ≡ Some sent = begun_is after.deed true (Some sent) (s.began_is ∙ began) (s.sent_is ∙ start.sending_is) in
+    let begun : begun_by after.deed ≡ Some sent = begun_is after.deed true (Some sent) (s.began_is ∙ began) (named_start after.deed mid.station.sending s.names (s.began_is ∙ began) ∙ start.sending_is) in
     record {
       made = done on k trace level old mid after (Some sent) h late after_on (start.stands past h.stands) start.sending_is start.completed_is start.bit_is begun s;
       begins = λ other is.
           let same : sent ≡ other = some_same sent other (sym begun ∙ is) in
           subst (IsBegun past) same (record { wants = request.wants refl past h.stands; sends = start.sends past h.stands });
       labelled = λ other is. let same : sent ≡ other = some_same sent other (sym begun ∙ is) in subst (λ x. IsSome x.label) same refl;
-      sent_is = s.sent_is ∙ start.sending_is ∙ ap (sending_now (sending_of k trace)) (sym begun);
+      names = λ label. named_reaping after.deed mid.station.sending label s.names;
       reaps = reaped_by after.deed.reaped (Reaps after.deed.sent after.deed.outcome) (samples.reaps (omega (arith, mid_on, late)));
     }
   where
@@ -57,7 +57,7 @@ controlled_by on k trace level old mid after false h late mid_on after_on began 
       made = done on k trace level old mid after None h late after_on (subst (λ x. StandsAfter x.node past) (sym same) h.stands) (ap (λ x. x.sending) same) (ap (λ x. x.completed) same) (ap (λ x. bit_of x.node) same) begun s;
       begins = λ sent is. absurd (no_sent sent (sym begun ∙ is));
       labelled = λ sent is. absurd (no_sent sent (sym begun ∙ is));
-      sent_is = s.sent_is ∙ ap (λ x. x.sending) same ∙ h.sending_is ∙ ap (sending_now (sending_of k trace)) (sym begun);
+      names = λ label. named_reaping after.deed mid.station.sending label s.names;
       reaps = reaped_by after.deed.reaped (Reaps after.deed.sent after.deed.outcome) (samples.reaps (omega (arith, mid_on, late)));
     }
 

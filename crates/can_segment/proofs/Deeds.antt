@@ -1,15 +1,17 @@
 -- What one node does at a bit makes an act of it.
-use Rattle.std.proofs.Common.{◌≡◌, ℕ, ◌+◌, ◌<◌, ◌≤◌, Bool, Option, Some, None, List, [], ◌∷◌, ◌++◌, length, cond, sym, ap, subst, arith, ◌∙◌, length-append}
+use Rattle.std.proofs.Common.{◌≡◌, ℕ, ◌+◌, ◌<◌, ◌≤◌, Bool, true, inl, inr, Option, Some, None, List, [], ◌∷◌, ◌++◌, length, cond, sym, ap, subst, arith, ◌∙◌, length-append}
 use Rattle.std.proofs.lemmas.List.Sums.{fold-append}
 use Rattle.can_node.specs.declared.confinement.ErrorEvent.{ErrorEvent}
 use Rattle.can_node.specs.Histories.{no_past, IsHistory}
 use Rattle.can_node.specs.Node.{StandsAfter, bit_of, driven_by}
+use Rattle.can_segment.specs.declared.event.Label.{Label}
 use Rattle.can_segment.specs.declared.sent.Sent.{Sent}
 use Rattle.can_segment.specs.declared.member.Deed.{Deed}
 use Rattle.can_segment.specs.declared.member.Member.{Member}
 use Rattle.can_segment.specs.Traces.{Act, Bit, act_of, with_start, with_act, past_of, sending_now, sending_after, sending_behind, sending_of, completed_in, completed_of}
 use Rattle.can_segment.specs.Members.{SamplesOn}
-use Rattle.can_segment.specs.Kept.{begun_by, StandsBehind}
+use Rattle.can_segment.specs.Tells.{told_outcome}
+use Rattle.can_segment.specs.Kept.{begun_by, Names, StandsBehind}
 
 -- the lists of a node behind one more bit
 pub past_next : (on k : ℕ) (trace : List Bit) (bit : Bit) → past_of on k (trace ++ bit ∷ []) ≡ with_act (past_of on k trace) (act_of k bit)
@@ -32,10 +34,25 @@ stays_off on k trace bit member h early none_there = record {
   quiet = λ still. h.quiet (omega (arith, early));
 }
 
+-- what a node sent is named where a start or a reaping is told
+pub named_start : (deed : Deed) (sent : Option Sent) → Names deed sent → deed.began ≡ true → deed.sent ≡ sent
+named_start deed sent names began = elim names [ inl quiet ↦ absurd (cc (began, quiet.no_start)) | inr named ↦ named ]
+
+pub named_reaping : (deed : Deed) (sent : Option Sent) (label : Label) → Names deed sent → deed.reaped ≡ Some label → deed.sent ≡ sent
+named_reaping deed sent label names reaped = elim names [ inl quiet ↦ absurd (cc (reaped, quiet.no_reaping)) | inr named ↦ named ]
+
+-- and nothing is told of an outcome where it is not
+told_named : (deed : Deed) (sent : Option Sent) → Names deed sent → told_outcome sent deed.outcome ≡ told_outcome deed.sent deed.outcome
+told_named deed sent names = elim names [
+  | inl quiet ↦ ap (told_outcome sent) quiet.no_end ∙ sym (ap (told_outcome deed.sent) quiet.no_end)
+  | inr named ↦ ap (λ s. told_outcome s deed.outcome) (sym named)
+]
+
 -- what a node makes of a bit at which it is on: the start, and the sample
 pub record Done (on k : ℕ) (trace : List Bit) (level : Bool) (mid after : Member) : Type 0 where
   pub event : Option ErrorEvent
-  pub sent_is : after.deed.sent ≡ sending_now (sending_of k trace) (begun_by after.deed)
+  pub now_is : mid.station.sending ≡ sending_now (sending_of k trace) (begun_by after.deed)
+  pub told : told_outcome (sending_now (sending_of k trace) (begun_by after.deed)) after.deed.outcome ≡ told_outcome after.deed.sent after.deed.outcome
   pub history : IsHistory (with_act (past_of on k trace)
       (Some (record { begun = begun_by after.deed; driven = driven_by mid.station.node; sampled = level; event = event; outcome = after.deed.outcome; reaped = after.deed.reaped })))
   pub stands : (bit : Bit) →
@@ -51,14 +68,17 @@ done on k trace level old mid after begun h late on_is stands sending completed 
     let past = past_of on k trace in
     let act : Act = record { begun = begun_by after.deed; driven = driven_by mid.station.node; sampled = level; event = here.event; outcome = after.deed.outcome; reaped = after.deed.reaped } in
     let behind : StandsAfter after.station.node (with_act past (Some act)) = here.stands (with_start past (begun_by after.deed)) (subst (λ b. StandsAfter mid.station.node (with_start past b)) (sym begun_is) stands) in
+    let now : mid.station.sending ≡ sending_now (sending_of k trace) (begun_by after.deed) =
+    sending ∙ ap (λ x. sending_now x begun) h.sending_is ∙ ap (sending_now (sending_of k trace)) (sym begun_is) in
     record {
       event = here.event;
-      sent_is = s.sent_is ∙ sending ∙ ap (λ x. sending_now x begun) h.sending_is ∙ ap (sending_now (sending_of k trace)) (sym begun_is);
+      now_is = now;
+      told = ap (λ x. told_outcome x after.deed.outcome) (sym now) ∙ told_named after.deed mid.station.sending s.names;
       history = s.history _ behind;
       stands = λ bit is. record {
         on_is = on_is;
         stands = subst (StandsAfter after.station.node) (sym (past_next on k trace bit ∙ ap (with_act past) is)) behind;
-        sending_is = s.sending_is ∙ ap (λ x. sending_after x after.deed.outcome) (sending ∙ ap (λ x. sending_now x begun) h.sending_is ∙ ap (sending_now (sending_of k trace)) (sym begun_is))
+        sending_is = s.sending_is ∙ ap (λ x. sending_after x after.deed.outcome) now
             ∙ sym (sending_next k trace bit ∙ ap (sending_behind (sending_of k trace)) is);
         completed_is = omega (arith, s.completed_is, completed, h.completed_is, completed_next k trace bit, ap completed_in is);
         bit_is = omega (arith, s.bit_is, bit_same, h.bit_is, late, length-append trace (bit ∷ []));

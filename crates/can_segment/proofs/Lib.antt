@@ -13,3 +13,5 @@ pub mod Brought
 pub mod Shown
 pub mod Fresh
 pub mod Calm
+pub mod Quiet
+pub mod Settles

@@ -4,6 +4,7 @@ use Rattle.std.proofs.lemmas.Bool.Decides.{leb_tells}
 use Rattle.can_frame.specs.Frames.{FrameValue}
 use Rattle.bx_core.specs.TxBus.{Item, BusPast}
 use Rattle.can_node.specs.Node.{bit_of}
+use Rattle.can_segment.specs.declared.member.Deed.{Deed}
 use Rattle.can_segment.specs.declared.member.Member.{Member}
 use Rattle.can_segment.specs.declared.sent.Sent.{Sent}
 use Rattle.can_segment.specs.declared.station.Station.{Station}
@@ -11,7 +12,8 @@ use Rattle.can_segment.specs.Ports.{item_of, started, started_item}
 use Rattle.can_segment.specs.Stations.{IsTalk, IsRequest}
 use Rattle.can_segment.specs.Members.{StartsTalking, StartsRequest, PortStarts, PortSettles, is_on, settled_at, taken_at}
 use Rattle.can_segment.specs.Moves.{PortMoves}
-use Rattle.can_segment.specs.Kept.{begun_by}
+use Rattle.can_segment.specs.Kept.{begun_by, Names}
+use Rattle.can_segment.proofs.Deeds.{named_start}
 
 -- a start changes neither the bit nor what was completed
 pub record Same (old new : Station) : Type 0 where
@@ -42,15 +44,15 @@ controller_clock bit limit old new s clock on =
     let c = clock late in
     (omega (arith, c.0, same.bit_is), omega (arith, c.1, same.completed_is))
 
-by_began : (began : Bool) (sent : Option Sent) → started_item began sent ≡ item_of (cond began sent None)
-by_began true sent = refl
-by_began false sent = refl
+by_began : (began : Bool) (deed : Deed) (sent : Option Sent) → deed.began ≡ began → Names deed sent → started_item began sent ≡ item_of (begun_by deed)
+by_began true deed sent is names = ap item_of (sym (named_start deed sent names is)) ∙ ap (λ b. item_of (cond b deed.sent None)) (sym is)
+by_began false deed sent is names = ap (λ b. item_of (cond b deed.sent None)) (sym is)
 
-started_by : (on : Bool) (mid after : Member) → (on ≡ true → (after.deed.began ≡ mid.deed.began) × (after.deed.sent ≡ mid.station.sending)) →
+started_by : (on : Bool) (mid after : Member) → (on ≡ true → (after.deed.began ≡ mid.deed.began) × Names after.deed mid.station.sending) →
     started_item (on && mid.deed.began) mid.station.sending ≡ item_of (cond on (begun_by after.deed) None)
 started_by true mid after h =
     let same = h refl in
-    by_began mid.deed.began mid.station.sending ∙ ap (λ b. item_of (cond b mid.station.sending None)) (sym same.0) ∙ ap (λ s. item_of (cond after.deed.began s None)) (sym same.1)
+    by_began mid.deed.began after.deed mid.station.sending same.0 same.1
 started_by false mid after h = refl
 
 on_by : (on bit : ℕ) → nat_le on bit ≡ true → on ≤ bit
@@ -62,7 +64,7 @@ pub port_moves : {P : Type 0} (after : P → BusPast → Type 0) (transmitting :
 port_moves after transmitting sink bus_stays stays bit level old mid new from between to of_bus stays_on sink_stays starts settles =
     let same_on : is_on bit mid ≡ is_on bit new = ap (λ n. nat_le n bit) (sym settles.member.on_is) in
     let item : started_item (is_on bit mid && mid.deed.began) mid.station.sending ≡ item_of (cond (is_on bit new) (begun_by new.deed) None) =
-    started_by (is_on bit mid) mid new (λ on. let s = settles.member.samples (on_by mid.on bit on) in (s.began_is, s.sent_is)) ∙ ap (λ b. item_of (cond b (begun_by new.deed) None)) same_on in
+    started_by (is_on bit mid) mid new (λ on. let s = settles.member.samples (on_by mid.on bit on) in (s.began_is, s.names)) ∙ ap (λ b. item_of (cond b (begun_by new.deed) None)) same_on in
     record {
       bus = λ past h.
           subst (λ b. after to (settled_at b (started past (item_of (cond (is_on bit new) (begun_by new.deed) None))) new.deed)) same_on

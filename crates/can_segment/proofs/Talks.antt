@@ -9,7 +9,7 @@ use Rattle.can_segment.specs.Runs.{IsBegun}
 use Rattle.can_segment.specs.Stations.{IsTalk}
 use Rattle.can_segment.specs.Members.{StartsTalking, Samples}
 use Rattle.can_segment.specs.Kept.{begun_by, StandsBehind}
-use Rattle.can_segment.proofs.Deeds.{Done, done, begun_is}
+use Rattle.can_segment.proofs.Deeds.{Done, done, begun_is, named_start}
 
 -- a talker at a bit at which it is on
 pub record Talked (on k : ℕ) (trace : List Bit) (frames : List FrameValue) (level : Bool) (mid after : Member) : Type 0 where
@@ -43,7 +43,7 @@ talked_by on k trace frames level old mid after true h late mid_on after_on bega
     let t = talk.begins refl in
     let start = t.2 in
     let sent : Sent = record { start = start.start; frame = t.0; label = None } in
-    let begun : begun_by after.deed ≡ Some sent = begun_is after.deed true (Some sent) (s.began_is ∙ began) (s.sent_is ∙ start.sending_is) in
+    let begun : begun_by after.deed ≡ Some sent = begun_is after.deed true (Some sent) (s.began_is ∙ began) (named_start after.deed mid.station.sending s.names (s.began_is ∙ began) ∙ start.sending_is) in
     let w = talk.wants past h.stands in
     record {
       made = done on k trace level old mid after (Some sent) h late after_on (start.stands past h.stands) start.sending_is start.completed_is start.bit_is begun s;

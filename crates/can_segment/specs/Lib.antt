@@ -4,8 +4,8 @@ pub mod Tells
 pub mod Runs
 pub mod Stations
 pub mod Ports
-pub mod Members
 pub mod Kept
+pub mod Members
 pub mod Places
 pub mod Tellings
 pub mod Moves

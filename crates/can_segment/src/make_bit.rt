@@ -1,6 +1,6 @@
 //! One bit of a segment.
 
-ghost use Rattle.std.specs.Prelude.{◌≡◌, true, ◌+◌, ◌*◌, ◌<◌, ◌≤◌, ◌++◌, ◌∷◌, [], ℕ, Bool, Some, length, slice_get, vec_len, vec_capacity};
+ghost use Rattle.std.specs.Prelude.{◌≡◌, true, false, ◌+◌, ◌*◌, ◌<◌, ◌≤◌, ◌++◌, ◌∷◌, [], ℕ, Bool, Some, length, slice_get, vec_len, vec_capacity};
 ghost use Rattle.can_segment.specs.Faults.{IsCalm};
 ghost use Rattle.can_segment.specs.Ports.{item_of};
 ghost use Rattle.can_segment.specs.Moves.{PortMoves};
@@ -10,7 +10,7 @@ ghost use Rattle.can_segment.specs.declared.member.Member.{Member};
 
 use crate::event::Event;
 use crate::member::Member;
-use crate::members::move_nodes;
+use crate::members::{Moved, move_nodes};
 use crate::plan::SegmentPlan;
 use crate::rx_sink::RxSink;
 use crate::tell::{tell_rests, tell_starts};
@@ -21,6 +21,24 @@ fn keep(levels: &mut Vec<bool>, level: bool)
     ensures { levels.new.items ≡ levels.old.items ++ level ∷ [] }
 {
     let _ = levels.push(level);
+}
+
+/// The lines of a bit: what starts, and then the rest, each in the order of nodes. At most bits it is known that
+/// nothing is told.
+fn tell(events: &mut Vec<Event>, bit: u64, talkers: &[Member], controllers: &[Member], told: bool)
+    requires quiet { told ≡ false → bit_lines bit talkers.now controllers.now ≡ [] }
+    requires few { length talkers.now + length controllers.now ≤ 1000 }
+    requires room { vec_len events.old + 3 * (length talkers.now + length controllers.now) ≤ vec_capacity events.old }
+    ensures { events.new.items ≡ events.old.items ++ bit_lines bit talkers.now controllers.now }
+{
+    if !told {
+        return;
+    }
+    let first = talkers.len() as u32;
+    tell_starts(events, bit, 0, talkers);
+    tell_starts(events, bit, first, controllers);
+    tell_rests(events, bit, 0, talkers);
+    tell_rests(events, bit, first, controllers);
 }
 
 /// The nodes make one more bit, and the record grows by its level and its lines.
@@ -54,11 +72,7 @@ pub(crate) fn make_bit<R, P: RxSink<R>>(
     ensures size { length ports.new ≡ length ports.old }
 {
     let bit = levels.len() as u64;
-    let level = move_nodes(rt, plan, talkers, controllers, ports, bit, calm);
-    let first = talkers.len() as u32;
-    tell_starts(events, bit, 0, talkers);
-    tell_starts(events, bit, first, controllers);
-    tell_rests(events, bit, 0, talkers);
-    tell_rests(events, bit, first, controllers);
+    let Moved { level, told } = move_nodes(rt, plan, talkers, controllers, ports, bit, calm);
+    tell(events, bit, talkers, controllers, told);
     keep(levels, level);
 }

@@ -1,8 +1,8 @@
 //! A node of a segment, with what it sends.
 
 ghost use Rattle.std.specs.Prelude.{◌≡◌, ℕ, ◌+◌, ◌<◌, Bool, true, Option, Some, None, IsSome, IfSome, IfNone};
-ghost use Rattle.can_node.specs.Histories.{Past, no_past, IsHistory};
-ghost use Rattle.can_node.specs.Node.{StandsAfter, IsSample, IsSending, bit_of, may_begin, sends_from};
+ghost use Rattle.can_node.specs.Histories.{Past, no_past};
+ghost use Rattle.can_node.specs.Node.{StandsAfter, IsSending, bit_of, may_begin, sends_from};
 ghost use Rattle.bx_core.specs.TxBus.{BusPast};
 ghost use Rattle.can_segment.specs.Ports.{item_of, started, started_item};
 ghost use Rattle.can_segment.specs.Stations.{IsStart, IsTalk, IsRequest};
@@ -103,24 +103,19 @@ impl Station {
         true
     }
 
-    /// The node samples this level.
-    pub(crate) fn sample(&mut self, level: bool) -> Outcome
-        requires bit { bit_of self.old.node < u64.MAX }
-        requires room { self.old.completed < u64.MAX }
-        ensures bit { bit_of self.new.node ≡ bit_of self.old.node + 1 }
-        ensures stands { IsSample self.old.node level result self.new.node }
-        ensures history { (past : Past) → StandsAfter self.new.node past → IsHistory past }
-        ensures sending { self.new.sending ≡ sending_after self.old.sending result }
-        ensures completed { self.new.completed ≡ self.old.completed + completed_by result }
+    /// What it sends may be over, or sent, with an outcome of its node.
+    pub(crate) fn conclude(&mut self, outcome: &Outcome)
+        requires { self.old.completed < u64.MAX }
+        ensures node { self.new.node ≡ self.old.node }
+        ensures sending { self.new.sending ≡ sending_after self.old.sending outcome.now }
+        ensures completed { self.new.completed ≡ self.old.completed + completed_by outcome.now }
     {
-        let outcome = self.node.sample(level);
-        if ends_sending(&outcome) {
+        if ends_sending(outcome) {
             self.sending = None;
         }
-        if outcome == Outcome::Completed {
+        if *outcome == Outcome::Completed {
             self.completed += 1;
         }
-        outcome
     }
 }
 

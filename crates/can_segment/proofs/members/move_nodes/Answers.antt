@@ -1,4 +1,4 @@
-use Rattle.std.proofs.Common.{◌+◌, length, ap, subst, ◌∙◌, arith}
+use Rattle.std.proofs.Common.{◌≡◌, ◌+◌, length, ap, subst, ◌∙◌, arith}
 use Rattle.std.proofs.lemmas.Option.{slice_get_within}
 use Rattle.can_segment.specs.Faults.{line_level, sampled_level}
 use Rattle.can_segment.specs.Members.{Samples, SamplesAndSettles}
@@ -6,24 +6,24 @@ use Rattle.can_segment.proofs.NextBits.{some_there}
 use Rattle.can_segment.proofs.Moves.{talker_clock, controller_clock, port_moves}
 use Rattle.can_segment.proofs.members.move_nodes.Goals as goal
 
-pub sample_talkers-requires-clause-clocks : goal.sample_talkers-requires-clause-clocks
-sample_talkers-requires-clause-clocks g c k m e on =
+pub sample_nodes-talkers_told-requires-clause-clocks : goal.sample_nodes-talkers_told-requires-clause-clocks
+sample_nodes-talkers_told-requires-clause-clocks g c k m e on =
     let starts = c.start_talkers.ensures in
     let within = slice_get_within c.start_talkers.new.members k m e in
     let old = some_there c.args.talkers.now k (omega (arith, within, starts.size)) in
     let talker = some_there c.args.plan.now.talkers.items k (omega (arith, within, starts.size, c.requires.talkers)) in
     (talker_clock c.args.bit _ old.0 m talker.0.frames.items (starts.at k old.0 m old.1 e talker.0 (rw c.as_slice.ensures.value talker.1)) (c.requires.talker_clocks k old.0 old.1) on).0
 
-pub sample_talkers-requires-clause-room : goal.sample_talkers-requires-clause-room
-sample_talkers-requires-clause-room g c k m e on =
+pub sample_nodes-talkers_told-requires-clause-room : goal.sample_nodes-talkers_told-requires-clause-room
+sample_nodes-talkers_told-requires-clause-room g c k m e on =
     let starts = c.start_talkers.ensures in
     let within = slice_get_within c.start_talkers.new.members k m e in
     let old = some_there c.args.talkers.now k (omega (arith, within, starts.size)) in
     let talker = some_there c.args.plan.now.talkers.items k (omega (arith, within, starts.size, c.requires.talkers)) in
     (talker_clock c.args.bit _ old.0 m talker.0.frames.items (starts.at k old.0 m old.1 e talker.0 (rw c.as_slice.ensures.value talker.1)) (c.requires.talker_clocks k old.0 old.1) on).1
 
-pub sample_controllers-requires-clause-clocks : goal.sample_controllers-requires-clause-clocks
-sample_controllers-requires-clause-clocks g c k m e on =
+pub sample_controllers-controllers_told-requires-clause-clocks : goal.sample_controllers-controllers_told-requires-clause-clocks
+sample_controllers-controllers_told-requires-clause-clocks g c k m e on =
     let starts = c.start_controllers.ensures in
     let within = slice_get_within c.start_controllers.new.members k m e in
     let old = some_there c.args.controllers.now k (omega (arith, within, starts.size)) in
@@ -31,8 +31,8 @@ sample_controllers-requires-clause-clocks g c k m e on =
     let to = some_there c.start_controllers.new.ports k (omega (arith, within, starts.size, starts.size_too, c.requires.ports)) in
     (controller_clock c.args.bit _ old.0 m (starts.at k old.0 m from.0 to.0 old.1 e from.1 to.1).member (c.requires.clocks k old.0 old.1) on).0
 
-pub sample_controllers-requires-clause-room : goal.sample_controllers-requires-clause-room
-sample_controllers-requires-clause-room g c k m e on =
+pub sample_controllers-controllers_told-requires-clause-room : goal.sample_controllers-controllers_told-requires-clause-room
+sample_controllers-controllers_told-requires-clause-room g c k m e on =
     let starts = c.start_controllers.ensures in
     let within = slice_get_within c.start_controllers.new.members k m e in
     let old = some_there c.args.controllers.now k (omega (arith, within, starts.size)) in
@@ -40,8 +40,8 @@ sample_controllers-requires-clause-room g c k m e on =
     let to = some_there c.start_controllers.new.ports k (omega (arith, within, starts.size, starts.size_too, c.requires.ports)) in
     (controller_clock c.args.bit _ old.0 m (starts.at k old.0 m from.0 to.0 old.1 e from.1 to.1).member (c.requires.clocks k old.0 old.1) on).1
 
-pub sample_controllers-requires-clause-port : goal.sample_controllers-requires-clause-port
-sample_controllers-requires-clause-port g c k m p e f =
+pub sample_controllers-controllers_told-requires-clause-port : goal.sample_controllers-controllers_told-requires-clause-port
+sample_controllers-controllers_told-requires-clause-port g c k m p e f =
     let starts = c.start_controllers.ensures in
     let within = slice_get_within c.start_controllers.new.members k m e in
     let old = some_there c.args.controllers.now k (omega (arith, within, starts.size)) in
@@ -51,14 +51,18 @@ sample_controllers-requires-clause-port g c k m p e f =
 pub returns-clause-nodes : goal.returns-clause-nodes
 returns-clause-nodes g c =
     let starts = c.start_controllers.ensures in
-    let settles = c.sample_controllers.ensures in
+    let settles = c.sample_controllers-controllers_told.ensures.settles in
     record {
       t1 = c.start_talkers.new.members;
       c1 = c.start_controllers.new.members;
       starts = rw c.as_slice.ensures.value at c.start_talkers.ensures;
       samples = record {
-        at = λ k a b e f. subst (λ l. Samples c.args.bit l a b) (c.node_faults_at-faults.ensures k c.level_at-level.result) (c.sample_talkers.ensures.at k a b e f);
-        size = c.sample_talkers.ensures.size;
+        at = λ k a b e f.
+            let here : 0 + k ≡ k = omega arith in
+            let own : sampled_level c.node_faults_at-faults.result.now (0 + k) c.args.bit c.level_at-level.result ≡ sampled_level c.args.plan.now.node_faults.items k c.args.bit c.level_at-level.result =
+            ap (λ n. sampled_level c.node_faults_at-faults.result.now n c.args.bit c.level_at-level.result) here ∙ c.node_faults_at-faults.ensures k c.level_at-level.result in
+            subst (λ l. Samples c.args.bit l a b) own (c.sample_nodes-talkers_told.ensures.samples.at k a b e f);
+        size = c.sample_nodes-talkers_told.ensures.samples.size;
       };
       controls = record {
         starts = λ k a b ea eb.
@@ -69,7 +73,7 @@ returns-clause-nodes g c =
         settles = λ k a b ea eb.
             let within = slice_get_within c.start_controllers.new.members k a ea in
             let from = some_there c.start_controllers.new.ports k (omega (arith, within, starts.size, starts.size_too, c.requires.ports)) in
-            let to = some_there c.sample_controllers.new.ports k (omega (arith, within, starts.size, starts.size_too, settles.size_too, c.requires.ports)) in
+            let to = some_there c.sample_controllers-controllers_told.new.ports k (omega (arith, within, starts.size, starts.size_too, settles.size_too, c.requires.ports)) in
             subst (λ n. SamplesAndSettles c.args.bit (sampled_level c.args.plan.now.node_faults.items (n + k) c.args.bit c.level_at-level.result) a b) c.requires.talkers
             (subst (λ l. SamplesAndSettles c.args.bit l a b) (c.node_faults_at-faults.ensures (length c.args.talkers.now + k) c.level_at-level.result) (settles.at k a b from.0 to.0 ea eb from.1 to.1).member);
         mid_size = starts.size;
@@ -81,8 +85,8 @@ returns-clause-nodes g c =
 pub returns-clause-port : goal.returns-clause-port
 returns-clause-port g c k m p q e f h =
     let starts = c.start_controllers.ensures in
-    let settles = c.sample_controllers.ensures in
-    let within = slice_get_within c.sample_controllers.new.members k m e in
+    let settles = c.sample_controllers-controllers_told.ensures.settles in
+    let within = slice_get_within c.sample_controllers-controllers_told.new.members k m e in
     let old = some_there c.args.controllers.now k (omega (arith, within, starts.size, settles.size)) in
     let mid = some_there c.start_controllers.new.members k (omega (arith, within, settles.size)) in
     let between = some_there c.start_controllers.new.ports k (omega (arith, within, starts.size, settles.size, starts.size_too, c.requires.ports)) in

@@ -1,29 +1,36 @@
 use Rattle.std.proofs.Common.{◌+◌, arith}
-use Rattle.std.proofs.lemmas.Option.{slice_get-get_or}
+use Rattle.std.proofs.lemmas.Option.{slice_get_within}
 use Rattle.can_segment.specs.Faults.{sampled_level}
-use Rattle.can_segment.proofs.Places.{both_step, both_end}
-use Rattle.can_segment.specs.Members.{PortSettles}
+use Rattle.can_segment.proofs.NextBits.{some_there}
+use Rattle.can_segment.proofs.Settles.{unsettled, port_settles, quiet_settled}
 use Rattle.can_segment.proofs.members.sample_controllers.Goals as goal
 
-pub loop-place-preserved : goal.loop-place-preserved
-loop-place-preserved g c =
-    let members = c.loop-place.members in
-    let ports = c.loop-place.ports in
-    let place = c.loop-place.place in
-    both_step (λ k. PortSettles g.P.TxBus.bus_after g.P.TxBus.transmitting g.P.RxSink.sink_after g.P.RxSink.port_stays c.args.bit (sampled_level c.args.faults.now (c.args.first + k) c.args.bit c.args.level))
-    c.args.members.now members c.args.ports.now ports place _ c.sample_and_settle.new.self _ c.sample_and_settle.new.port
-    (omega (arith, c.loop-place-test.true, c.loop-place.invariant.size)) c.requires.size
-    (slice_get-get_or members place c.index-members-place.result (omega (arith, c.loop-place-test.true)))
-    (slice_get-get_or ports place c.index-ports-place.result (omega (arith, c.loop-place-test.true, c.loop-place.invariant.size, c.loop-place.invariant.size_too, c.requires.size)))
-    (record {
-      member = rw c.sampled_level-own.ensures at c.sample_and_settle.ensures.member;
-      bus = c.sample_and_settle.ensures.bus;
-      transmits = c.sample_and_settle.ensures.transmits;
-      offers = c.sample_and_settle.ensures.sink;
-      stays_on = c.sample_and_settle.ensures.stays;
-    }) c.loop-place.invariant
+pub settle_ports-requires-clause-unsettled : goal.settle_ports-requires-clause-unsettled
+settle_ports-requires-clause-unsettled g c k m p e f =
+    let samples = c.sample_nodes-told.ensures.samples in
+    let within = slice_get_within c.sample_nodes-told.new.members k m e in
+    let old = some_there c.args.members.now k (omega (arith, within, samples.size)) in
+    unsettled (g.P.TxBus.transmitting p) c.args.bit (sampled_level c.args.faults.now (c.args.first + k) c.args.bit c.args.level) old.0 m (c.requires.port k old.0 p old.1 f) (samples.at k old.0 m old.1 e)
 
-pub returns : goal.returns
-returns g c = both_end (λ k. PortSettles g.P.TxBus.bus_after g.P.TxBus.transmitting g.P.RxSink.sink_after g.P.RxSink.port_stays c.args.bit (sampled_level c.args.faults.now (c.args.first + k) c.args.bit c.args.level))
-    c.args.members.now c.loop-place.members c.args.ports.now c.loop-place.ports c.loop-place.place
-    (omega (arith, c.loop-place-test.false, c.loop-place.invariant.size)) c.loop-place.invariant
+pub returns-clause-settles : goal.returns-clause-settles
+returns-clause-settles g c =
+    let samples = c.sample_nodes-told.ensures.samples in
+    let settles = c.settle_ports.ensures in
+    record {
+      at = λ k a b p q ea eb ep eq.
+          let within = slice_get_within c.args.members.now k a ea in
+          let mid = some_there c.sample_nodes-told.new.members k (omega (arith, within, samples.size)) in
+          port_settles g.P.TxBus.bus_after g.P.TxBus.transmitting g.P.RxSink.sink_after g.P.RxSink.port_stays c.args.bit (sampled_level c.args.faults.now (c.args.first + k) c.args.bit c.args.level) a mid.0 b p q
+          (samples.at k a mid.0 ea mid.1) (settles.at k mid.0 b p q mid.1 eb ep eq);
+      size = omega (arith, samples.size, settles.size);
+      size_too = settles.size_too;
+    }
+
+pub returns-clause-quiet : goal.returns-clause-quiet
+returns-clause-quiet g c none k m e =
+    let settles = c.settle_ports.ensures in
+    let within = slice_get_within c.settle_ports.new.members k m e in
+    let mid = some_there c.sample_nodes-told.new.members k (omega (arith, within, settles.size)) in
+    let from = some_there c.args.ports.now k (omega (arith, within, settles.size, c.sample_nodes-told.ensures.samples.size, c.requires.size)) in
+    let to = some_there c.settle_ports.new.ports k (omega (arith, within, settles.size, settles.size_too, c.sample_nodes-told.ensures.samples.size, c.requires.size)) in
+    quiet_settled c.args.bit mid.0 m (settles.at k mid.0 m from.0 to.0 mid.1 e from.1 to.1).member (c.sample_nodes-told.ensures.quiet none k mid.0 mid.1)

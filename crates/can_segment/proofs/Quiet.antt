@@ -1,0 +1,71 @@
+-- Nothing is told of quiet nodes.
+use Rattle.std.proofs.Common.{◌≡◌, ◌≢◌, ℕ, zero, suc, ◌+◌, ◌<◌, ◌≤◌, Bool, cond, inl, inr, None, Some, List, [], ◌∷◌, ◌++◌, length, slice_get, set, refl, sym, ap, subst, arith, ◌∙◌}
+use Rattle.std.proofs.lemmas.Bool.{cases_lt}
+use Rattle.std.proofs.lemmas.Option.{slice_get_within}
+use Rattle.can_segment.specs.declared.event.Event.{Event}
+use Rattle.can_segment.specs.declared.event.Told.{Told}
+use Rattle.can_segment.specs.declared.member.Deed.{Deed}
+use Rattle.can_segment.specs.declared.member.Member.{Member}
+use Rattle.can_segment.specs.declared.plan.SegmentPlan.{SegmentPlan}
+use Rattle.can_segment.specs.Tells.{lines, told_start, told_outcome, told_reaped}
+use Rattle.can_segment.specs.Traces.{Bit}
+use Rattle.can_segment.specs.Kept.{no_deed, StandsBehind, IsQuiet, AreQuiet, QuietBelow, SegmentKept}
+use Rattle.can_segment.specs.Tellings.{start_of, rest_by, told_by, bit_lines}
+use Rattle.can_segment.proofs.Keeps.{run_length}
+use Rattle.can_segment.proofs.NextBits.{some_there}
+use Rattle.can_segment.proofs.Places.{same_some, get_set_same, get_set_other}
+
+-- one node more, of which nothing is told
+pub quiet_step : (bit : ℕ) (members : List Member) (i : ℕ) (m : Member) → i < length members → (m.on ≤ bit → IsQuiet m.deed) → QuietBelow bit members i → QuietBelow bit (set members i m) (i + 1)
+quiet_step bit members i m room here below k x h e on = elim (cases_lt k i) [
+  | inl less ↦ (let ne : k ≢ i = omega arith in below k x less (sym (get_set_other members i k m ne) ∙ e) on)
+  | inr more ↦ (let is : k ≡ i = omega arith in
+      let same : m ≡ x = same_some m x (sym (get_set_same members i m room) ∙ ap (slice_get (set members i m)) (sym is) ∙ e) in
+      subst (λ y. IsQuiet y.deed) same (here (subst (λ y. y.on ≤ bit) (sym same) on)))
+]
+
+pub quiet_end : (bit : ℕ) (members : List Member) (i : ℕ) → length members ≤ i → QuietBelow bit members i → AreQuiet bit members
+quiet_end bit members i all below k x e on = below k x (let within = slice_get_within members k x e in omega (arith, within, all)) e on
+
+told_nothing : (tells : Deed → List Told) (bit node : ℕ) (members : List Member) → ((k : ℕ) (m : Member) → slice_get members k ≡ Some m → tells m.deed ≡ []) → told_by tells bit node members ≡ []
+unfolding told_by
+told_nothing tells bit node [] h = refl
+told_nothing tells bit node (m ∷ members) h =
+    ap (λ ts. lines bit node ts ++ told_by tells bit (node + 1) members) (h zero m refl) ∙ told_nothing tells bit (node + 1) members (λ k x e. h (suc k) x e)
+
+quiet_starts : (deed : Deed) → IsQuiet deed → start_of deed ≡ []
+quiet_starts deed quiet = ap (λ b. told_start (cond b deed.sent None)) quiet.no_start
+
+quiet_rests : (deed : Deed) → IsQuiet deed → rest_by deed ≡ []
+quiet_rests deed quiet = ap (λ o. told_outcome deed.sent o ++ told_reaped deed.reaped) quiet.no_end ∙ ap told_reaped quiet.no_reaping
+
+none_quiet : IsQuiet no_deed
+none_quiet = record { no_start = refl; no_end = refl; no_reaping = refl }
+
+-- also of those that are not on yet
+quiet_deed : (on k bit : ℕ) (trace : List Bit) (member : Member) → StandsBehind on k trace member → length trace ≡ bit + 1 → (member.on ≤ bit → IsQuiet member.deed) → IsQuiet member.deed
+quiet_deed on k bit trace member h behind quiet = elim (cases_lt bit member.on) [
+  | inl early ↦ subst IsQuiet (sym (h.quiet (omega (arith, early, behind, h.on_is)))) none_quiet
+  | inr late ↦ quiet (omega (arith, late))
+]
+
+-- the lines of a bit at which nothing is told
+pub quiet_lines : (plan : SegmentPlan) (levels : List Bool) (events : List Event) (bit : ℕ) (talkers controllers : List Member) → SegmentKept plan levels events talkers controllers → length levels ≡ bit + 1 →
+    AreQuiet bit talkers → AreQuiet bit controllers → bit_lines bit talkers controllers ≡ []
+quiet_lines plan levels events bit talkers controllers h size quiet_talkers quiet_controllers =
+    let behind : length h.trace ≡ bit + 1 = sym (run_length h.run) ∙ size in
+    let talker : (k : ℕ) (m : Member) → slice_get talkers k ≡ Some m → IsQuiet m.deed =
+    λ k m e.
+    let within = slice_get_within talkers k m e in
+    let planned = some_there plan.talkers.items k (omega (arith, within, h.stands.talkers_size)) in
+    quiet_deed planned.0.on k bit h.trace m (h.stands.talkers_stand k planned.0 m planned.1 e) behind (quiet_talkers k m e) in
+    let controller : (k : ℕ) (m : Member) → slice_get controllers k ≡ Some m → IsQuiet m.deed =
+    λ k m e.
+    let within = slice_get_within controllers k m e in
+    let planned = some_there plan.controllers.items k (omega (arith, within, h.stands.controllers_size)) in
+    quiet_deed planned.0.on (length plan.talkers.items + k) bit h.trace m (h.stands.controllers_stand k planned.0 m planned.1 e) behind (quiet_controllers k m e) in
+    let none : (tells : Deed → List Told) → ((deed : Deed) → IsQuiet deed → tells deed ≡ []) → told_by tells bit 0 talkers ++ told_by tells bit (length talkers) controllers ≡ [] =
+    λ tells nothing.
+    ap (λ es. es ++ told_by tells bit (length talkers) controllers) (told_nothing tells bit 0 talkers (λ k m e. nothing m.deed (talker k m e)))
+    ∙ told_nothing tells bit (length talkers) controllers (λ k m e. nothing m.deed (controller k m e)) in
+    ap (λ es. es ++ (told_by rest_by bit 0 talkers ++ told_by rest_by bit (length talkers) controllers)) (none start_of quiet_starts) ∙ none rest_by quiet_rests
