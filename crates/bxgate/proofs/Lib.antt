@@ -1,2 +1,4 @@
 pub mod ReportLaws
 pub mod Endings
+pub mod Turns
+pub mod CommandLine

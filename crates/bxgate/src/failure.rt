@@ -3,30 +3,35 @@
 ghost use Rattle.std.specs.Prelude.{◌≡◌};
 ghost use Rattle.bxgate.specs.Outcomes.{status_of};
 
+use gw_run::RunFault;
 use gw_script::ScriptFault;
 use thiserror::Error;
 
 /// Why a run ends without its report; its text is the line on standard error, after `bxgate: `.
 #[derive(Clone, Copy, Debug, PartialEq, Eq, Error)]
 pub enum Failure {
+    /// The input is refused, or memory ran out while it was read.
     #[error("{0}")]
     Script(ScriptFault),
-    #[error("G1 Memory")]
-    Memory,
+    /// Memory ran out elsewhere, or a thread could not be started.
+    #[error("{0}")]
+    Run(RunFault),
+    /// A read failed, or too many of them brought no end.
     #[error("read fault")]
     Read,
+    /// A write failed.
     #[error("write fault")]
     Write,
 }
 
 impl Failure {
-    /// The status that the program ends with: 2 for a script that is refused, 3 for want of memory, 74
-    /// for a read or a write fault.
+    /// The status that the program ends with: 2 for an input that is refused, 3 for want of memory or of a
+    /// thread, 74 for a read or a write fault.
     pub fn status(self) -> u8
         ensures { result ≡ status_of self }
     {
         match self {
-            Failure::Script(ScriptFault::Memory) | Failure::Memory => 3,
+            Failure::Script(ScriptFault::Memory) | Failure::Run(_) => 3,
             Failure::Script(_) => 2,
             Failure::Read | Failure::Write => 74,
         }

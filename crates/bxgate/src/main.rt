@@ -2,10 +2,13 @@
 #![tactic(auto)]
 
 mod command;
+mod core_command;
 mod failure;
 mod input;
 mod program;
 mod report;
+mod run_command;
+mod task;
 
 use crate::program::{refused_arguments, tool};
 use std::io;

@@ -1,55 +1,86 @@
 //! The program over any reader and writers.
 
-ghost use Rattle.std.specs.Prelude.{◌≡◌, ◌≢◌, ◌∷◌, [], List, ℕ, codes, map, IfOk, IfErr, string_bytes};
+ghost use Rattle.std.specs.Prelude.{◌≡◌, ◌≢◌, ◌∷◌, [], List, ℕ, codes, map, IfOk, IfErr};
+ghost use Rattle.std.specs.Fmt.{decimal};
 ghost use Rattle.std.specs.Io.KnownBytes.{Keeps};
 ghost use Rattle.std.specs.IoError.{error_kind};
 ghost use Rattle.std.specs.declared.io.ErrorKind.TheVariants.{OutOfMemory};
 ghost use Rattle.clap.specs.Words.{kind_of};
 ghost use Rattle.bxgate.specs.Outcomes.{IsAnswer, IsFailureOn, Ends, EndsWith};
+ghost use Rattle.bxgate.specs.Words.{IsTurn, HasTurn};
 
-use crate::command::{Task, matches_of, task_of};
+use crate::command::task_of;
+use crate::core_command::core_text;
 use crate::failure::Failure;
 use crate::input::{InputFault, read_input};
-use crate::report::report_of;
+use crate::run_command::run_text;
+use crate::task::Task;
 use clap::error::ErrorKind;
-use gw_script::{ScriptFault, read_core};
+use gw_run::RunFault;
+use gw_script::ScriptFault;
 use std::alloc::Global;
 use std::convert::AsStr;
 use std::io;
 use std::io::{Read, Write};
+use std::sync::Wait;
 
-/// The report on the bytes of an event list.
-fn core_text(alloc: Global, bytes: &[u8]) -> Result<String, Failure>
-    ensures ok { IfOk result (λ text. IsAnswer bytes.now (string_bytes text)) }
-    ensures err { IfErr result (IsFailureOn bytes.now) }
+/// The answer to the bytes of the input.
+fn text_of<H: Wait>(rt: &H, alloc: Global, task: Task, bytes: &[u8]) -> Result<Vec<u8>, Failure>
+    requires { HasTurn task }
+    ensures ok { IfOk result (λ text. IsAnswer task bytes.now text.items) }
+    ensures err { IfErr result (IsFailureOn task bytes.now) }
 {
-    let list = match read_core(alloc, bytes) {
-        Ok(list) => list,
-        Err(fault) => return Err(Failure::Script(fault)),
-    };
-    match report_of(alloc, &list) {
-        Ok(text) => Ok(text),
-        Err(_) => Err(Failure::Memory),
+    match task {
+        Task::Core => core_text(alloc, bytes),
+        Task::Run { turn } => run_text(rt, alloc, bytes, turn),
     }
 }
 
-/// Reads all there is, and writes the report on it and nothing else.
-fn run_core<R: Read, W: Write>(alloc: Global, input: &mut R, output: &mut W) -> Result<(), Failure>
-    ensures { Ends (R.remaining input.old) (W.contents output.old) (W.contents output.new) result }
+/// Reads all there is, and writes the answer to it and nothing else.
+fn carry_out<H: Wait, R: Read, W: Write>(
+    rt: &H,
+    alloc: Global,
+    task: Task,
+    input: &mut R,
+    output: &mut W,
+) -> Result<(), Failure>
+    requires { HasTurn task }
+    ensures { Ends task (R.remaining input.old) (W.contents output.old) (W.contents output.new) result }
 {
     let bytes = match read_input(alloc, input) {
         Ok(bytes) => bytes,
         Err(InputFault::TooLong) => return Err(Failure::Script(ScriptFault::TooMany("input"))),
-        Err(InputFault::Memory) => return Err(Failure::Memory),
+        Err(InputFault::Memory) => return Err(Failure::Run(RunFault::Memory)),
         Err(InputFault::Read) => return Err(Failure::Read),
     };
-    let text = match core_text(alloc, bytes.as_slice()) {
+    let text = match text_of(rt, alloc, task, bytes.as_slice()) {
         Ok(text) => text,
         Err(failure) => return Err(failure),
     };
-    match output.write_all(text.as_str().as_bytes()) {
+    match output.write_all(text.as_slice()) {
         Ok(()) => Ok(()),
         Err(_) => Err(Failure::Write),
+    }
+}
+
+/// Does what was asked for, and answers the status that the program then ends with.
+fn status_after<H: Wait, R: Read, W: Write, E: Write>(
+    rt: &H,
+    alloc: Global,
+    task: Task,
+    input: &mut R,
+    output: &mut W,
+    faults: &mut E,
+) -> u8
+    requires { HasTurn task }
+    ensures { EndsWith task (R.remaining input.old) (W.contents output.old) (W.contents output.new) result }
+{
+    match carry_out(rt, alloc, task, input, output) {
+        Ok(()) => 0,
+        Err(failure) => {
+            tell(faults, failure);
+            failure.status()
+        }
     }
 }
 
@@ -57,8 +88,8 @@ fn run_core<R: Read, W: Write>(alloc: Global, input: &mut R, output: &mut W) -> 
 /// 0 done, 2 the input is refused, 3 memory ran out, 64 the words ask for nothing, 74 a read or a write
 /// fault. What went wrong is told on `faults`, and then nothing is written to `output`, but that a write
 /// fault may come in the middle. The text of help and usage is clap's.
-pub fn tool<H, S: AsStr, R: Read, W: Write, E: Write>(
-    _rt: &H,
+pub fn tool<H: Wait, S: AsStr, R: Read, W: Write, E: Write>(
+    rt: &H,
     alloc: Global,
     words: &[S],
     input: &mut R,
@@ -66,22 +97,18 @@ pub fn tool<H, S: AsStr, R: Read, W: Write, E: Write>(
     faults: &mut E,
 ) -> u8
     ensures core { (name : List ℕ) → map S.text words.now ≡ name ∷ codes "core" ∷ []
-        → EndsWith (R.remaining input.old) (W.contents output.old) (W.contents output.new) result }
+        → EndsWith Task.Core (R.remaining input.old) (W.contents output.old) (W.contents output.new) result }
+    ensures run { (name : List ℕ) → map S.text words.now ≡ name ∷ codes "run" ∷ []
+        → EndsWith (Task.Run 1) (R.remaining input.old) (W.contents output.old) (W.contents output.new) result }
+    ensures turns { (name : List ℕ) (n : ℕ) → IsTurn n
+        → map S.text words.now ≡ name ∷ codes "run" ∷ codes "--turn" ∷ decimal n ∷ []
+        → EndsWith (Task.Run n) (R.remaining input.old) (W.contents output.old) (W.contents output.new) result }
     ensures usage { result ≡ 64 → Keeps (W.contents output.old) (W.contents output.new) }
 {
-    let matches = match matches_of(alloc, words) {
-        Ok(matches) => matches,
-        Err(error) => return refused_words(&error, output, faults),
-    };
-    match task_of(&matches) {
-        Task::Nothing => usage(faults),
-        Task::Core => match run_core(alloc, input, output) {
-            Ok(()) => 0,
-            Err(failure) => {
-                tell(faults, failure);
-                failure.status()
-            }
-        },
+    match task_of(alloc, words) {
+        Ok(Some(task)) => status_after(rt, alloc, task, input, output, faults),
+        Ok(None) => usage(faults),
+        Err(error) => refused_words(&error, output, faults),
     }
 }
 
@@ -104,7 +131,7 @@ pub fn refused_arguments<E: Write>(error: &io::Error, faults: &mut E) -> u8
     ensures text { error_kind error.now ≢ OutOfMemory → result ≡ 64 }
 {
     if error.kind() == io::ErrorKind::OutOfMemory {
-        tell(faults, Failure::Memory);
+        tell(faults, Failure::Run(RunFault::Memory));
         return 3;
     }
     let _ = writeln!(faults, "bxgate: an argument is not UTF-8");
@@ -119,7 +146,7 @@ fn refused_words<W: Write, E: Write>(error: &clap::Error, output: &mut W, faults
 {
     match error.kind() {
         ErrorKind::OutOfMemory => {
-            tell(faults, Failure::Memory);
+            tell(faults, Failure::Run(RunFault::Memory));
             3
         }
         ErrorKind::DisplayHelp => {

@@ -1,8 +1,14 @@
--- A run that fails ends with its failure's status.
-use Rattle.bxgate.proofs.Endings.{ends_with}
+-- What was asked for is what was taken.
+use Rattle.std.proofs.Common.{◌≡◌, subst}
+use Rattle.bxgate.specs.Outcomes.{EndsWith}
+use Rattle.bxgate.specs.declared.task.Task.{Task}
+use Rattle.bxgate.specs.declared.task.Task.TheVariants.{Run}
 use Rattle.bxgate.proofs.program.tool.Goals as goal
 
-pub returns-clause-core : goal.returns-clause-core
-returns-clause-core g c name words_are =
-    ends_with (g.R.Read.remaining c.args.input.now) (g.W.Write.contents c.args.output.now) (g.W.Write.contents c.run_core.new.output)
-    c.status.result c.in-Err-run_core.failure c.status.ensures c.in-Err-run_core.ensures
+pub returns-in-Ok-Some-clause-turns : goal.returns-in-Ok-Some-clause-turns
+returns-in-Ok-Some-clause-turns g c name n turn words_are =
+    let asked = c.in-Ok-Some.ensures.turns name n turn words_are in
+    let task_is : c.in-Ok-Some.task ≡ Run n = cc in
+    let P : Task → Type 0 = λ t. EndsWith t (g.R.Read.remaining c.args.input.now) (g.W.Write.contents c.args.output.now)
+    (g.W.Write.contents c.status_after.new.output) c.status_after.result in
+    subst P task_is c.status_after.ensures

@@ -1,9 +1,0 @@
--- An input that is too long has that as its first fault.
-use Rattle.std.proofs.Common.{rules}
-use Rattle.std.proofs.lemmas.Option.{IfSome_then}
-use Rattle.gw_script.specs.Documents.{in_text, too_long}
-use Rattle.bxgate.proofs.program.run_core.Goals as goal
-
-pub returns-in-Err-TooLong : goal.returns-in-Err-TooLong
-returns-in-Err-TooLong g c =
-    (IfSome_then (g.R.Read.remaining c.args.input.now) (c.in-Err-TooLong.ensures.long c.in-Err-TooLong.field-0-is) (λ bytes over. in_text (too_long over)), search rules)
