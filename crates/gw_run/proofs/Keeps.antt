@@ -7,7 +7,7 @@ use Rattle.can_segment.specs.Segments.{SegmentValue}
 use Rattle.can_segment.proofs.NextBits.{some_there}
 use Rattle.can_segment.proofs.Places.{same_some}
 use Rattle.gw_run.specs.declared.lane.Lane.{Lane}
-use Rattle.gw_run.specs.declared.lane.Place.{Place}
+use Rattle.gw_run.specs.declared.place.Place.{Place}
 use Rattle.gw_run.specs.declared.port.Port.{Port}
 use Rattle.gw_run.specs.declared.site.Site.{Site}
 use Rattle.gw_run.specs.Lanes.{TurnLeaves}

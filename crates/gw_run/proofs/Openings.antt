@@ -16,7 +16,7 @@ use Rattle.gw_script.specs.SoundScripts.{IsSound, IsControllerIn, IsRouteIn, Tak
 use Rattle.gw_script.specs.Nodes.{controller_places}
 use Rattle.gw_run.specs.declared.intake.Intake.{Intake}
 use Rattle.gw_run.specs.declared.lane.Lane.{Lane}
-use Rattle.gw_run.specs.declared.lane.Place.{Place}
+use Rattle.gw_run.specs.declared.place.Place.{Place}
 use Rattle.gw_run.specs.declared.port.Port.{Port}
 use Rattle.gw_run.specs.declared.site.Site.{Site}
 use Rattle.gw_run.specs.Lanes.{FromPlan}

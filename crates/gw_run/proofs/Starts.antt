@@ -20,7 +20,7 @@ use Rattle.gw_script.specs.Scripts.{ScriptValue}
 use Rattle.gw_script.specs.SoundScripts.{IsSound}
 use Rattle.gw_run.specs.declared.intake.Intake.{Intake}
 use Rattle.gw_run.specs.declared.lane.Lane.{Lane}
-use Rattle.gw_run.specs.declared.lane.Place.{Place}
+use Rattle.gw_run.specs.declared.place.Place.{Place}
 use Rattle.gw_run.specs.declared.port.Port.{Port}
 use Rattle.gw_run.specs.declared.site.Site.{Site}
 use Rattle.gw_run.specs.Intakes.GoTo.{nothing}

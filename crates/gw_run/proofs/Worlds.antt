@@ -6,7 +6,7 @@ use Rattle.can_segment.specs.Places.{AtPlaces}
 use Rattle.can_segment.proofs.NextBits.{some_there}
 use Rattle.gw_run.specs.declared.intake.Intake.{Intake}
 use Rattle.gw_run.specs.declared.lane.Lane.{Lane}
-use Rattle.gw_run.specs.declared.lane.Place.{Place}
+use Rattle.gw_run.specs.declared.place.Place.{Place}
 use Rattle.gw_run.specs.declared.port.Port.{Port}
 use Rattle.gw_run.specs.declared.site.Site.{Site}
 use Rattle.gw_run.specs.Slots.{SameFifo}

@@ -15,7 +15,8 @@ ghost use Rattle.gw_run.specs.Slots.{SetsSlot};
 ghost use Rattle.gw_run.specs.Worlds.{IsAt, Leads, PortChanges};
 
 use crate::growing::push_one;
-use crate::lane::{Lane, Place};
+use crate::lane::Lane;
+use crate::place::Place;
 use crate::port::Port;
 use crate::route_end::report_of;
 use crate::site::Site;

@@ -7,18 +7,12 @@ ghost use Rattle.gw_route.specs.RouteHand.{hand_value, IsLinked, LogsReleased};
 ghost use Rattle.gw_route.specs.declared.planned_abort.PlannedAbort.{PlannedAbort};
 ghost use Rattle.gw_run.specs.Lanes.{FromPlan, TurnLeaves};
 
+use crate::place::Place;
 use crate::port::Port;
 use bx_core::{NoGate, PlainRoute};
 use bx_rx::Memory;
 use gw_route::RouteHand;
 use std::sync::Wait;
-
-/// Where a controller is: the place of its segment in the script, and its own among the controllers on it.
-#[derive(Clone, Copy, Debug, PartialEq, Eq)]
-pub(crate) struct Place {
-    pub(crate) site: usize,
-    pub(crate) port: usize,
-}
 
 /// A route of a run: its hand, the FIFO that it takes from, and the controller that it leads into, whose mailboxes know
 /// it by this number.

@@ -7,6 +7,7 @@ mod inline;
 mod intake;
 mod lane;
 mod opening;
+mod place;
 mod places;
 mod plan;
 mod port;

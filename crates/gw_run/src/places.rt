@@ -1,17 +1,15 @@
-//! Where the controllers and the routes of a script are in a run.
+//! Controllers on a segment and routes into a controller, by their places.
 
 ghost use Rattle.std.specs.Prelude.{◌≡◌, ◌<◌, ◌==◌, count_by, length, slice_get, Some};
 ghost use Rattle.gw_script.specs.Controllers.{controllers_on};
 ghost use Rattle.gw_script.specs.Nodes.{controller_places, route_places, route_at};
 ghost use Rattle.gw_script.specs.Routes.{RouteValue};
 ghost use Rattle.gw_script.specs.SoundScripts.{IsSound};
-ghost use Rattle.gw_run.specs.Openings.{IsPlaceOf};
 
-use crate::lane::Place;
 use gw_script::{Controller, Route, Script};
 
 /// How many of these controllers are on a segment.
-fn among_controllers(controllers: &[Controller], segment: usize) -> usize
+pub(crate) fn among_controllers(controllers: &[Controller], segment: usize) -> usize
     ensures { result ≡ count_by (λ c. c.segment == segment) controllers.now }
 {
     controllers
@@ -57,17 +55,6 @@ pub(crate) fn controller_there(script: &Script, segment: usize, nth: usize) -> u
         Some(place) => place,
         None => unreachable!(),
     }
-}
-
-/// Where a controller of the script is.
-pub(crate) fn place_of(script: &Script, controller: usize) -> Place
-    requires { controller < length script.now.controllers }
-    ensures { IsPlaceOf script.now controller result }
-{
-    let controllers = script.controllers();
-    let site = controllers[controller].segment();
-    let port = among_controllers(&controllers[..controller], site);
-    Place { site, port }
 }
 
 /// The number of a route at the controller that it leads into: its place among the routes into it.

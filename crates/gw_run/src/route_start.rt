@@ -11,7 +11,8 @@ ghost use Rattle.gw_run.specs.Plans.{abort_in, aborts_of};
 use crate::growing::{push_one, push_some};
 use crate::intake::Intake;
 use crate::lane::Lane;
-use crate::places::{number_of, place_of};
+use crate::place::Place;
+use crate::places::number_of;
 use crate::site::Site;
 use crate::slots::put;
 use bx_rx::{Memory, RxFifo, RxOut};
@@ -65,8 +66,8 @@ fn lane_of(alloc: Global, script: &Script, route: usize, out: RxOut) -> Result<L
 {
     let aborts = aborts_of(alloc, script, route)?;
     let said = &script.routes()[route];
-    let source = place_of(script, said.source());
-    let target = place_of(script, said.target());
+    let source = Place::of(script, said.source());
+    let target = Place::of(script, said.target());
     let number = number_of(script, route, said.target());
     Ok(Lane {
         hand: RouteHand::new(alloc, out, aborts),

@@ -6,7 +6,7 @@ ghost use Rattle.gw_run.specs.Slots.{SetsSlot};
 ghost use Rattle.gw_run.specs.Worlds.{IsAt, PortChanges, slot_of};
 
 use crate::intake::Intake;
-use crate::lane::Place;
+use crate::place::Place;
 use crate::port::Port;
 use crate::site::Site;
 use std::mem::replace;

@@ -72,7 +72,9 @@ fn three_frames_go_over_a_route(rt: HostRuntime) -> Result<(), Fail> {
     for bits in [first, second] {
         let told = segments.next();
         assert!(rt; told.map(|record| record.levels.len()) == Some(300));
-        assert!(rt; told.map(|record| record.events.iter().map(|event| event.bit).eq(bits)) == Some(true));
+        assert!(rt;
+            told.map(|record| record.events.iter().map(|event| event.bit).eq(bits)) == Some(true)
+        );
     }
     assert!(rt; segments.next().is_none());
     Ok(())

@@ -4,7 +4,7 @@ use Rattle.std.proofs.lemmas.Option.{slice_get_read}
 use Rattle.gw_script.specs.Controllers.{ControllerValue}
 use Rattle.gw_script.specs.Nodes.{controller_places}
 use Rattle.gw_run.proofs.PlacesWhere.{place-found}
-use Rattle.gw_run.proofs.places.place_of.Goals as goal
+use Rattle.gw_run.proofs.place.Place.of.Goals as goal
 
 pub returns : goal.returns
 returns c =
