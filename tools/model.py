@@ -142,6 +142,13 @@ class Node:
         self.on, self.state, self.count = on, "sync", 0
         self.tec, self.rec = 0, 0
         self.is_sender, self.may_join = False, False
+        # of the frame that it sends or takes: its SOF, and what was read of it; of the one that it sends the next place
+        self.start, self.reader = None, None
+        self.frame, self.wire, self.place = None, None, None
+        # of a flag and what follows it: the last level, dominant bits in a row, and which of these counts first
+        self.last, self.run, self.first = None, 0, None
+        self.is_overload, self.is_first, self.owes = False, False, False
+        self.runs = 0  # of eleven recessive bits, in bus off
 
     def is_off(self):
         return self.tec >= 256
@@ -177,7 +184,10 @@ class Node:
         self.rec = min(255, self.rec + amount)
 
     def count_role(self, amount):
-        self.count_sender(amount) if self.is_sender else self.count_receiver(amount)
+        if self.is_sender:
+            self.count_sender(amount)
+        else:
+            self.count_receiver(amount)
 
     def told(self, *lines):
         """These lines; or that the node went off, if its last counting made it so."""
@@ -187,10 +197,12 @@ class Node:
         return list(lines)
 
     def flag(self, is_passive, is_overload=False):
+        """An error flag, or an overload flag, begins with the next bit."""
         self.state = "passive flag" if is_passive else "active flag"
         self.is_overload, self.count, self.run, self.last = is_overload, 0, 0, None
 
     def error(self, kind, counts=True, owes=False):
+        """An error; one that doesn't count may be owed until a dominant bit of the passive flag."""
         was_passive = self.is_passive()
         if counts:
             self.count_role(8 if self.is_sender else 1)
@@ -201,11 +213,13 @@ class Node:
         return [("error", kind)]
 
     def take(self, bit):
+        """This bit is the SOF of another node's frame."""
         self.state, self.is_sender, self.start, self.reader = "take", False, bit, Reader()
         self.reader.push(DOMINANT)
 
     def sample(self, level, bit):
         self.may_join = False
+        # one method for each state
         return getattr(self, "at_" + self.state.replace(" ", "_"))(level, bit)
 
     def at_sync(self, level, bit):

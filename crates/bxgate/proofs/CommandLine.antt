@@ -39,6 +39,15 @@ pub core_is_taken : (name : Text) → takes bxgate_app (name ∷ codes "core" �
 unfolding clap_on_literals
 core_is_taken name = refl
 
+-- no word at all
+pub nothing_is_met : (name : Text) → option_map (λ p. p.0) (subcommand_of bxgate_app (name ∷ [])) ≡ None
+unfolding clap_on_literals
+nothing_is_met name = refl
+
+pub nothing_is_taken : (name : Text) → takes bxgate_app (name ∷ []) ≡ true
+unfolding clap_on_literals
+nothing_is_taken name = refl
+
 -- the rows of `run` with this number
 abbrev pub rows_of_run : Bool → Text → List Row
 rows_of_run given text = record {

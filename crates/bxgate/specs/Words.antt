@@ -42,7 +42,7 @@ run_app = with_rule (new_app (codes "run")) turn_rule
 abbrev pub bxgate_app : App
 bxgate_app = with_subcommand (with_subcommand (new_app (codes "bxgate")) core_app.top) run_app.top
 
--- the words are taken as asking for this, unless memory runs out
-abbrev pub IsTakenAs : Task → Result (Option Task) Error → Type 0
-IsTakenAs task (Ok asked) = asked ≡ Some task
+-- the words are taken as asking for this, or for nothing, unless memory runs out
+abbrev pub IsTakenAs : Option Task → Result (Option Task) Error → Type 0
+IsTakenAs task (Ok asked) = asked ≡ task
 IsTakenAs task (Err e) = kind_of e ≡ OutOfMemory

@@ -1,6 +1,6 @@
 //! The command line.
 
-ghost use Rattle.std.specs.Prelude.{◌≡◌, ◌∷◌, [], List, ℕ, Some, codes, map, true, false, IfOk, IfErr, IfSome};
+ghost use Rattle.std.specs.Prelude.{◌≡◌, ◌∷◌, [], List, ℕ, Some, None, codes, map, true, false, IfOk, IfErr, IfSome};
 ghost use Rattle.std.specs.Fmt.{decimal};
 ghost use Rattle.clap.specs.Words.{app_of, kind_of, found_of, one_of, rows_of, subcommand_name_of, subcommand_rows_of, HasMatchesOf, Row, takes};
 ghost use Rattle.clap.specs.declared.builder.command.Command.TheViews.{out-Command};
@@ -74,6 +74,7 @@ fn asked_by(matches: &ArgMatches<'_>) -> Option<Task>
     ensures run { (rows : List Row) (n : ℕ) → subcommand_rows_of matches.now ≡ Some (codes "run", rows) → IsTurn n
         → one_of (codes "turn") rows ≡ Some (decimal n) → result ≡ Some (Task.Run n) }
     ensures turn { IfSome result HasTurn }
+    ensures nothing { subcommand_name_of matches.now ≡ None → result ≡ None }
     ensures name { IfSome result (λ task. subcommand_name_of matches.now ≡ Some (name_of task)) }
 {
     match matches.subcommand_name() {
@@ -89,10 +90,11 @@ fn asked_by(matches: &ArgMatches<'_>) -> Option<Task>
 /// What the words ask for, the program's name first: `None` where they name no command. The words `core`, `run`
 /// and `run --turn N`, with N from 1 to 1,000,000, are taken, unless memory runs out.
 pub fn task_of<S: AsStr>(alloc: Global, words: &[S]) -> Result<Option<Task>, Error>
-    ensures core { (name : List ℕ) → map S.text words.now ≡ name ∷ codes "core" ∷ [] → IsTakenAs Task.Core result }
-    ensures run { (name : List ℕ) → map S.text words.now ≡ name ∷ codes "run" ∷ [] → IsTakenAs (Task.Run 1) result }
+    ensures core { (name : List ℕ) → map S.text words.now ≡ name ∷ codes "core" ∷ [] → IsTakenAs (Some Task.Core) result }
+    ensures run { (name : List ℕ) → map S.text words.now ≡ name ∷ codes "run" ∷ [] → IsTakenAs (Some (Task.Run 1)) result }
     ensures turns { (name : List ℕ) (n : ℕ) → IsTurn n
-        → map S.text words.now ≡ name ∷ codes "run" ∷ codes "--turn" ∷ decimal n ∷ [] → IsTakenAs (Task.Run n) result }
+        → map S.text words.now ≡ name ∷ codes "run" ∷ codes "--turn" ∷ decimal n ∷ [] → IsTakenAs (Some (Task.Run n)) result }
+    ensures nothing { (name : List ℕ) → map S.text words.now ≡ name ∷ [] → IsTakenAs None result }
     ensures turn { IfOk result (λ task. IfSome task HasTurn) }
 {
     match matches_of(alloc, words) {

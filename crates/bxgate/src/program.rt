@@ -1,6 +1,6 @@
 //! The program over any reader and writers.
 
-ghost use Rattle.std.specs.Prelude.{◌≡◌, ◌≢◌, ◌∷◌, [], List, ℕ, codes, map, IfOk, IfErr};
+ghost use Rattle.std.specs.Prelude.{◌≡◌, ◌≢◌, ◌⊎◌, ◌∷◌, [], List, ℕ, codes, map, IfOk, IfErr};
 ghost use Rattle.std.specs.Fmt.{decimal};
 ghost use Rattle.std.specs.Io.KnownBytes.{Keeps};
 ghost use Rattle.std.specs.IoError.{error_kind};
@@ -85,9 +85,9 @@ fn status_after<H: Wait, R: Read, W: Write, E: Write>(
 }
 
 /// Runs the program on its words, the program's name first, and answers the status that it ends with:
-/// 0 done, 2 the input is refused, 3 memory ran out, 64 the words ask for nothing, 74 a read or a write
-/// fault. What went wrong is told on `faults`, and then nothing is written to `output`, but that a write
-/// fault may come in the middle. The text of help and usage is clap's.
+/// 0 done, 2 the input is refused, 3 memory ran out or a thread could not be started, 64 the words ask for
+/// nothing, 74 a read or a write fault. What went wrong is told on `faults`, and then nothing is written to
+/// `output`, but that a write fault may come in the middle. The text of help and usage is clap's.
 pub fn tool<H: Wait, S: AsStr, R: Read, W: Write, E: Write>(
     rt: &H,
     alloc: Global,
@@ -103,6 +103,8 @@ pub fn tool<H: Wait, S: AsStr, R: Read, W: Write, E: Write>(
     ensures turns { (name : List ℕ) (n : ℕ) → IsTurn n
         → map S.text words.now ≡ name ∷ codes "run" ∷ codes "--turn" ∷ decimal n ∷ []
         → EndsWith (Task.Run n) (R.remaining input.old) (W.contents output.old) (W.contents output.new) result }
+    ensures nothing { (name : List ℕ) → map S.text words.now ≡ name ∷ []
+        → ((result ≡ 64) ⊎ (result ≡ 3)) × Keeps (W.contents output.old) (W.contents output.new) }
     ensures usage { result ≡ 64 → Keeps (W.contents output.old) (W.contents output.new) }
 {
     match task_of(alloc, words) {

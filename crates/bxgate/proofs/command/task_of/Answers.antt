@@ -3,7 +3,7 @@ use Rattle.std.proofs.Common.{ap, sym, option_map, arith, ◌∙◌, Some}
 use Rattle.std.proofs.lemmas.Fmt.{decimal_digit}
 use Rattle.clap.specs.Words.{subcommand_of, takes}
 use Rattle.bxgate.specs.Words.{bxgate_app, IsTurn}
-use Rattle.bxgate.proofs.CommandLine.{is_simple_app, name_from_rows, core_is_met, core_is_taken, run_is_met, run_is_taken, turns_are_met}
+use Rattle.bxgate.proofs.CommandLine.{is_simple_app, name_from_rows, core_is_met, core_is_taken, nothing_is_met, nothing_is_taken, run_is_met, run_is_taken, turns_are_met}
 use Rattle.bxgate.proofs.command.task_of.Goals as goal
 
 pub returns-in-Ok-clause-core : goal.returns-in-Ok-clause-core
@@ -30,3 +30,11 @@ returns-in-Ok-clause-turns g c name n turn words_are =
 
 pub returns-in-Err-clause-turns : goal.returns-in-Err-clause-turns
 returns-in-Err-clause-turns g c name n turn words_are = c.in-Err.ensures.fails (ap (takes bxgate_app) words_are ∙ (turns_are_met name n turn).taken)
+
+pub returns-in-Ok-clause-nothing : goal.returns-in-Ok-clause-nothing
+returns-in-Ok-clause-nothing g c name words_are =
+    let met = (c.in-Ok.ensures.matches is_simple_app).1 ∙ ap (subcommand_of bxgate_app) words_are in
+    c.asked_by.ensures.nothing (name_from_rows c.in-Ok.matches ∙ ap (option_map (λ p. p.0)) met ∙ nothing_is_met name)
+
+pub returns-in-Err-clause-nothing : goal.returns-in-Err-clause-nothing
+returns-in-Err-clause-nothing g c name words_are = c.in-Err.ensures.fails (ap (takes bxgate_app) words_are ∙ nothing_is_taken name)
