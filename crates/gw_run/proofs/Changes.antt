@@ -82,12 +82,6 @@ mail_after fifo slot old new there t place port at = by_late (late_of (SetsSlot 
     by_late (same_port now elsewhere) = (port, now, refl)
     by_late (changed_to now here is) = (t.late, now, t.changes.mail_is ∙ ap (λ (p : Port). p.mail) (sym is))
 
--- there is one port at a place
-pub one_there : (sites : List Site) (place : Place) (a b : Port) → IsAt sites place a → IsAt sites place b → a ≡ b
-one_there sites place a b p q =
-    let same : p.site ≡ q.site = same_some p.site q.site (sym p.site_is ∙ q.site_is) in
-    same_some a b (sym p.port_is ∙ ap (λ (s : Site). slice_get s.ports.items place.port) same ∙ q.port_is)
-
 -- so what is read of them then is what they were
 pub core_after : (fifo : ℕ) (slot : Option Intake) (old new : List Site) (there : Place) → PortChanges (SetsSlot fifo slot) old new there → (place : Place) (port : Port) → IsAt old place port → (mail : PlainMail) (core : State) →
     ((late : Port) → IsAt new place late → mail ≡ late.mail) → core ≡ core_of mail → core ≡ core_of port.mail

@@ -25,6 +25,7 @@ use Rattle.gw_run.specs.declared.port.Port.{Port}
 use Rattle.gw_run.specs.declared.site.Site.{Site}
 use Rattle.gw_run.specs.Finals.{IsDonePort, IsDoneSite, AreDoneSites, IsDoneLane, IsOver, EndsLane, lines_at}
 use Rattle.gw_run.specs.Plans.{IsPlanOf}
+use Rattle.gw_run.specs.Ports.{slot_leaves}
 use Rattle.gw_run.specs.Reports.{IsRouteRun}
 use Rattle.gw_run.specs.Sites.{PortHolds, SiteHolds}
 use Rattle.gw_run.specs.Slots.{SlotStands, SetsSlot}
@@ -44,15 +45,12 @@ slot_or_none : (banks : List BankValue) (fifo : ℕ) (slot : Option Intake) (tak
 slot_or_none banks fifo slot taken true stands = stands
 slot_or_none banks fifo slot taken false stands = tt
 
-slot_now : (banks other : List BankValue) (fifo : ℕ) (slot late : Option Intake) (taken : List FrameValue) → other ≡ banks → late ≡ slot → SlotStands banks fifo slot taken → SlotStands other fifo late taken
-slot_now banks other fifo slot late taken b i h = subst (λ bs. SlotStands bs fifo late taken) (sym b) (subst (λ o. SlotStands banks fifo o taken) (sym i) h)
-
 port_taken : (fifo node : ℕ) (segment : SegmentValue) (old new : Port) → SetsSlot fifo None old new → PortHolds node segment old → PortHolds node segment new
 port_taken fifo node segment old new set h = record {
   bus = subst (λ (m : PlainMail). BusStands (core_of m) (grown no_bus_past (told_of node segment.events))) (sym set.mail_is) h.bus;
   sink = λ few. (let both = h.sink few in record {
-    first = slot_now old.banks new.banks 0 (cond (fifo == 0) None old.first) new.first _ set.banks_is set.first_is (none_or_slot old.banks 0 old.first _ (fifo == 0) both.first);
-    second = slot_now old.banks new.banks 1 (cond (fifo == 0) old.second None) new.second _ set.banks_is set.second_is (slot_or_none old.banks 1 old.second _ (fifo == 0) both.second);
+    first = slot_leaves old.banks new.banks 0 (cond (fifo == 0) None old.first) new.first _ set.banks_is set.first_is (none_or_slot old.banks 0 old.first _ (fifo == 0) both.first);
+    second = slot_leaves old.banks new.banks 1 (cond (fifo == 0) old.second None) new.second _ set.banks_is set.second_is (slot_or_none old.banks 1 old.second _ (fifo == 0) both.second);
   });
   few = h.few;
 }

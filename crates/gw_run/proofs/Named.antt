@@ -1,5 +1,5 @@
 -- What a report names by place stands in the script.
-use Rattle.std.proofs.Common.{◌≡◌, ℕ, ◌+◌, ◌-◌, ◌<◌, ◌==◌, inl, inr, Bool, Option, Some, None, List, [], ◌∷◌, ◌++◌, length, map, slice_get, refl, sym, ap, subst, arith, ◌∙◌, length-append}
+use Rattle.std.proofs.Common.{◌≡◌, ℕ, ◌+◌, ◌-◌, ◌<◌, ◌==◌, inl, inr, Bool, Option, Some, None, List, [], ◌∷◌, length, map, slice_get, refl, sym, ap, subst, arith, ◌∙◌, length-append}
 use Rattle.std.proofs.lemmas.Bool.{cases_lt}
 use Rattle.std.proofs.lemmas.Bool.Decides.{eqb_tells}
 use Rattle.std.proofs.lemmas.List.{length-map}
@@ -23,6 +23,7 @@ use Rattle.can_segment.specs.declared.record.Record.{Record}
 use Rattle.can_segment.specs.declared.plan.Controller.{Controller}
 use Rattle.can_segment.specs.declared.plan.Talker.{Talker}
 use Rattle.can_segment.proofs.NextBits.{some_there}
+use Rattle.gw_route.proofs.Lists.{has-right}
 use Rattle.gw_script.specs.declared.report.Report.{Report}
 use Rattle.gw_script.specs.Controllers.{ControllerValue, controllers_on}
 use Rattle.gw_script.specs.NamedPlaces.{label_of, NamesRequest, NamesEvent, NamesNodes, Names}
@@ -38,10 +39,6 @@ use Rattle.gw_run.proofs.Pairs.{pair_at, pair_of, each_at}
 use Rattle.gw_run.proofs.Settles.{each_from}
 use Rattle.gw_run.proofs.PlacesWhere.{places-length}
 use Rattle.gw_run.proofs.RouteRuns.{controller_node}
-
-has-right : {X : Type 0} (xs ys : List X) (x : X) → Has ys x → Has (xs ++ ys) x
-has-right [] ys x has = has
-has-right (y ∷ xs) ys x has = inr (has-right xs ys x has)
 
 -- what one of them names all of them name
 named_by : {X : Type 0} (names : Told → List X) (tells : List Told) (one : Told) (x : X) → Has tells one → Has (names one) x → Has (all_in names tells) x

@@ -3,12 +3,9 @@ use Rattle.std.proofs.Common.{◌≡◌, ◌≢◌, ℕ, ◌+◌, ◌<◌, ◌�
 use Rattle.std.proofs.lemmas.Bool.{eqb-true}
 use Rattle.std.proofs.lemmas.Bool.Decides.{eqb_tells}
 use Rattle.std.proofs.lemmas.Option.{slice_get_within, get_or_from_slice_get}
-use Rattle.bx_core.specs.Lists.{Has}
 use Rattle.can_segment.proofs.NextBits.{some_there}
 use Rattle.can_segment.proofs.Places.{same_some}
 use Rattle.can_segment.specs.Segments.{SegmentValue, IsOpening}
-use Rattle.gw_route.specs.declared.planned_abort.PlannedAbort.{PlannedAbort}
-use Rattle.gw_route.specs.RouteHand.{HandValue}
 use Rattle.gw_script.specs.Controllers.{ControllerValue}
 use Rattle.gw_script.specs.Routes.{RouteValue}
 use Rattle.gw_script.specs.Scripts.{ScriptValue}
@@ -19,8 +16,7 @@ use Rattle.gw_run.specs.declared.lane.Lane.{Lane}
 use Rattle.gw_run.specs.declared.place.Place.{Place}
 use Rattle.gw_run.specs.declared.port.Port.{Port}
 use Rattle.gw_run.specs.declared.site.Site.{Site}
-use Rattle.gw_run.specs.Lanes.{FromPlan}
-use Rattle.gw_run.specs.Openings.{IsNewMail, IsEmptySlot, routes_at, IsNewPort, IsNewSite, AreNewSites, IsPlaceOf, IsLaneOf, IsNewLane, Takes, TakesApart, Opens}
+use Rattle.gw_run.specs.Openings.{IsNewMail, IsEmptySlot, routes_at, IsNewPort, IsNewSite, AreNewSites, IsPlaceOf, IsLaneOf, IsNewLane, Takes, TakesApart}
 use Rattle.gw_run.specs.Plans.{IsPlanOf}
 use Rattle.gw_run.specs.Slots.{SetsSlot}
 use Rattle.gw_run.specs.Worlds.{IsAt, TakesFrom, PortChanges, slot_of}
@@ -115,10 +111,6 @@ takes_other fifo slot old new there lane t apart k = by_late (late_of (SetsSlot 
     by_late (late_same at elsewhere) = record { from = k.from; from_is = at; takes = k.takes }
     by_late (changed_to at here is) = record { from = t.late; from_is = at; takes = takes_set fifo slot lane t.port t.late (apart here) t.changes (subst (TakesFrom lane) is k.takes) }
 
--- the plan of a hand that did nothing yet
-pub plan_new : (h : HandValue) (aborts : List PlannedAbort) → h.aborts ≡ aborts → h.aborted ≡ [] → FromPlan aborts h
-plan_new h aborts is none = record { left = λ abort has. subst (λ xs. Has xs abort) is has; done_too = λ n has. absurd (subst (λ xs. Has xs n) none has) }
-
 -- routes so far
 pub record OpensBelow (s : ScriptValue) (sites : List Site) (lanes : List Lane) (k : ℕ) : Type 0 where
   pub each_site : AreNewSites s sites
@@ -149,9 +141,6 @@ lanes_apart s j k r q a b sound less e f p o = λ same is.
     let fifos : r.fifo ≡ q.fifo = same_fifo_number r.fifo q.fifo range_r.1 range_q.1 (ap (λ n. n == 0) (sym p.fifo_is) ∙ is ∙ ap (λ n. n == 0) o.fifo_is) in
     apart_at TakesElsewhere s.routes j k r q less e f sound.own_fifos (same_some r.source q.source here, fifos)
 
-pub opens_start : (s : ScriptValue) (sites : List Site) → AreNewSites s sites → OpensBelow s sites [] 0
-opens_start s sites n = record { each_site = n; each_lane = record { at = λ k route lane e f. absurd (cc f); size = refl }; takes = λ k lane e. absurd (cc e) }
-
 pub opens_step : (s : ScriptValue) (old new : List Site) (lanes : List Lane) (k : ℕ) (lane : Lane) → IsSound s → k < length s.routes → AreNewSites s new → ((value : RouteValue) → slice_get s.routes k ≡ Some value → IsNewLane s k value lane) →
     Takes new lane → ((other : Lane) → TakesApart other lane → Takes old other → Takes new other) → OpensBelow s old lanes k → OpensBelow s new (lanes ++ lane ∷ []) (k + 1)
 opens_step s old new lanes k lane sound less n is takes others b =
@@ -166,6 +155,3 @@ opens_step s old new lanes k lane sound less n is takes others b =
         | inr last ↦ subst (Takes new) last.1 takes
       ];
     }
-
-pub opens_end : (s : ScriptValue) (sites : List Site) (lanes : List Lane) (k : ℕ) → k ≡ length s.routes → OpensBelow s sites lanes k → Opens s sites lanes
-opens_end s sites lanes k all b = record { each_site = b.each_site; each_lane = record { at = b.each_lane.at; size = b.each_lane.size ∙ all }; takes = b.takes }

@@ -18,9 +18,6 @@ pub record PairsBelow {X Y : Type 0} (R : ℕ → X → Y → Type 0) (xs : List
   pub at : (k : ℕ) (x : X) (y : Y) → slice_get xs k ≡ Some x → slice_get ys k ≡ Some y → R k x y
   pub size : length ys ≡ i
 
-pub pairs_start : {X Y : Type 0} (R : ℕ → X → Y → Type 0) (xs : List X) → PairsBelow R xs [] 0
-pairs_start R xs = record { at = λ k x y e f. absurd (cc f); size = refl }
-
 pub pairs_step : {X Y : Type 0} (R : ℕ → X → Y → Type 0) (xs : List X) (ys : List Y) (i : ℕ) (x : X) (y : Y) → slice_get xs i ≡ Some x → R i x y →
     PairsBelow R xs ys i → PairsBelow R xs (ys ++ y ∷ []) (i + 1)
 pairs_step R xs ys i x y here holds b = record {
@@ -32,9 +29,6 @@ pairs_step R xs ys i x y here holds b = record {
   ];
   size = omega (arith, length-append ys (y ∷ []), b.size);
 }
-
-pub pairs_end : {X Y : Type 0} (R : ℕ → X → Y → Type 0) (xs : List X) (ys : List Y) (i : ℕ) → i ≡ length xs → PairsBelow R xs ys i → Pairs R xs ys
-pairs_end R xs ys i all b = record { at = b.at; size = omega (arith, b.size, all) }
 
 -- what stands at a place of the second list, and in the first one at the same place
 pub pair_at : {X Y : Type 0} (R : ℕ → X → Y → Type 0) (xs : List X) (ys : List Y) (k : ℕ) (y : Y) → Pairs R xs ys → slice_get ys k ≡ Some y → (x : X) × (slice_get xs k ≡ Some x) × R k x y

@@ -1,13 +1,7 @@
--- Laws of the faults that a plan takes from a script.
-use Rattle.std.proofs.Common.{◌≡◌, ℕ, Option, Some, None, List, [], ◌∷◌, ◌++◌, append_assoc, fold, option_to_list, slice_get, refl, ap, sym, arith, ◌∙◌}
+-- Laws of what a loop keeps of a list.
+use Rattle.std.proofs.Common.{◌≡◌, Option, Some, None, List, [], ◌∷◌, ◌++◌, append_assoc, fold, option_to_list, refl, ap, sym, ◌∙◌}
 use Rattle.std.specs.List.{filter_map, cons_option}
 use Rattle.std.proofs.lemmas.List.{append-nil}
-use Rattle.gw_script.specs.declared.planned_fault.PlannedFault.{PlannedFault}
-use Rattle.gw_script.specs.declared.planned_fault.PlannedFault.TheVariants.{AtNode, OnLine}
-use Rattle.gw_script.specs.Scripts.{ScriptValue}
-use Rattle.gw_script.specs.SoundScripts.{IsSound, IsFaultIn, IsAtNode}
-use Rattle.gw_run.specs.Plans.{IsSmall}
-use Rattle.gw_run.proofs.Pairs.{each_at}
 
 one-or-none : {Y : Type 0} (o : Option Y) (ys : List Y) → option_to_list o ++ ys ≡ cons_option o ys
 one-or-none None ys = refl
@@ -26,11 +20,3 @@ kept-on h so_far (x ∷ xs) = kept-on h (so_far ++ option_to_list (h x)) xs ∙ 
 
 pub kept-all : {X Y : Type 0} (h : X → Option Y) (xs : List X) → kept_of h [] xs ≡ filter_map h xs
 kept-all h xs = kept-on h [] xs
-
--- a fault stands at one of at most 16 nodes
-pub small_fault : (s : ScriptValue) (k : ℕ) (fault : PlannedFault) → IsSound s → slice_get s.faults k ≡ Some fault → IsSmall fault
-small_fault s k fault sound e = by_kind fault (each_at (IsFaultIn s.bits s.segments) s.faults k fault e sound.faults) (each_at (IsAtNode s) s.faults k fault e sound.fault_nodes)
-  where
-    by_kind : (f : PlannedFault) → IsFaultIn s.bits s.segments f → IsAtNode s f → IsSmall f
-    by_kind (AtNode node bit) within at = (let few = sound.few_nodes node.segment within.0 in omega (arith, few, at))
-    by_kind (OnLine place bit level) within at = tt
