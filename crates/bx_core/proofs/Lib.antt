@@ -1,4 +1,5 @@
 pub mod Words
+pub mod Times
 pub mod Queues
 pub mod Keeps
 pub mod Reaches
@@ -9,5 +10,6 @@ pub mod Oldest
 pub mod Numbers
 pub mod Empties
 pub mod Standing
+pub mod Undone
 pub mod BusSide
 pub mod RouteSide

@@ -3,8 +3,9 @@ ghost use Rattle.std.specs.Prelude.{◌≡◌, ◌<◌, ◌≤◌, ◌↔◌, �
 ghost use Rattle.bx_core.specs.States.{State, opening, lists_of, IsLowestEmpty};
 ghost use Rattle.bx_core.specs.Steps.{last_number, greatest_number};
 ghost use Rattle.bx_core.specs.Law.{Law};
-ghost use Rattle.bx_core.specs.TxBus.{BusPast, no_bus_past, label_of, after_start, after_complete, after_fail};
-ghost use Rattle.bx_core.specs.RouteTx.{no_route_past};
+ghost use Rattle.bx_core.specs.Lists.{Has};
+ghost use Rattle.bx_core.specs.TxBus.{BusPast, no_bus_past, label_of, after_start, after_complete, after_fail, IsUndone};
+ghost use Rattle.bx_core.specs.RouteTx.{RoutePast, no_route_past};
 ghost use Rattle.bx_core.specs.PlainMail.{core_of, short_of, sending, is_ready, readied, heard_of, Starts, Completes, Fails, Requests, Aborts};
 ghost use Rattle.bx_core.specs.Stands.{BusStands, RouteStands, BusKeeps};
 
@@ -261,6 +262,9 @@ impl<R> TxBus<R> for PlainMail {
     fn start(&mut self, _rt: &R) -> Option<(u8, u32, Frame)>
         ensures past { (past : BusPast) → BusStands (core_of self.old) past
             → BusStands (core_of self.new) (after_start past result) }
+        ensures undone { (past : BusPast) → BusStands (core_of self.old) past → IfSome result (λ x. IsUndone past x) }
+        ensures unaborted { (past : RoutePast) → IfSome result (λ x. RouteStands (core_of self.old) x.0 past
+            → Has past.aborted x.1 → ⊥) }
         ensures idle { IfSome result (λ x. sending (core_of self.old) ≡ None) }
         ensures transmits { IfSome result (λ x. sending (core_of self.new) ≡ Some x) }
         ensures none { IfNone result (sending (core_of self.new) ≡ sending (core_of self.old)) }

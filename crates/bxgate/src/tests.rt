@@ -8,6 +8,7 @@ use std::io;
 use std::io::{Error, ErrorKind, Read, Write};
 use std::sync::Wait;
 
+mod errors;
 mod event_lists;
 mod runs;
 mod scripts;

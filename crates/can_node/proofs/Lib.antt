@@ -12,3 +12,17 @@ pub mod SendMoves
 pub mod Bits
 pub mod Samples
 pub mod Begins
+pub mod Texts
+pub mod Bounds
+pub mod ActiveFlags
+pub mod BitsOf
+pub mod Heard
+pub mod ActiveErrors
+pub mod SameFronts
+pub mod Receivers
+pub mod CompletedSends
+pub mod Outcomes
+pub mod Stamps
+pub mod Located
+pub mod Attempts
+pub mod Sofs

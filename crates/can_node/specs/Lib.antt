@@ -11,3 +11,6 @@ pub mod Histories
 pub mod Sending
 pub mod Machine
 pub mod Node
+pub mod Cuts
+pub mod Copies
+pub mod Attempts

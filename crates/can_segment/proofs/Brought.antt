@@ -5,7 +5,8 @@ use Rattle.std.specs.Prelude.{option_to_list}
 use Rattle.can_frame.specs.Frames.{FrameValue}
 use Rattle.can_node.specs.declared.outcome.Outcome.{Outcome}
 use Rattle.can_node.specs.declared.outcome.Outcome.TheVariants.{Nothing, Took, Completed, Lost, Errored, WentOff, CameBack}
-use Rattle.bx_core.specs.TxBus.{Item, BusPast}
+use Rattle.bx_core.specs.Lists.{Each}
+use Rattle.bx_core.specs.TxBus.{Item, BusPast, IsUndone}
 use Rattle.can_segment.specs.declared.event.Event.{Event}
 use Rattle.can_segment.specs.declared.event.Label.{Label}
 use Rattle.can_segment.specs.declared.event.Told.{Told}
@@ -16,8 +17,8 @@ use Rattle.can_segment.specs.declared.sent.Sent.{Sent}
 use Rattle.can_segment.specs.Tells.{lines, told_start, told_outcome, told_reaped}
 use Rattle.can_segment.specs.Tellings.{start_of, rest_by, told_by, bit_lines}
 use Rattle.can_segment.specs.Traces.{is_failure}
-use Rattle.can_segment.specs.Ports.{item_of, item_with, started, completed, failed, settled, taken_by, Reaps}
-use Rattle.can_segment.specs.Brought.{told_of, start_in, sent_in, reaped_in, taken_in, all_in, grown}
+use Rattle.can_segment.specs.Ports.{item_of, item_with, Undone, started, completed, failed, settled, taken_by, Reaps}
+use Rattle.can_segment.specs.Brought.{StartsUndone, told_of, start_in, sent_in, reaped_in, taken_in, all_in, grown}
 use Rattle.can_segment.specs.Brought.{IsBrought}
 use Rattle.can_segment.specs.Kept.{no_deed, begun_by}
 use Rattle.can_segment.specs.Members.{is_on, settled_at, taken_at}
@@ -33,12 +34,12 @@ of-append node (x ∷ xs) ys = by_test (x.node == node) (of-append node xs ys)
     by_test true e = ap (λ ts. x.told ∷ ts) e
     by_test false e = e
 
-of-same : (node bit : ℕ) (ts : List Told) → told_of node (lines bit node ts) ≡ ts
+pub of-same : (node bit : ℕ) (ts : List Told) → told_of node (lines bit node ts) ≡ ts
 of-same node bit [] = refl
 of-same node bit (t ∷ ts) =
     ap (λ b. cond b (t ∷ told_of node (lines bit node ts)) (told_of node (lines bit node ts))) (eq-eqb node node refl) ∙ ap (λ xs. t ∷ xs) (of-same node bit ts)
 
-of-other : (node bit n : ℕ) (ts : List Told) → n ≢ node → told_of node (lines bit n ts) ≡ []
+pub of-other : (node bit n : ℕ) (ts : List Told) → n ≢ node → told_of node (lines bit n ts) ≡ []
 of-other node bit n [] ne = refl
 of-other node bit n (t ∷ ts) ne =
     ap (λ b. cond b (t ∷ told_of node (lines bit n ts)) (told_of node (lines bit n ts))) (ne_eqb n node ne) ∙ of-other node bit n ts ne
@@ -111,7 +112,7 @@ same_lists past s t d e q r es ed er = ap (λ xs. with_lists past xs d q) es ∙
 plain_lists : (past : BusPast) → with_lists past [] [] [] ≡ past
 plain_lists past = same_past (with_lists past [] [] []) past (append-nil past.started) (append-nil past.done) (append-nil past.reaped)
 
-grown-nil : (past : BusPast) → grown past [] ≡ past
+pub grown-nil : (past : BusPast) → grown past [] ≡ past
 grown-nil past = plain_lists past
 
 pub grown-append : (past : BusPast) (xs ys : List Told) → grown past (xs ++ ys) ≡ grown (grown past xs) ys
@@ -233,6 +234,40 @@ one_taken (Errored kind) = omega arith
 one_taken WentOff = omega arith
 one_taken CameBack = omega arith
 
+-- the only lines that name a start are those of what begins
+pub starts_undone-append : (past : BusPast) (xs ys : List Told) → StartsUndone past xs → StartsUndone (grown past xs) ys → StartsUndone past (xs ++ ys)
+starts_undone-append past [] ys h k = subst (λ p. StartsUndone p ys) (grown-nil past) k
+starts_undone-append past (x ∷ xs) ys h k = (h.0, starts_undone-append (grown past (x ∷ [])) xs ys h.1 (subst (λ p. StartsUndone p ys) (grown-append past (x ∷ []) xs) k))
+
+none_started : (past : BusPast) (sending : Option Sent) (outcome : Outcome) → StartsUndone past (told_outcome sending outcome)
+none_started past sending Nothing = tt
+none_started past sending (Took start frame) = (tt, tt)
+none_started past None Completed = tt
+none_started past (Some sent) Completed = (tt, tt)
+none_started past None Lost = tt
+none_started past (Some sent) Lost = (tt, tt)
+none_started past sending (Errored kind) = (tt, tt)
+none_started past sending WentOff = (tt, tt)
+none_started past sending CameBack = (tt, tt)
+
+none_reaped : (past : BusPast) (reaped : Option Label) → StartsUndone past (told_reaped reaped)
+none_reaped past None = tt
+none_reaped past (Some label) = (tt, tt)
+
+each_undone : (past : BusPast) (item : Option Item) → Undone past item → Each (IsUndone past) (option_to_list item)
+each_undone past None h = tt
+each_undone past (Some x) h = (h, tt)
+
+one_started : (past : BusPast) (begun : Option Sent) → Undone past (item_of begun) → StartsUndone past (told_start begun)
+one_started past None h = tt
+one_started past (Some sent) h = (each_undone past (item_with sent.frame sent.label) h, tt)
+
+undone_told : (past : BusPast) (begun : Option Sent) (deed : Deed) → Undone past (item_of begun) → StartsUndone past (told_start begun ++ rest_by deed)
+undone_told past begun deed h =
+    starts_undone-append past (told_start begun) (rest_by deed) (one_started past begun h)
+    (starts_undone-append (grown past (told_start begun)) (told_outcome deed.sent deed.outcome) (told_reaped deed.reaped) (none_started (grown past (told_start begun)) deed.sent deed.outcome)
+    (none_reaped (grown (grown past (told_start begun)) (told_outcome deed.sent deed.outcome)) deed.reaped))
+
 -- a node that is not on yet
 early : (on bit : ℕ) → nat_le on bit ≡ false → bit < on
 early on bit e = elim (leb_tells on bit) [ inl is ↦ absurd (cc (e, is.0)) | inr isnt ↦ isnt.1 ]
@@ -242,6 +277,7 @@ pub port_brought : {P : Type 0} (after : P → BusPast → Type 0) (transmitting
     PortMoves after transmitting sink stays bit m p q → IsBrought after transmitting sink stays tells (item_of m.station.sending) p q
 port_brought after transmitting sink stays bit tells m p q told quiet moves = record {
   bus = λ past h. subst (λ ts. after q (grown past ts)) (sym told) (bus_by past (is_on bit m) refl (moves.bus past h));
+  undone = λ past h. subst (StartsUndone past) (sym told) (undone_by past (is_on bit m) refl (moves.undone past h));
   transmits = moves.transmits;
   offers = λ past h. subst (λ ts. sink q (past ++ all_in taken_in ts)) (sym told) (sink_by past (is_on bit m) refl (moves.offers past h));
   one_at_most = subst (λ ts. length (all_in taken_in ts) ≤ 1) (sym told) (subst (λ fs. length fs ≤ 1) (sym (takes (begun_by m.deed) m.deed)) (one_taken m.deed.outcome));
@@ -259,3 +295,9 @@ port_brought after transmitting sink stays bit tells m p q told quiet moves = re
     sink_by past false e h =
         let idle : m.deed ≡ no_deed = quiet (early m.on bit e) in
         subst (λ d. sink q (past ++ all_in taken_in (start_of d ++ rest_by d))) (sym idle) h
+
+    undone_by : (past : BusPast) (on : Bool) → is_on bit m ≡ on → Undone past (item_of (cond on (begun_by m.deed) None)) → StartsUndone past (start_of m.deed ++ rest_by m.deed)
+    undone_by past true e h = undone_told past (begun_by m.deed) m.deed h
+    undone_by past false e h =
+        let idle : m.deed ≡ no_deed = quiet (early m.on bit e) in
+        subst (λ d. StartsUndone past (start_of d ++ rest_by d)) (sym idle) tt

@@ -15,3 +15,9 @@ pub mod Fresh
 pub mod Calm
 pub mod Quiet
 pub mod Settles
+pub mod OneLine
+pub mod ActsNoted
+pub mod Attempts
+pub mod Retries
+pub mod Requests
+pub mod Copies

@@ -2,7 +2,8 @@
 -- completions and what was reaped, the sink the frames that were taken.
 use Rattle.std.specs.Prelude.{◌≡◌, ℕ, ◌≤◌, ◌==◌, Option, List, [], ◌∷◌, ◌++◌, length, option_to_list, if◌then◌else◌}
 use Rattle.can_frame.specs.Frames.{FrameValue}
-use Rattle.bx_core.specs.TxBus.{Item, BusPast}
+use Rattle.bx_core.specs.Lists.{Each}
+use Rattle.bx_core.specs.TxBus.{Item, BusPast, IsUndone}
 use Rattle.can_segment.specs.declared.event.Event.{Event}
 use Rattle.can_segment.specs.declared.event.Told.{Told}
 use Rattle.can_segment.specs.declared.event.Told.TheVariants as told
@@ -63,10 +64,16 @@ all_in names (one ∷ more) = names one ++ all_in names more
 abbrev pub grown : BusPast → List Told → BusPast
 grown past tells = record { started = past.started ++ all_in start_in tells; done = past.done ++ all_in sent_in tells; reaped = past.reaped ++ all_in reaped_in tells }
 
--- a port was brought what is told of its node, which sends this then
+-- what starts at one of these lines is not over: it was neither sent nor reaped, in the past or by an earlier line
+abbrev pub StartsUndone : BusPast → List Told → Type 0
+StartsUndone past [] = Unit {0}
+StartsUndone past (one ∷ more) = Each (IsUndone past) (start_in one) × StartsUndone (grown past (one ∷ [])) more
+
+-- a port was brought what is told of its node, which sends this then; what starts is not over
 pub record IsBrought {P : Type 0} (after : P → BusPast → Type 0) (transmitting : P → Option Item) (sink : P → List FrameValue → Type 0) (stays : P → P → Type 0)
     (tells : List Told) (sends : Option Item) (from to : P) : Type 0 where
   pub bus : (past : BusPast) → after from past → after to (grown past tells)
+  pub undone : (past : BusPast) → after from past → StartsUndone past tells
   pub transmits : transmitting to ≡ sends
   pub offers : (past : List FrameValue) → sink from past → sink to (past ++ all_in taken_in tells)
   pub one_at_most : length (all_in taken_in tells) ≤ 1

@@ -12,3 +12,5 @@ pub mod Moves
 pub mod Brought
 pub mod Segments
 pub mod Fresh
+pub mod Attempts
+pub mod Copies

@@ -1,9 +1,9 @@
 -- What the nodes of a segment bring to their ports.
-use Rattle.std.specs.Prelude.{◌≡◌, ℕ, Bool, true, Option, Some, None, List, [], ◌∷◌, option_map, if◌then◌else◌}
+use Rattle.std.specs.Prelude.{◌≡◌, ℕ, Bool, true, Option, Some, None, IfSome, List, [], ◌∷◌, option_map, if◌then◌else◌}
 use Rattle.can_frame.specs.Frames.{FrameValue}
 use Rattle.can_node.specs.declared.outcome.Outcome.{Outcome}
 use Rattle.can_node.specs.declared.outcome.Outcome.TheVariants.{Nothing, Took, Completed, Lost, Errored, WentOff, CameBack}
-use Rattle.bx_core.specs.TxBus.{Item, BusPast, after_start, after_complete, after_fail}
+use Rattle.bx_core.specs.TxBus.{Item, BusPast, IsUndone, after_start, after_complete, after_fail}
 use Rattle.can_segment.specs.declared.event.Label.{Label}
 use Rattle.can_segment.specs.declared.sent.Sent.{Sent}
 use Rattle.can_segment.specs.Traces.{is_failure}
@@ -20,6 +20,10 @@ item_of (Some sent) = item_with sent.frame sent.label
 -- what a station started at a bit, if it began
 abbrev pub started_item : Bool → Option Sent → Option Item
 started_item began sending = if began then item_of sending else None
+
+-- this request, if there is one, is not over
+abbrev pub Undone : BusPast → Option Item → Type 0
+Undone past item = IfSome item (λ x. IsUndone past x)
 
 -- the past of a bus side that started this, or nothing
 abbrev pub started : BusPast → Option Item → BusPast

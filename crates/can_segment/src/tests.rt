@@ -1,5 +1,7 @@
 //! Worked cases of a segment: two nodes on a line, with their faults.
 
+mod one_fault;
+
 ghost use Rattle.std.specs.Prelude.{◌≡◌, None, IfOk, IfSome, length};
 ghost use Rattle.bx_core.specs.PlainMail.{core_of, sending};
 ghost use Rattle.can_segment.specs.Segments.{Fit};

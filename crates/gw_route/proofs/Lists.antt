@@ -3,10 +3,6 @@ use Rattle.std.proofs.Common.{◌⊎◌, inl, inr, List, [], ◌∷◌, ◌++◌
 use Rattle.bx_core.specs.Lists.{Has}
 
 module _ {A : Type 0} where
-  pub has-right : (xs ys : List A) (y : A) → Has ys y → Has (xs ++ ys) y
-  has-right [] ys y h = h
-  has-right (x ∷ xs) ys y h = inr (has-right xs ys y h)
-
   pub has-either : (xs ys : List A) (y : A) → Has (xs ++ ys) y → Has xs y ⊎ Has ys y
   has-either [] ys y h = inr h
   has-either (x ∷ xs) ys y (inl e) = inl (inl e)

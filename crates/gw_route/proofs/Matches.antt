@@ -13,12 +13,12 @@ use Rattle.bx_core.specs.Lists.{Has}
 use Rattle.bx_core.specs.States.{numbers}
 use Rattle.bx_core.specs.Steps.{last_number, greatest_number}
 use Rattle.bx_core.specs.RouteTx.{RoutePast, if_asked, after_request, after_abort}
-use Rattle.bx_core.proofs.Words.{has-left}
+use Rattle.bx_core.proofs.Words.{has-right, has-left}
 use Rattle.bx_rx.specs.declared.rx_frame.RxFrame.{RxFrame}
 use Rattle.gw_route.specs.RouteHand.{HandValue, LogMatches, numbered}
 use Rattle.gw_route.specs.Turn.{counted, taken, given, Filled, IsDue, IsDueByCount, if_requested, if_aborted}
 use Rattle.gw_route.specs.declared.planned_abort.PlannedAbort.{PlannedAbort}
-use Rattle.gw_route.proofs.Lists.{has-right, has-either}
+use Rattle.gw_route.proofs.Lists.{has-either}
 use Rattle.gw_route.proofs.Numbered.{length-numbered, numbered-append, last_of-numbered, last-numbered, has-numbered, numbered-bounds}
 
 -- all numbers that were given out are requested, but the one in the hand

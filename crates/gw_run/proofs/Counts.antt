@@ -4,31 +4,9 @@ use Rattle.std.proofs.lemmas.Bool.Decides.{eqb_tells}
 use Rattle.bx_core.specs.declared.entry.Entry.{Entry}
 use Rattle.bx_core.specs.Lists.{Each, Has, Rises, times}
 use Rattle.bx_core.specs.States.{numbers}
-use Rattle.bx_core.proofs.Words.{has-left, each_of}
-use Rattle.gw_route.proofs.Lists.{has-right}
+use Rattle.bx_core.proofs.Times.{mark, times_self, times_other}
+use Rattle.bx_core.proofs.Words.{has-right, has-left, each_of}
 use Rattle.gw_run.specs.Headline.{is_among}
-
--- 1 where the two are the same
-abbrev pub mark : ℕ → ℕ → ℕ
-mark x n = cond (x == n) 1 0
-
-pub times_self : (n : ℕ) → mark n n ≡ 1
-times_self n = elim (eqb_tells n n) [ inl h ↦ rw (h.0) refl | inr h ↦ absurd (h.1 refl) ]
-
-pub times_other : (m n : ℕ) → m ≢ n → mark m n ≡ 0
-times_other m n ne = elim (eqb_tells m n) [ inl h ↦ absurd (ne h.1) | inr h ↦ rw (h.0) refl ]
-
-pub has_times : (xs : List ℕ) (n : ℕ) → Has xs n → 0 < times n xs
-has_times [] n h = absurd h
-has_times (x ∷ xs) n (inl e) = let t : mark x n ≡ 1 = subst (λ m. mark x m ≡ 1) e (times_self x) in omega arith
-has_times (x ∷ xs) n (inr h) = omega (arith, has_times xs n h)
-
-pub times_has : (xs : List ℕ) (n : ℕ) → 0 < times n xs → Has xs n
-times_has [] n h = absurd (omega (arith, h))
-times_has (x ∷ xs) n h = elim (eqb_tells x n) [
-  | inl e ↦ inl e.1
-  | inr e ↦ inr (times_has xs n (let t : mark x n ≡ 0 = times_other x n e.1 in omega (arith, h, t)))
-]
 
 pub among_times : (xs : List ℕ) (n : ℕ) → is_among xs n ≡ true → 0 < times n xs
 among_times [] n h = absurd (cc)
@@ -47,17 +25,6 @@ not_among_times (x ∷ xs) n h = elim (eqb_tells x n) [
 pub bool_cases : (b : Bool) → (b ≡ true) ⊎ (b ≡ false)
 bool_cases true = inl refl
 bool_cases false = inr refl
-
-pub each_times : (x n : ℕ) (xs : List ℕ) → n ≤ x → Each (λ y. x < y) xs → times n xs ≡ 0
-each_times x n [] h e = refl
-each_times x n (y ∷ ys) h e = let t : mark y n ≡ 0 = times_other y n (let l : x < y = e.0 in omega arith) in omega (arith, t, each_times x n ys h e.1)
-
-pub rises_once : (xs : List ℕ) (n : ℕ) → Rises xs → times n xs ≤ 1
-rises_once [] n r = omega arith
-rises_once (x ∷ xs) n r = elim (eqb_tells x n) [
-  | inl e ↦ (let t : mark x n ≡ 1 = subst (λ m. mark x m ≡ 1) e.1 (times_self x) in omega (arith, t, each_times x n xs (omega (arith, e.1)) r.0))
-  | inr e ↦ (let t : mark x n ≡ 0 = times_other x n e.1 in omega (arith, t, rises_once xs n r.1))
-]
 
 -- a list without the first place where x stands
 without : ℕ → List ℕ → List ℕ

@@ -12,7 +12,8 @@ use Rattle.gw_route.proofs.Numbered.{length-numbered}
 use Rattle.gw_script.specs.declared.route_report.RouteReport.{RouteReport}
 use Rattle.gw_run.specs.Headline.{is_among, InOrder, NotRefilled, Balances, Headline}
 use Rattle.gw_run.specs.Links.{settle, RouteLinked}
-use Rattle.gw_run.proofs.Counts.{mark, times_self, times_other, has_times, times_has, among_times, not_among_times, bool_cases, rises_once, same_length, has_number, number_has, above, same_number, rises_left, rises_across, each_from_has}
+use Rattle.bx_core.proofs.Times.{mark, times_self, times_other, has_times, times_has, rises_once}
+use Rattle.gw_run.proofs.Counts.{among_times, not_among_times, bool_cases, same_length, has_number, number_has, above, same_number, rises_left, rises_across, each_from_has}
 
 mark_cases : (m n : ℕ) → ((m ≡ n) × (mark m n ≡ 1)) ⊎ (mark m n ≡ 0)
 mark_cases m n = elim (eqb_tells m n) [

@@ -13,7 +13,7 @@ use Rattle.bx_core.specs.RouteTx.{no_route_past}
 use Rattle.bx_core.specs.States.{State, lists_of}
 use Rattle.bx_core.specs.Stands.{BusStands, RouteStands, entries_of, numbers_of, entry_on_bus}
 use Rattle.bx_core.specs.TxBus.{Item, no_bus_past}
-use Rattle.bx_core.proofs.Words.{each_of, has-left}
+use Rattle.bx_core.proofs.Words.{has-right, each_of, has-left}
 use Rattle.can_segment.specs.Brought.{told_of, all_in, start_in, sent_in, reaped_in, grown}
 use Rattle.can_segment.specs.declared.event.Event.{Event}
 use Rattle.can_segment.specs.declared.event.Label.{Label}
@@ -23,7 +23,6 @@ use Rattle.can_segment.specs.declared.record.Record.{Record}
 use Rattle.can_segment.specs.declared.plan.Controller.{Controller}
 use Rattle.can_segment.specs.declared.plan.Talker.{Talker}
 use Rattle.can_segment.proofs.NextBits.{some_there}
-use Rattle.gw_route.proofs.Lists.{has-right}
 use Rattle.gw_script.specs.declared.report.Report.{Report}
 use Rattle.gw_script.specs.Controllers.{ControllerValue, controllers_on}
 use Rattle.gw_script.specs.NamedPlaces.{label_of, NamesRequest, NamesEvent, NamesNodes, Names}

@@ -1,11 +1,14 @@
 -- From what stands after the last bit to what the report says.
-use Rattle.std.proofs.Common.{◌≡◌, ℕ, suc, ◌-◌, ◌≤◌, ◌==◌, nat_lt, Bool, true, false, cond, Some, None, List, [], ◌∷◌, length, map, slice_get, refl, sym, ap, subst, arith, ◌∙◌}
+use Rattle.std.proofs.Common.{◌≡◌, ℕ, suc, ◌-◌, ◌≤◌, ◌==◌, nat_lt, Bool, true, false, cond, Some, None, List, [], ◌∷◌, length, map, slice_get, ◌+◌, refl, sym, ap, subst, arith, ◌∙◌}
 use Rattle.std.proofs.lemmas.Bool.{ltb-false}
+use Rattle.std.proofs.lemmas.List.Sums.{length-filter}
 use Rattle.bx_core.specs.declared.entry.Entry.{Entry}
 use Rattle.bx_core.specs.Lists.{Each}
 use Rattle.bx_core.specs.Stands.{entries_of}
 use Rattle.can_segment.proofs.Places.{same_some}
-use Rattle.can_segment.specs.Brought.{told_of, all_in, start_in}
+use Rattle.bx_core.specs.TxBus.{no_bus_past}
+use Rattle.can_segment.proofs.NextBits.{some_there}
+use Rattle.can_segment.specs.Brought.{told_of, all_in, start_in, StartsUndone}
 use Rattle.can_segment.specs.declared.event.Event.{Event}
 use Rattle.can_segment.specs.declared.event.Told.{Told}
 use Rattle.can_segment.specs.declared.record.Record.{Record}
@@ -19,12 +22,30 @@ use Rattle.gw_run.specs.declared.site.Site.{Site}
 use Rattle.gw_run.specs.Finals.{IsDoneSite, AreDoneSites, IsRecordAt, lines_at}
 use Rattle.gw_run.specs.Headline.{InOrder, NotRefilled, Balances}
 use Rattle.gw_run.specs.Pairs.{Pairs}
-use Rattle.gw_run.specs.Reports.{IsSegmentRun, lines_of, AreToldOf, IsRouteRun, RunsRoutes, AreStartsOf}
+use Rattle.gw_run.specs.Reports.{NeverAgain, IsSegmentRun, lines_of, AreToldOf, IsRouteRun, RunsRoutes, AreStartsOf}
 use Rattle.gw_run.proofs.Pairs.{pair_at, pairs-map}
-use Rattle.gw_run.proofs.PlacesWhere.{place-once}
+use Rattle.gw_run.proofs.PlacesWhere.{place-once, places-length}
+
+-- what each controller of a segment began, by its lines
+never_again : (s : ScriptValue) (i : ℕ) (site : Site) (record_of : Record) → IsDoneSite s i site → IsRecordAt site record_of → NeverAgain site.segment.plan record_of.events.items
+never_again s i site record_of d r k within =
+    let test : ControllerValue → Bool = λ (c : ControllerValue). c.segment == i in
+    let places : length (controller_places s i) ≡ length site.segment.plan.controllers.items =
+    omega (arith, places-length test 0 s.controllers, length-filter test s.controllers, d.plan_is.controllers.size) in
+    let port = some_there site.ports.items k (omega (arith, within, places, d.ports.size)) in
+    subst (λ es. StartsUndone no_bus_past (told_of (length site.segment.plan.talkers.items + k) es)) (sym r.value.events_is) (d.holds.each k port.0 port.1).once
 
 segment_run : (s : ScriptValue) (i : ℕ) (site : Site) (record_of : Record) → IsDoneSite s i site → IsRecordAt site record_of → IsSegmentRun s i record_of
-segment_run s i site record_of d r = record { plan = site.segment.plan; plan_is = d.plan_is; run = r.run; whole = ap length r.value.levels_is ∙ d.made }
+segment_run s i site record_of d r = record {
+  plan = site.segment.plan;
+  plan_is = d.plan_is;
+  run = r.run;
+  whole = ap length r.value.levels_is ∙ d.made;
+  copies = r.copies;
+  once = never_again s i site record_of d r;
+  requests = λ trace run k within.
+      (r.copies trace run).controllers (length site.segment.plan.talkers.items + k) (never_again s i site record_of d r k within);
+}
 
 pub runs_segments : (s : ScriptValue) (sites : List Site) (records : List Record) → AreDoneSites s sites → Pairs (λ i. IsRecordAt) sites records → Pairs (λ segment said. IsSegmentRun s segment) s.segments records
 runs_segments s sites records d p = record {

@@ -1,15 +1,19 @@
 -- What a report says of a run of its script: of each segment what it did, and of each route what became of its frames.
-use Rattle.std.specs.Prelude.{◌≡◌, ◌≢◌, ℕ, Some, List, length, map, slice_get, AllPairs}
+use Rattle.std.specs.Prelude.{◌≡◌, ◌≢◌, ℕ, ◌+◌, ◌<◌, Some, List, length, map, slice_get, AllPairs}
 use Rattle.can_frame.specs.Frames.{FrameValue}
 use Rattle.bx_core.specs.declared.entry.Entry.{Entry}
 use Rattle.bx_core.specs.Lists.{Each, Has}
+use Rattle.bx_core.specs.TxBus.{no_bus_past}
 use Rattle.bx_core.specs.Stands.{entries_of}
 use Rattle.can_segment.specs.declared.event.Event.{Event}
 use Rattle.can_segment.specs.declared.event.Told.{Told}
 use Rattle.can_segment.specs.declared.plan.SegmentPlan.{SegmentPlan}
 use Rattle.can_segment.specs.declared.record.Record.{Record}
-use Rattle.can_segment.specs.Brought.{told_of, all_in, start_in, sent_in, taken_in}
-use Rattle.can_segment.specs.Runs.{IsRun}
+use Rattle.can_segment.specs.Brought.{StartsUndone, told_of, all_in, start_in, sent_in, taken_in}
+use Rattle.can_segment.specs.Attempts.{RequestsTryFailures}
+use Rattle.can_segment.specs.Copies.{Copies}
+use Rattle.can_segment.specs.Runs.{IsRun, Run}
+use Rattle.can_segment.specs.Traces.{Bit}
 use Rattle.gw_route.specs.declared.planned_abort.PlannedAbort.{PlannedAbort}
 use Rattle.gw_script.specs.declared.report.Report.{Report}
 use Rattle.gw_script.specs.declared.route_report.RouteReport.{RouteReport}
@@ -23,12 +27,26 @@ use Rattle.gw_run.specs.Intakes.{GoTo}
 use Rattle.gw_run.specs.Pairs.{Pairs}
 use Rattle.gw_run.specs.Plans.{IsPlanOf, aborts_of}
 
--- the record of a segment is that of a run of it over all the script's bits
+-- no controller of a segment begins a request that is over: one that it had completed, or that was reaped
+abbrev pub NeverAgain : SegmentPlan → List Event → Type 0
+NeverAgain plan events = (k : ℕ) → k < length plan.controllers.items →
+    StartsUndone no_bus_past (told_of (length plan.talkers.items + k) events)
+
+-- of two attempts of one request of a controller the earlier one failed, and the request did not end by it
+abbrev pub TriesFailures : SegmentPlan → Record → Type 0
+TriesFailures plan record_of =
+    (trace : List Bit) → Run plan trace record_of.levels.items record_of.events.items → (k : ℕ) → k < length plan.controllers.items →
+    RequestsTryFailures plan trace (length plan.talkers.items + k)
+
+-- the record of a segment is that of a run of it over all the script's bits, whatever its faults are
 pub record IsSegmentRun (s : ScriptValue) (segment : ℕ) (record_of : Record) : Type 0 where
   pub plan : SegmentPlan
   pub plan_is : IsPlanOf s segment plan
   pub run : IsRun plan record_of
   pub whole : length record_of.levels.items ≡ s.bits
+  pub copies : Copies plan record_of.levels.items record_of.events.items
+  pub once : NeverAgain plan record_of.events.items
+  pub requests : TriesFailures plan record_of
 
 -- so is the record of each segment
 abbrev pub RunsSegments : ScriptValue → Report → Type 0

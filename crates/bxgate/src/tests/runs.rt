@@ -106,7 +106,7 @@ const LAST_BUT_ONE_REPORT: &str = "a 11 t started 000 data -\n\
      a node l tec 0 rec 0 active\n\
      a end 131\n";
 
-fn is_reported<H: Wait + AllocGlobal>(rt: &H, words: &[&str], script: &str, report: &str) -> bool {
+pub fn is_reported<H: Wait + AllocGlobal>(rt: &H, words: &[&str], script: &str, report: &str) -> bool {
     let run = run_of(rt, words, script.as_bytes());
     run.status == 0 && run.output.as_slice() == report.as_bytes() && run.faults.is_empty()
 }
@@ -139,91 +139,6 @@ fn reports_on_segments(rt: HostRuntime) -> Result<(), Fail> {
             "{script}"
         );
     }
-    Ok(())
-}
-
-/// Adds the lines of sixteen attempts that nobody acknowledges, by which the sender becomes error passive.
-fn push_attempts(text: &mut String) -> Result<(), AllocError> {
-    for attempt in 0..16u32 {
-        let start = 11 + 59 * attempt;
-        let end = 52 + 59 * attempt;
-        write!(
-            text,
-            "a {start} t started 000 data -\na {end} t error ack\n"
-        )?;
-    }
-    Ok(())
-}
-
-#[test]
-fn reports_on_a_sender_that_is_alone(rt: HostRuntime) -> Result<(), Fail> {
-    let alloc = rt.alloc();
-    let mut report = String::new(alloc);
-    push_attempts(&mut report)?;
-    for attempt in 0..16u32 {
-        let start = 963 + 67 * attempt;
-        writeln!(report, "a {start} t started 000 data -")?;
-        if attempt < 15 {
-            let end = 1004 + 67 * attempt;
-            writeln!(report, "a {end} t error ack")?;
-        }
-    }
-    report.push_str("a node t tec 128 rec 0 passive\na end 2000\n")?;
-    let longer = changed(alloc, ONE_FRAME, r#""bits":64"#, r#""bits":2000"#)?;
-    let script = changed(
-        alloc,
-        longer.as_str(),
-        r#",{"name":"l","on":0,"frames":[]}"#,
-        "",
-    )?;
-    assert!(rt;
-        is_reported(
-            &rt,
-            ["bxgate", "run"].as_slice(),
-            script.as_str(),
-            report.as_str()
-        )
-    );
-    Ok(())
-}
-
-#[test]
-fn reports_on_a_passive_sender(rt: HostRuntime) -> Result<(), Fail> {
-    let alloc = rt.alloc();
-    let mut report = String::new(alloc);
-    push_attempts(&mut report)?;
-    report.push_str(
-        "a 963 t started 000 data -\n\
-         a 1003 t error bit\n\
-         a 1011 l took 963 000 data -\n\
-         a 1030 t started 000 data -\n\
-         a 1078 l took 1030 000 data -\n\
-         a 1079 t completed 1030 000 data -\n\
-         a node t tec 135 rec 0 passive\n\
-         a node l tec 0 rec 0 active\n\
-         a end 1080\n",
-    )?;
-    let longer = changed(alloc, ONE_FRAME, r#""bits":64"#, r#""bits":1080"#)?;
-    let late = changed(
-        alloc,
-        longer.as_str(),
-        r#""name":"l","on":0"#,
-        r#""name":"l","on":950"#,
-    )?;
-    let script = changed(
-        alloc,
-        late.as_str(),
-        r#""routes":[]"#,
-        r#""routes":[],"faults":[{"node":"t","bit":1003}]"#,
-    )?;
-    assert!(rt;
-        is_reported(
-            &rt,
-            ["bxgate", "run"].as_slice(),
-            script.as_str(),
-            report.as_str()
-        )
-    );
     Ok(())
 }
 

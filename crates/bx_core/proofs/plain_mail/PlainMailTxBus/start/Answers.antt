@@ -1,3 +1,4 @@
+use Rattle.bx_core.proofs.Undone.{starts_undone, starts_unaborted}
 use Rattle.bx_core.proofs.BusSide.{starts-bus, starts-idle, starts-sends, starts-none, starts-keeps}
 use Rattle.bx_core.proofs.plain_mail.PlainMailTxBus.start.Goals as goal
 
@@ -15,3 +16,9 @@ returns-clause-none g c = starts-none _ _ _ c.start_oldest.ensures.core
 
 pub returns-clause-stays : goal.returns-clause-stays
 returns-clause-stays g c = starts-keeps _ _ _ c.start_oldest.ensures.core c.start_oldest.ensures.short
+
+pub returns-clause-undone : goal.returns-clause-undone
+returns-clause-undone g c = λ past b. starts_undone _ _ _ past c.keep_law.ensures.law c.start_oldest.ensures.core b
+
+pub returns-clause-unaborted : goal.returns-clause-unaborted
+returns-clause-unaborted g c = λ past. starts_unaborted _ _ _ past c.keep_law.ensures.law c.start_oldest.ensures.core
