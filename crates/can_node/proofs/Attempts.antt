@@ -1,5 +1,7 @@
 -- What is begun and told at the bits of an attempt.
-use Rattle.std.proofs.Common.{◌≡◌, inl, inr, ◌⊎◌, ℕ, suc, ◌+◌, ◌-◌, ◌<◌, ◌≤◌, Bool, List, [], ◌∷◌, ◌++◌, length, refl, sym, ap, subst, arith, ◌∙◌}
+use Rattle.std.proofs.Common.{
+  ◌≡◌, inl, inr, ◌⊎◌, ℕ, suc, ◌+◌, ◌-◌, ◌<◌, ◌≤◌, Bool, List, [], ◌∷◌, ◌++◌, length, refl, sym, ap, subst, arith, ◌∙◌,
+}
 use Rattle.std.specs.List.{Contains}
 use Rattle.std.proofs.lemmas.List.{append-nil, append_assoc, length-append}
 use Rattle.std.proofs.lemmas.List.Elements.{Contains-append_cases, Contains-append_left, Contains-append_right}
@@ -30,8 +32,10 @@ use Rattle.can_node.proofs.Stamps.{noted_is, begins_is, some_bits, told_before, 
 some_last : (pairs : List Pair) (pair : Pair) → 1 ≤ length (pairs ++ pair ∷ [])
 some_last pairs pair = omega (arith, length-append pairs (pair ∷ []))
 
-sent_some : {at start : ℕ} {before : List ErrorEvent} {given : List Bool} {pairs : List Pair} {events : List ErrorEvent} {outcome : Outcome} {next : Phase} {frame : FrameValue} →
-    Episode at before (Send start given frame) pairs events outcome next → (outcome ≡ Completed → 1 ≤ length pairs) → 1 ≤ length pairs
+sent_some : {at start : ℕ} {before : List ErrorEvent} {given : List Bool} {pairs : List Pair} {events : List ErrorEvent}
+    {outcome : Outcome} {next : Phase} {frame : FrameValue} →
+    Episode at before (Send start given frame) pairs events outcome next → (outcome ≡ Completed → 1 ≤ length pairs) →
+        1 ≤ length pairs
 sent_some (ends (completed start given frame driven sampled send) on) whole = whole refl
 sent_some (ends (lost start given frame driven seen bit place) on) whole = some_last _ _
 sent_some (ends (stuff_lost start given frame driven seen bit place) on) whole = some_last _ _
@@ -40,7 +44,8 @@ sent_some (ends (bit_differs start given frame driven seen level bit no_loss no_
 sent_some (off_within pair event goes on more off) whole = some_last _ _
 sent_some (off_at_end pair event goes on course off) whole = some_last _ _
 
-pub attempt_some : {past : Past} {start end : ℕ} {frame : FrameValue} {state : ErrorState} {outcome : Outcome} (h : IsAttempt past start frame state end outcome) → 1 ≤ length h.pairs
+pub attempt_some : {past : Past} {start end : ℕ} {frame : FrameValue} {state : ErrorState} {outcome : Outcome}
+    (h : IsAttempt past start frame state end outcome) → 1 ≤ length h.pairs
 attempt_some h = sent_some h.here.episode (λ e. completed_some h.here.episode e (starts h.here.whole).1)
 
 -- how a send ends is told
@@ -62,7 +67,8 @@ keeps (goes_on {past = past} {phase = phase} episode onward) =
     let here = begins (past.first + length past.pairs) phase in
     record { more = here ++ h.more; begun_is = h.begun_is ∙ append_assoc past.begun here h.more }
 
-stays_begun : {from past : Past} {phase : Phase} (x : ℕ × FrameValue) → Leads from phase past → Contains from.begun x → Contains past.begun x
+stays_begun : {from past : Past} {phase : Phase} (x : ℕ × FrameValue) → Leads from phase past → Contains from.begun x →
+    Contains past.begun x
 stays_begun {from = from} x h c =
     let k = keeps h.onward in
     let last = begins (h.to.first + length h.to.pairs) h.last in
@@ -70,7 +76,8 @@ stays_begun {from = from} x h c =
     (Contains-append_left (from.begun ++ k.more) last x (Contains-append_left from.begun k.more x c))
 
 -- an attempt is told as what it became, and in its bits nothing else
-pub attempts_stand_alone : (past : Past) (start end : ℕ) (frame : FrameValue) (state : ErrorState) (outcome : Outcome) (attempt : IsAttempt past start frame state end outcome) →
+pub attempts_stand_alone : (past : Past) (start end : ℕ) (frame : FrameValue) (state : ErrorState) (outcome : Outcome)
+    (attempt : IsAttempt past start frame state end outcome) →
     SendsAlone past (first_bit attempt) end frame outcome
 attempts_stand_alone past start end frame state outcome h =
     let first : ℕ = h.done.first + length h.done.pairs in
@@ -78,20 +85,24 @@ attempts_stand_alone past start end frame state outcome h =
     let some = attempt_some h in
     let last : h.done.first + length (h.done.pairs ++ h.pairs) - 1 ≡ end = omega (arith, h.end_is) in
     let told : Contains (noted (h.done.first + length (h.done.pairs ++ h.pairs) - 1) outcome) (end, outcome) =
-    subst (λ n. Contains (noted n outcome) (end, outcome)) (sym last) (noted_end end (attempt_end past start end frame state outcome h)) in
+    subst (λ n. Contains (noted n outcome) (end, outcome)) (sym last)
+        (noted_end end (attempt_end past start end frame state outcome h)) in
     record {
       in_order = omega (arith, h.end_is, size, some);
-      begun = stays_begun (first, frame) h.here.leads (Contains-append_right h.done.begun ((first, frame) ∷ []) (first, frame) (0, omega arith, refl));
+      begun = stays_begun (first, frame) h.here.leads
+          (Contains-append_right h.done.begun ((first, frame) ∷ []) (first, frame) (0, omega arith, refl));
       told = leads_tells (end, outcome) h.here.leads (Contains-append_right h.done.outcomes _ (end, outcome) told);
       none_begun = λ bit other from to c. elim (begun_behind bit other h.here.leads c) [
         | inl whole ↦ elim (Contains-append_cases h.done.begun ((first, frame) ∷ []) (bit, other) whole) [
           | inl before ↦ omega (arith, begun_before bit other h.here.whole before, from)
-          | inr now ↦ (let b = begins_is first bit (Send start h.given frame) other now in omega (arith, b.bit_is, from))
+          | inr now ↦ (let b = begins_is first bit (Send start h.given frame) other now in
+              omega (arith, b.bit_is, from))
         ]
         | inr later ↦ omega (arith, later, h.end_is, to)
       ];
       none_told = λ bit other from to c. elim (told_behind bit other h.here.leads c) [
-        | inl whole ↦ elim (Contains-append_cases h.done.outcomes (noted (h.done.first + length (h.done.pairs ++ h.pairs) - 1) outcome) (bit, other) whole) [
+        | inl whole ↦ elim (Contains-append_cases h.done.outcomes
+            (noted (h.done.first + length (h.done.pairs ++ h.pairs) - 1) outcome) (bit, other) whole) [
           | inl before ↦ omega (arith, told_before bit other h.here.whole before, from)
           | inr now ↦ (let n = noted_is _ bit outcome other now in omega (arith, n.0, last, to))
         ]
@@ -100,9 +111,12 @@ attempts_stand_alone past start end frame state outcome h =
     }
 
 -- from the first bit of a transmission that goes on nothing is told
-pub open_tells_nothing : (past : Past) (first : ℕ) (frame : FrameValue) → IsOpenAttempt past first frame → (bit : ℕ) (outcome : Outcome) → first ≤ bit → Contains past.outcomes (bit, outcome) → ⊥
+pub open_tells_nothing : (past : Past) (first : ℕ) (frame : FrameValue) → IsOpenAttempt past first frame →
+    (bit : ℕ) (outcome : Outcome) → first ≤ bit → Contains past.outcomes (bit, outcome) → ⊥
 open_tells_nothing past first frame h bit outcome from c =
-    let before : Contains h.done.outcomes (bit, outcome) = subst (λ os. Contains os (bit, outcome)) (ap (λ (p : Past). p.outcomes) h.here.past_is ∙ append-nil h.done.outcomes) c in
+    let before : Contains h.done.outcomes (bit, outcome) =
+        subst (λ os. Contains os (bit, outcome))
+        (ap (λ (p : Past). p.outcomes) h.here.past_is ∙ append-nil h.done.outcomes) c in
     omega (arith, told_before bit outcome h.here.whole before, h.first_is, from)
 
 -- the send that began with this bit
@@ -119,10 +133,15 @@ record Located (to : Past) (last : Phase) (bit : ℕ) (frame : FrameValue) : Typ
   onward : Onward (with_episode done (Send start given frame) pairs events outcome) next to last
   first_is : done.first + length done.pairs ≡ bit
 
-located_now : {past : Past} {phase next : Phase} {pairs : List Pair} {events : List ErrorEvent} {outcome : Outcome} (bit start : ℕ) (given : List Bool) (frame : FrameValue) → phase ≡ Send start given frame → Whole past phase →
-    Episode (past.first + length past.pairs) past.events phase pairs events outcome next → past.first + length past.pairs ≡ bit → Located (with_episode past phase pairs events outcome) next bit frame
-located_now {past = past} {next = next} {pairs = pairs} {events = events} {outcome = outcome} bit start given frame is whole episode first =
-    let P : Phase → Type 0 = λ phase. Whole past phase → Episode (past.first + length past.pairs) past.events phase pairs events outcome next → Located (with_episode past phase pairs events outcome) next bit frame in
+located_now : {past : Past} {phase next : Phase} {pairs : List Pair} {events : List ErrorEvent} {outcome : Outcome}
+    (bit start : ℕ) (given : List Bool) (frame : FrameValue) → phase ≡ Send start given frame → Whole past phase →
+    Episode (past.first + length past.pairs) past.events phase pairs events outcome next →
+        past.first + length past.pairs ≡ bit → Located (with_episode past phase pairs events outcome) next bit frame
+located_now {past = past} {next = next} {pairs = pairs} {events = events} {outcome = outcome} bit start given frame is
+    whole episode first =
+    let P : Phase → Type 0 = λ phase. Whole past phase →
+        Episode (past.first + length past.pairs) past.events phase pairs events outcome next →
+        Located (with_episode past phase pairs events outcome) next bit frame in
     subst P (sym is) (λ w e. record {
       done = past;
       start = start;
@@ -137,9 +156,11 @@ located_now {past = past} {next = next} {pairs = pairs} {events = events} {outco
       first_is = first;
     }) whole episode
 
-locate : {to : Past} {last : Phase} (bit : ℕ) (frame : FrameValue) → Whole to last → Contains to.begun (bit, frame) → Located to last bit frame
+locate : {to : Past} {last : Phase} (bit : ℕ) (frame : FrameValue) → Whole to last → Contains to.begun (bit, frame) →
+    Located to last bit frame
 locate bit frame (switched_on first) c = absurd (omega (arith, c.1))
-locate bit frame (then {past = past} {phase = phase} {next = next} {pairs = pairs} {events = events} {outcome = told} whole episode) c =
+locate bit frame (then {past = past} {phase = phase} {next = next} {pairs = pairs} {events = events} {outcome = told}
+    whole episode) c =
     elim (Contains-append_cases past.begun (begins (past.first + length past.pairs) phase) (bit, frame) c) [
       | inl before ↦ (let l = locate bit frame whole before in record {
         done = l.done;
@@ -158,7 +179,8 @@ locate bit frame (then {past = past} {phase = phase} {next = next} {pairs = pair
           located_now bit b.start b.given frame b.phase_is whole episode (sym b.bit_is))
     ]
 
-open_now : {past done : Past} {phase : Phase} {part : List Pair} {counting : List ErrorEvent} (bit start : ℕ) (given : List Bool) (frame : FrameValue) → phase ≡ Send start given frame → HasLast past done phase part counting →
+open_now : {past done : Past} {phase : Phase} {part : List Pair} {counting : List ErrorEvent} (bit start : ℕ)
+    (given : List Bool) (frame : FrameValue) → phase ≡ Send start given frame → HasLast past done phase part counting →
     done.first + length done.pairs ≡ bit → IsOpenAttempt past bit frame
 open_now {past = past} {done = done} {part = part} {counting = counting} bit start given frame is h first = record {
   start = start;
@@ -171,9 +193,11 @@ open_now {past = past} {done = done} {part = part} {counting = counting} bit sta
 }
 
 -- what a node begins to send becomes an attempt, or goes on
-pub begun_attempts : (past : Past) (bit : ℕ) (frame : FrameValue) → IsHistory past → Contains past.begun (bit, frame) → IsAttemptFrom past bit frame ⊎ IsOpenAttempt past bit frame
+pub begun_attempts : (past : Past) (bit : ℕ) (frame : FrameValue) → IsHistory past → Contains past.begun (bit, frame) →
+    IsAttemptFrom past bit frame ⊎ IsOpenAttempt past bit frame
 begun_attempts past bit frame h c =
-    elim (Contains-append_cases h.done.begun (begins (h.done.first + length h.done.pairs) h.phase) (bit, frame) (subst (λ bs. Contains bs (bit, frame)) (ap (λ (p : Past). p.begun) h.past_is) c)) [
+    elim (Contains-append_cases h.done.begun (begins (h.done.first + length h.done.pairs) h.phase) (bit, frame)
+        (subst (λ bs. Contains bs (bit, frame)) (ap (λ (p : Past). p.begun) h.past_is) c)) [
       | inl before ↦ (let l = locate bit frame h.whole before in
           let bits = some_bits l.whole l.episode in
           inl (record {
@@ -190,7 +214,8 @@ begun_attempts past bit frame h c =
               here = record {
                 whole = l.whole;
                 episode = l.episode;
-                leads = record { to = h.done; last = h.phase; part = h.part; counting = h.counting; onward = l.onward; begun = h.goes_on; on = h.on; past_is = h.past_is };
+                leads = record { to = h.done; last = h.phase; part = h.part; counting = h.counting; onward =
+                    l.onward; begun = h.goes_on; on = h.on; past_is = h.past_is };
               };
               end_is = omega (arith, bits);
               state_is = refl;
@@ -198,5 +223,6 @@ begun_attempts past bit frame h c =
             first_is = l.first_is;
           }))
       | inr now ↦ (let b = begins_is (h.done.first + length h.done.pairs) bit h.phase frame now in
-          inr (open_now bit b.start b.given frame b.phase_is (record { whole = h.whole; begun = h.goes_on; past_is = h.past_is }) (sym b.bit_is)))
+          inr (open_now bit b.start b.given frame b.phase_is
+              (record { whole = h.whole; begun = h.goes_on; past_is = h.past_is }) (sym b.bit_is)))
     ]

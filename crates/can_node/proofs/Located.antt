@@ -1,5 +1,7 @@
 -- Each completion and each frame taken that a history tells is that of an attempt or a take.
-use Rattle.std.proofs.Common.{◌≡◌, inl, inr, ℕ, zero, suc, ◌+◌, ◌-◌, Bool, false, List, [], ◌∷◌, ◌++◌, length, refl, sym, ap, subst, arith, ◌∙◌}
+use Rattle.std.proofs.Common.{
+  ◌≡◌, inl, inr, ℕ, zero, suc, ◌+◌, ◌-◌, Bool, false, List, [], ◌∷◌, ◌++◌, length, refl, sym, ap, subst, arith, ◌∙◌,
+}
 use Rattle.std.specs.List.{Contains}
 use Rattle.std.proofs.lemmas.List.{append-nil, length-append}
 use Rattle.std.proofs.lemmas.List.Elements.{Contains-append_cases}
@@ -7,13 +9,19 @@ use Rattle.can_frame.specs.Frames.{FrameValue}
 use Rattle.can_node.specs.declared.confinement.ErrorEvent.{ErrorEvent}
 use Rattle.can_node.specs.declared.confinement.ErrorState.{ErrorState}
 use Rattle.can_node.specs.declared.outcome.Outcome.{Outcome}
-use Rattle.can_node.specs.declared.outcome.Outcome.TheVariants.{Nothing, Took, Completed, Lost, Errored, WentOff, CameBack}
+use Rattle.can_node.specs.declared.outcome.Outcome.TheVariants.{
+  Nothing, Took, Completed, Lost, Errored, WentOff, CameBack,
+}
 use Rattle.can_node.specs.Confinement.{state_after}
 use Rattle.can_node.specs.Pairs.{Pair}
 use Rattle.can_node.specs.Phases.{Phase}
 use Rattle.can_node.specs.Phases.Phase.{Send, Take}
 use Rattle.can_node.specs.Episodes.{Course, Episode}
-use Rattle.can_node.specs.Episodes.Course.{synced, woken, completed, lost, stuff_lost, unacknowledged, bit_differs, took, spoiled, quiet_end, late_overload, flagged, overload_flagged, passive_flagged, delimited, cut_short, overloaded, rested, rested_sender, pressed, hurried, waited, overtaken, recovered}
+use Rattle.can_node.specs.Episodes.Course.{
+  synced, woken, completed, lost, stuff_lost, unacknowledged, bit_differs, took, spoiled, quiet_end, late_overload,
+  flagged, overload_flagged, passive_flagged, delimited, cut_short, overloaded, rested, rested_sender, pressed,
+  hurried, waited, overtaken, recovered,
+}
 use Rattle.can_node.specs.Episodes.Episode.{begun, joined, ends, off_within, off_at_end}
 use Rattle.can_node.specs.Histories.{Past, Whole, with_episode, noted, IsHistory}
 use Rattle.can_node.specs.Histories.Whole.{switched_on, then}
@@ -27,8 +35,10 @@ use Rattle.can_node.proofs.Outcomes.{completed_some}
 use Rattle.can_node.proofs.Stamps.{noted_is}
 
 -- one whole episode more
-pub one_more : {from to : Past} {phase last next : Phase} {pairs : List Pair} {events : List ErrorEvent} {outcome : Outcome} → Onward from phase to last →
-    Episode (to.first + length to.pairs) to.events last pairs events outcome next → Onward from phase (with_episode to last pairs events outcome) next
+pub one_more : {from to : Past} {phase last next : Phase} {pairs : List Pair} {events : List ErrorEvent}
+    {outcome : Outcome} → Onward from phase to last →
+    Episode (to.first + length to.pairs) to.events last pairs events outcome next →
+        Onward from phase (with_episode to last pairs events outcome) next
 one_more stays episode = goes_on episode stays
 one_more (goes_on first onward) episode = goes_on first (one_more onward episode)
 
@@ -44,15 +54,20 @@ record Located (to : Past) (last : Phase) (end : ℕ) (outcome : Outcome) : Type
   onward : Onward (with_episode done phase pairs events outcome) next to last
   end_is : end ≡ done.first + length (done.pairs ++ pairs) - 1
 
-locate : {to : Past} {last : Phase} (end : ℕ) (outcome : Outcome) → Whole to last → Contains to.outcomes (end, outcome) → Located to last end outcome
+locate : {to : Past} {last : Phase} (end : ℕ) (outcome : Outcome) → Whole to last →
+    Contains to.outcomes (end, outcome) → Located to last end outcome
 locate end outcome (switched_on first) c = absurd (omega (arith, c.1))
-locate end outcome (then {past = past} {phase = phase} {next = next} {pairs = pairs} {events = events} {outcome = told} whole episode) c =
-    elim (Contains-append_cases past.outcomes (noted (past.first + length (past.pairs ++ pairs) - 1) told) (end, outcome) c) [
+locate end outcome (then {past = past} {phase = phase} {next = next} {pairs = pairs} {events = events} {outcome = told}
+    whole episode) c =
+    elim (Contains-append_cases past.outcomes (noted (past.first + length (past.pairs ++ pairs) - 1) told)
+        (end, outcome) c) [
       | inl before ↦ (let l = locate end outcome whole before in
-          record { done = l.done; phase = l.phase; pairs = l.pairs; events = l.events; next = l.next; whole = l.whole; episode = l.episode; onward = one_more l.onward episode; end_is = l.end_is })
+          record { done = l.done; phase = l.phase; pairs = l.pairs; events = l.events; next = l.next; whole =
+              l.whole; episode = l.episode; onward = one_more l.onward episode; end_is = l.end_is })
       | inr now ↦ (let n = noted_is (past.first + length (past.pairs ++ pairs) - 1) end told outcome now in
           subst (Located (with_episode past phase pairs events told) next end) n.1
-          (record { done = past; phase = phase; pairs = pairs; events = events; next = next; whole = whole; episode = episode; onward = stays; end_is = n.0 }))
+          (record { done = past; phase = phase; pairs = pairs; events = events; next = next; whole = whole; episode =
+              episode; onward = stays; end_is = n.0 }))
     ]
 
 record Found (past : Past) (end : ℕ) (outcome : Outcome) : Type 0 where
@@ -64,16 +79,21 @@ record Found (past : Past) (end : ℕ) (outcome : Outcome) : Type 0 where
   here : HasEpisode past done phase pairs events outcome next
   end_is : end ≡ done.first + length (done.pairs ++ pairs) - 1
 
-find : (past : Past) (end : ℕ) (outcome : Outcome) → IsHistory past → Contains past.outcomes (end, outcome) → Found past end outcome
+find : (past : Past) (end : ℕ) (outcome : Outcome) → IsHistory past → Contains past.outcomes (end, outcome) →
+    Found past end outcome
 find past end outcome h c =
-    let l = locate end outcome h.whole (subst (λ os. Contains os (end, outcome)) (ap (λ (p : Past). p.outcomes) h.past_is ∙ append-nil h.done.outcomes) c) in
+    let l = locate end outcome h.whole
+        (subst (λ os. Contains os (end, outcome)) (ap (λ (p : Past). p.outcomes) h.past_is ∙ append-nil h.done.outcomes)
+        c) in
     record {
       done = l.done;
       phase = l.phase;
       pairs = l.pairs;
       events = l.events;
       next = l.next;
-      here = record { whole = l.whole; episode = l.episode; leads = record { to = h.done; last = h.phase; part = h.part; counting = h.counting; onward = l.onward; begun = h.goes_on; on = h.on; past_is = h.past_is } };
+      here = record { whole = l.whole; episode = l.episode; leads =
+          record { to = h.done; last = h.phase; part = h.part; counting = h.counting; onward = l.onward; begun =
+          h.goes_on; on = h.on; past_is = h.past_is } };
       end_is = l.end_is;
     }
 
@@ -83,11 +103,13 @@ record IsSendOf (phase : Phase) : Type 0 where
   frame : FrameValue
   is : phase ≡ Send start given frame
 
-course_completed : {at : ℕ} {before : List ErrorEvent} {phase next : Phase} {pairs : List Pair} {events : List ErrorEvent} {outcome : Outcome} →
+course_completed : {at : ℕ} {before : List ErrorEvent} {phase next : Phase} {pairs : List Pair}
+    {events : List ErrorEvent} {outcome : Outcome} →
     Course at before phase pairs events outcome next → outcome ≡ Completed → IsSendOf phase
 course_completed (synced broken b) e = absurd (cc e)
 course_completed (woken n) e = absurd (cc e)
-course_completed (completed start given frame driven sampled send) e = record { start = start; given = given; frame = frame; is = refl }
+course_completed (completed start given frame driven sampled send) e =
+    record { start = start; given = given; frame = frame; is = refl }
 course_completed (lost start given frame driven seen bit place) e = absurd (cc e)
 course_completed (stuff_lost start given frame driven seen bit place) e = absurd (cc e)
 course_completed (unacknowledged start given frame driven seen bit) e = absurd (cc e)
@@ -110,7 +132,8 @@ course_completed waited e = absurd (cc e)
 course_completed (overtaken k below) e = absurd (cc e)
 course_completed (recovered text whole) e = absurd (cc e)
 
-was_send : {at : ℕ} {before : List ErrorEvent} {phase next : Phase} {pairs : List Pair} {events : List ErrorEvent} {outcome : Outcome} →
+was_send : {at : ℕ} {before : List ErrorEvent} {phase next : Phase} {pairs : List Pair} {events : List ErrorEvent}
+    {outcome : Outcome} →
     Episode at before phase pairs events outcome next → outcome ≡ Completed → IsSendOf phase
 was_send (begun n frame is on) e = absurd (cc e)
 was_send (joined start given frame is on) e = absurd (cc e)
@@ -119,7 +142,8 @@ was_send (off_within pair event goes on more off) e = absurd (cc e)
 was_send (off_at_end pair event goes on course off) e = absurd (cc e)
 
 -- each completion that a history tells is that of an attempt
-pub completed_attempt : (past : Past) (end : ℕ) → IsHistory past → Contains past.outcomes (end, Completed) → (start : ℕ) × (frame : FrameValue) × (state : ErrorState) × IsAttempt past start frame state end Completed
+pub completed_attempt : (past : Past) (end : ℕ) → IsHistory past → Contains past.outcomes (end, Completed) →
+    (start : ℕ) × (frame : FrameValue) × (state : ErrorState) × IsAttempt past start frame state end Completed
 completed_attempt past end h c =
     let f = find past end Completed h c in
     let s = was_send f.here.episode refl in
@@ -145,10 +169,13 @@ record IsTakeOf (phase : Phase) (start : ℕ) (frame : FrameValue) : Type 0 wher
   may_begin : Bool
   is : phase ≡ Take start given may_begin
 
-took_is : (start : ℕ) (given : List Bool) (may_begin : Bool) (frame : FrameValue) {s : ℕ} {f : FrameValue} (unused : ℕ) → Took start frame ≡ Took s f → IsTakeOf (Take start given may_begin) s f
-took_is start given may_begin frame {s} {f} unused e = let same : start ≡ s = cc e in record { given = given; may_begin = may_begin; is = ap (λ n. Take n given may_begin) same }
+took_is : (start : ℕ) (given : List Bool) (may_begin : Bool) (frame : FrameValue) {s : ℕ} {f : FrameValue}
+    (unused : ℕ) → Took start frame ≡ Took s f → IsTakeOf (Take start given may_begin) s f
+took_is start given may_begin frame {s} {f} unused e = let same : start ≡ s =
+    cc e in record { given = given; may_begin = may_begin; is = ap (λ n. Take n given may_begin) same }
 
-course_took : {at s : ℕ} {f : FrameValue} {before : List ErrorEvent} {phase next : Phase} {pairs : List Pair} {events : List ErrorEvent} {outcome : Outcome} →
+course_took : {at s : ℕ} {f : FrameValue} {before : List ErrorEvent} {phase next : Phase} {pairs : List Pair}
+    {events : List ErrorEvent} {outcome : Outcome} →
     Course at before phase pairs events outcome next → outcome ≡ Took s f → IsTakeOf phase s f
 course_took (synced broken b) e = absurd (cc e)
 course_took (woken n) e = absurd (cc e)
@@ -157,7 +184,8 @@ course_took (lost start given frame driven seen bit place) e = absurd (cc e)
 course_took (stuff_lost start given frame driven seen bit place) e = absurd (cc e)
 course_took (unacknowledged start given frame driven seen bit) e = absurd (cc e)
 course_took (bit_differs start given frame driven seen level bit no_loss no_stuff) e = absurd (cc e)
-course_took (took start given may_begin levels pairs events frame reads front) e = took_is start given may_begin frame 0 e
+course_took (took start given may_begin levels pairs events frame reads front) e =
+    took_is start given may_begin frame 0 e
 course_took (spoiled start given may_begin levels level pairs events kind reads fault) e = absurd (cc e)
 course_took quiet_end e = absurd (cc e)
 course_took late_overload e = absurd (cc e)
@@ -175,7 +203,8 @@ course_took waited e = absurd (cc e)
 course_took (overtaken k below) e = absurd (cc e)
 course_took (recovered text whole) e = absurd (cc e)
 
-was_take : {at s : ℕ} {f : FrameValue} {before : List ErrorEvent} {phase next : Phase} {pairs : List Pair} {events : List ErrorEvent} {outcome : Outcome} →
+was_take : {at s : ℕ} {f : FrameValue} {before : List ErrorEvent} {phase next : Phase} {pairs : List Pair}
+    {events : List ErrorEvent} {outcome : Outcome} →
     Episode at before phase pairs events outcome next → outcome ≡ Took s f → IsTakeOf phase s f
 was_take (begun n frame is on) e = absurd (cc e)
 was_take (joined start given frame is on) e = absurd (cc e)
@@ -184,13 +213,15 @@ was_take (off_within pair event goes on more off) e = absurd (cc e)
 was_take (off_at_end pair event goes on course off) e = absurd (cc e)
 
 -- each frame that a history tells as taken is that of a take
-pub told_take : (past : Past) (end start : ℕ) (frame : FrameValue) → IsHistory past → Contains past.outcomes (end, Took start frame) → IsTake past start end (Took start frame)
+pub told_take : (past : Past) (end start : ℕ) (frame : FrameValue) → IsHistory past →
+    Contains past.outcomes (end, Took start frame) → IsTake past start end (Took start frame)
 told_take past end start frame h c =
     let f = find past end (Took start frame) h c in
     let s = was_take f.here.episode refl in
     let here = subst (λ phase. HasEpisode past f.done phase f.pairs f.events (Took start frame) f.next) s.is f.here in
     let r = read here.episode refl in
-    let text = heard past f.done _ f.next f.pairs f.events _ start s.given r.levels here (starts here.whole) r.samples in
+    let text = heard past f.done _ f.next f.pairs f.events _ start s.given r.levels here
+        (starts here.whole) r.samples in
     let p = parts frame (s.given ++ r.levels) r.front in
     record {
       given = s.given;

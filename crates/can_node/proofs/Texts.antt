@@ -1,5 +1,7 @@
 -- What a node samples of a frame from its SOF on.
-use Rattle.std.proofs.Common.{◌≡◌, ℕ, ◌+◌, Bool, true, false, List, [], ◌∷◌, ◌++◌, length, refl, sym, ap, subst, arith, ◌∙◌}
+use Rattle.std.proofs.Common.{
+  ◌≡◌, ℕ, ◌+◌, Bool, true, false, List, [], ◌∷◌, ◌++◌, length, refl, sym, ap, subst, arith, ◌∙◌,
+}
 use Rattle.std.proofs.lemmas.List.{append_assoc, append-nil, map-append, length-append, length-map, length-replicate}
 use Rattle.can_frame.specs.Frames.{FrameValue, IsFrameValue}
 use Rattle.can_frame.proofs.Spellings.{one_spelling, slot_stands_alone}
@@ -16,7 +18,11 @@ use Rattle.can_node.specs.Takes.Reads.{no_slot, with_slot}
 use Rattle.can_node.specs.Phases.{Phase, flag_of}
 use Rattle.can_node.specs.Phases.Phase.{Send, Take}
 use Rattle.can_node.specs.Episodes.{Course, Episode}
-use Rattle.can_node.specs.Episodes.Course.{synced, woken, completed, lost, stuff_lost, unacknowledged, bit_differs, took, spoiled, quiet_end, late_overload, flagged, overload_flagged, passive_flagged, delimited, cut_short, overloaded, rested, rested_sender, pressed, hurried, waited, overtaken, recovered}
+use Rattle.can_node.specs.Episodes.Course.{
+  synced, woken, completed, lost, stuff_lost, unacknowledged, bit_differs, took, spoiled, quiet_end, late_overload,
+  flagged, overload_flagged, passive_flagged, delimited, cut_short, overloaded, rested, rested_sender, pressed,
+  hurried, waited, overtaken, recovered,
+}
 use Rattle.can_node.specs.Episodes.Episode.{begun, joined, ends, off_within, off_at_end}
 use Rattle.can_node.specs.Histories.{Past, Whole, with_episode}
 use Rattle.can_node.specs.Histories.Whole.{switched_on, then}
@@ -39,7 +45,8 @@ sampled_driving (d ∷ ds) (l ∷ ls) e = ap (λ t. l ∷ t) (sampled_driving ds
 pub sampled_append : (p q : List Pair) → sampled_in (p ++ q) ≡ sampled_in p ++ sampled_in q
 sampled_append p q = map-append (λ (pair : Pair). pair.sampled) p q
 
-pub reads_samples : {given levels : List Bool} {pairs : List Pair} {events : List ErrorEvent} → Reads given levels pairs events → sampled_in pairs ≡ levels
+pub reads_samples : {given levels : List Bool} {pairs : List Pair} {events : List ErrorEvent} →
+    Reads given levels pairs events → sampled_in pairs ≡ levels
 reads_samples (no_slot levels none) = sampled_listening levels
 reads_samples (with_slot before more slot is) =
     ap sampled_in (append_assoc (listening before) (dominating (slot ∷ [])) (listening more))
@@ -48,11 +55,13 @@ reads_samples (with_slot before more slot is) =
     ∙ ap (λ t. before ++ slot ∷ t) (sampled_listening more)
 
 -- a completed send has driven as many levels as it sampled
-pub send_lengths : (frame : FrameValue) (given driven sampled : List Bool) → IsSend frame given driven sampled → length driven ≡ length sampled
+pub send_lengths : (frame : FrameValue) (given driven sampled : List Bool) → IsSend frame given driven sampled →
+    length driven ≡ length sampled
 send_lengths frame given driven sampled send =
     let s = slot_stands_alone frame _ true false (given ++ driven) send.drives in
     let same = one_spelling frame _ false (given ++ sampled) (s.0 ++ false ∷ _) send.samples s.2 in
-    omega (arith, ap length s.1, ap length same, length-append given driven, length-append given sampled, length-append s.0)
+    omega (arith, ap length s.1, ap length same, length-append given driven, length-append given sampled,
+        length-append s.0)
 
 -- from the bit `start` on a node with this past sampled these levels, up to its end
 pub record From (past : Past) (start : ℕ) (text : List Bool) : Type 0 where
@@ -74,7 +83,8 @@ flag_starts past Passive owed role = tt
 flag_starts past Off owed role = tt
 
 -- more levels
-pub from_more : (past : Past) (start : ℕ) (given levels : List Bool) (pairs : List Pair) (after : Past) → From past start given → sampled_in pairs ≡ levels → after.first ≡ past.first → after.pairs ≡ past.pairs ++ pairs →
+pub from_more : (past : Past) (start : ℕ) (given levels : List Bool) (pairs : List Pair) (after : Past) →
+    From past start given → sampled_in pairs ≡ levels → after.first ≡ past.first → after.pairs ≡ past.pairs ++ pairs →
     From after start (given ++ levels)
 from_more past start given levels pairs after h e first more = record {
   before = h.before;
@@ -84,29 +94,41 @@ from_more past start given levels pairs after h e first more = record {
   start_is = h.start_is ∙ ap (λ n. n + length h.before) (sym first);
 }
 
-pub sof_place : (first n : ℕ) (pairs : List Pair) (now : ℕ) → now ≡ first → first + length pairs + n ≡ now + length (pairs ++ listening (recessive n))
-sof_place first n pairs now e = omega (arith, e, length-append pairs (listening (recessive n)), length-map {B = Pair} (recessive n) (λ (l : Bool). record { driven = true; sampled = l }), length-replicate n true)
+pub sof_place : (first n : ℕ) (pairs : List Pair) (now : ℕ) → now ≡ first →
+    first + length pairs + n ≡ now + length (pairs ++ listening (recessive n))
+sof_place first n pairs now e =
+    omega (arith, e, length-append pairs (listening (recessive n)),
+    length-map {B = Pair} (recessive n) (λ (l : Bool). record { driven = true; sampled = l }), length-replicate n true)
 
 -- SOF behind n recessive levels
-sof_behind : (past : Past) (n : ℕ) (after : Past) → after.first ≡ past.first → after.pairs ≡ past.pairs ++ listening (recessive n ++ false ∷ []) → From after (past.first + length past.pairs + n) (false ∷ [])
+sof_behind : (past : Past) (n : ℕ) (after : Past) → after.first ≡ past.first →
+    after.pairs ≡ past.pairs ++ listening (recessive n ++ false ∷ []) →
+    From after (past.first + length past.pairs + n) (false ∷ [])
 sof_behind past n after first is = record {
   before = past.pairs ++ listening (recessive n);
   during = record { driven = true; sampled = false } ∷ [];
-  pairs_are = is ∙ ap (λ p. past.pairs ++ p) (map-append (λ (l : Bool). record { driven = true; sampled = l }) (recessive n) (false ∷ [])) ∙ sym (append_assoc past.pairs (listening (recessive n)) _);
+  pairs_are = is ∙ ap (λ p. past.pairs ++ p)
+      (map-append (λ (l : Bool). record { driven = true; sampled = l }) (recessive n) (false ∷ []))
+      ∙ sym (append_assoc past.pairs (listening (recessive n)) _);
   text_is = refl;
   start_is = sof_place past.first n past.pairs after.first first;
 }
 
 -- where an episode leads to the beginning of a send or a take, that is what it sampled from there on
-course_starts : (past : Past) {phase next : Phase} {pairs : List Pair} {events : List ErrorEvent} {outcome : Outcome} → Starts past phase →
-    Course (past.first + length past.pairs) past.events phase pairs events outcome next → Starts (with_episode past phase pairs events outcome) next
+course_starts : (past : Past) {phase next : Phase} {pairs : List Pair} {events : List ErrorEvent} {outcome : Outcome} →
+    Starts past phase →
+    Course (past.first + length past.pairs) past.events phase pairs events outcome next →
+        Starts (with_episode past phase pairs events outcome) next
 course_starts past h (synced broken b) = tt
 course_starts past h (woken n) = sof_behind past n _ refl refl
 course_starts past h (completed start given frame driven sampled send) = tt
 course_starts past h (lost start given frame driven seen bit place) =
-    subst (From (with_episode past (Send start given frame) (driving driven seen ++ record { driven = true; sampled = false } ∷ []) [] Lost) start) (sym (append_assoc given seen (false ∷ [])))
+    subst (From (with_episode past (Send start given frame)
+        (driving driven seen ++ record { driven = true; sampled = false } ∷ []) [] Lost) start)
+        (sym (append_assoc given seen (false ∷ [])))
     (from_more past start given (seen ++ false ∷ []) _ _ h.0
-    (sampled_append (driving driven seen) _ ∙ ap (λ t. t ++ false ∷ []) (sampled_driving driven seen bit.same_place)) refl refl)
+    (sampled_append (driving driven seen) _ ∙ ap (λ t. t ++ false ∷ []) (sampled_driving driven seen bit.same_place))
+        refl refl)
 course_starts past h (stuff_lost start given frame driven seen bit place) = flag_starts _ _ _ _
 course_starts past h (unacknowledged start given frame driven seen bit) = flag_starts _ _ _ _
 course_starts past h (bit_differs start given frame driven seen level bit no_loss no_stuff) = flag_starts _ _ _ _
@@ -128,8 +150,10 @@ course_starts past h waited = tt
 course_starts past h (overtaken k below) = sof_behind past k _ refl refl
 course_starts past h (recovered text whole) = tt
 
-episode_starts : (past : Past) {phase next : Phase} {pairs : List Pair} {events : List ErrorEvent} {outcome : Outcome} → Starts past phase →
-    Episode (past.first + length past.pairs) past.events phase pairs events outcome next → Starts (with_episode past phase pairs events outcome) next
+episode_starts : (past : Past) {phase next : Phase} {pairs : List Pair} {events : List ErrorEvent} {outcome : Outcome} →
+    Starts past phase →
+    Episode (past.first + length past.pairs) past.events phase pairs events outcome next →
+        Starts (with_episode past phase pairs events outcome) next
 episode_starts past h (begun n frame is on) = (
   record {
     before = past.pairs ++ listening (recessive n);

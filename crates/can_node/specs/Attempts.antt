@@ -12,7 +12,8 @@ use Rattle.can_node.specs.Node.{with_begin, IsSending}
 use Rattle.can_node.specs.Cuts.{HasLast, IsAttempt}
 
 -- the bit at which an attempt drives its first level
-abbrev pub first_bit : {past : Past} {start : ℕ} {frame : FrameValue} {state : ErrorState} {end : ℕ} {outcome : Outcome} →
+abbrev pub first_bit : {past : Past} {start : ℕ} {frame : FrameValue} {state : ErrorState} {end : ℕ}
+    {outcome : Outcome} →
     IsAttempt past start frame state end outcome → ℕ
 first_bit attempt = attempt.done.first + length attempt.done.pairs
 
@@ -35,7 +36,8 @@ pub record IsOpenAttempt (past : Past) (bit : ℕ) (frame : FrameValue) : Type 0
   pub here : HasLast past done (Send start given frame) part counting
   pub first_is : done.first + length done.pairs ≡ bit
 
--- From one bit to another a node does nothing but send one frame: it is begun at the first of these bits, what becomes of
+-- From one bit to another a node does nothing but send one frame: it is begun at the first of these bits, what becomes
+-- of
 -- it is told at the last, and nothing else is begun or told between.
 pub record SendsAlone (past : Past) (first end : ℕ) (frame : FrameValue) (outcome : Outcome) : Type 0 where
   pub in_order : first ≤ end
@@ -56,11 +58,15 @@ OpenAttemptsTellNothing = (past : Past) (first : ℕ) (frame : FrameValue) → I
 
 -- what a node begins to send becomes an attempt, or goes on where the history ends
 abbrev pub FramesBegunAreAttempts : Type 0
-FramesBegunAreAttempts = (past : Past) (bit : ℕ) (frame : FrameValue) → IsHistory past → Contains past.begun (bit, frame) →
+FramesBegunAreAttempts = (past : Past) (bit : ℕ) (frame : FrameValue) → IsHistory past →
+    Contains past.begun (bit, frame) →
     IsAttemptFrom past bit frame ⊎ IsOpenAttempt past bit frame
 
 -- The start of an attempt is the SOF that the node told when it began, in whatever cutting of its history up to there.
 abbrev pub StartsAreSofs : Type 0
-StartsAreSofs = (past before : Past) (more : List Pair) (start sof end : ℕ) (frame begun : FrameValue) (state : ErrorState) (outcome : Outcome) →
-    (attempt : IsAttempt past start frame state end outcome) → past.first ≡ before.first → past.pairs ≡ before.pairs ++ more →
-    first_bit attempt ≡ before.first + length before.pairs → IsSending (with_begin before begun) (Some sof) → sof ≡ start
+StartsAreSofs = (past before : Past) (more : List Pair) (start sof end : ℕ) (frame begun : FrameValue)
+    (state : ErrorState) (outcome : Outcome) →
+    (attempt : IsAttempt past start frame state end outcome) → past.first ≡ before.first →
+    past.pairs ≡ before.pairs ++ more →
+    first_bit attempt ≡ before.first + length before.pairs → IsSending (with_begin before begun) (Some sof) →
+    sof ≡ start

@@ -1,5 +1,8 @@
 -- Of two attempts of one request of a controller the earlier one failed, and did not end the request.
-use Rattle.std.proofs.Common.{◌≡◌, inl, inr, ◌⊎◌, ℕ, zero, suc, ◌+◌, ◌<◌, ◌≤◌, Bool, true, Option, Some, None, List, [], ◌∷◌, ◌++◌, length, map, take, slice_get, refl, sym, ap, subst, arith, ◌∙◌}
+use Rattle.std.proofs.Common.{
+  ◌≡◌, inl, inr, ◌⊎◌, ℕ, zero, suc, ◌+◌, ◌<◌, ◌≤◌, Bool, true, Option, Some, None, List, [], ◌∷◌, ◌++◌, length, map,
+  take, slice_get, refl, sym, ap, subst, arith, ◌∙◌,
+}
 use Rattle.std.specs.Prelude.{option_and_then}
 use Rattle.std.proofs.lemmas.Bool.{cases_lt}
 use Rattle.std.proofs.lemmas.Bool.Decides.{eqb_tells}
@@ -24,9 +27,13 @@ use Rattle.can_segment.specs.declared.plan.Controller.{Controller}
 use Rattle.can_segment.specs.declared.plan.SegmentPlan.{SegmentPlan}
 use Rattle.can_segment.specs.declared.plan.Talker.{Talker}
 use Rattle.can_segment.specs.declared.sent.Sent.{Sent}
-use Rattle.can_segment.specs.Attempts.{IsPastOf, act_at, begun_at, sending_at, outcome_at, reaped_at, request_at, IsTold, RequestsTryFailures}
+use Rattle.can_segment.specs.Attempts.{
+  IsPastOf, act_at, begun_at, sending_at, outcome_at, reaped_at, request_at, IsTold, RequestsTryFailures,
+}
 use Rattle.can_segment.specs.Brought.{StartsUndone, told_of, start_in, sent_in, reaped_in, all_in, grown}
-use Rattle.can_segment.specs.Tells.{told_start, told_outcome, told_reaped, starts_of, rest_of, lines, lines_from, events_at}
+use Rattle.can_segment.specs.Tells.{
+  told_start, told_outcome, told_reaped, starts_of, rest_of, lines, lines_from, events_at,
+}
 use Rattle.can_segment.specs.Traces.{Act, Bit, act_of, sending_of, sending_now, ends_sending, is_failure}
 use Rattle.can_segment.specs.Runs.{Run, IsBit, firsts}
 use Rattle.can_segment.specs.Runs.Run.{no_bit, one_more}
@@ -37,75 +44,95 @@ use Rattle.can_segment.proofs.OneLine.{same_found}
 use Rattle.can_segment.proofs.Retries.{fails}
 
 -- what the lines of a bit tell of a node
-from_other : (tells : ℕ → List Told) (bit first count node : ℕ) → node < first → told_of node (lines_from tells bit first count) ≡ []
+from_other : (tells : ℕ → List Told) (bit first count node : ℕ) → node < first →
+    told_of node (lines_from tells bit first count) ≡ []
 from_other tells bit first zero node h = refl
 from_other tells bit first (suc more) node h =
     of-append node (lines bit first (tells first)) (lines_from tells bit (suc first) more)
-    ∙ ap (λ ts. ts ++ told_of node (lines_from tells bit (suc first) more)) (of-other node bit first (tells first) (λ e. omega (arith, e, h)))
+    ∙ ap (λ ts. ts ++ told_of node (lines_from tells bit (suc first) more))
+        (of-other node bit first (tells first) (λ e. omega (arith, e, h)))
     ∙ from_other tells bit (suc first) more node (omega (arith, h))
 
-from_own : (tells : ℕ → List Told) (bit first count node : ℕ) → first ≤ node → node < first + count → told_of node (lines_from tells bit first count) ≡ tells node
+from_own : (tells : ℕ → List Told) (bit first count node : ℕ) → first ≤ node → node < first + count →
+    told_of node (lines_from tells bit first count) ≡ tells node
 from_own tells bit first zero node low high = absurd (omega (arith, low, high))
 from_own tells bit first (suc more) node low high = elim (eqb_tells first node) [
   | inl same ↦ of-append node (lines bit first (tells first)) (lines_from tells bit (suc first) more)
-      ∙ ap (λ ts. ts ++ told_of node (lines_from tells bit (suc first) more)) (ap (λ n. told_of node (lines bit n (tells n))) same.1 ∙ of-same node bit (tells node))
+      ∙ ap (λ ts. ts ++ told_of node (lines_from tells bit (suc first) more))
+          (ap (λ n. told_of node (lines bit n (tells n))) same.1 ∙ of-same node bit (tells node))
       ∙ ap (λ ts. tells node ++ ts) (from_other tells bit (suc first) more node (omega (arith, same.1)))
       ∙ append-nil (tells node)
   | inr other ↦ of-append node (lines bit first (tells first)) (lines_from tells bit (suc first) more)
-      ∙ ap (λ ts. ts ++ told_of node (lines_from tells bit (suc first) more)) (of-other node bit first (tells first) other.1)
+      ∙ ap (λ ts. ts ++ told_of node (lines_from tells bit (suc first) more))
+          (of-other node bit first (tells first) other.1)
       ∙ from_own tells bit (suc first) more node (let ne = other.1 in omega (arith, low, ne)) (omega (arith, high))
 ]
 
 bit_tells : (node : ℕ) (trace : List Bit) (bit : Bit) → node < length bit.acts →
-    told_of node (events_at trace bit) ≡ starts_of (act_of node bit) ++ rest_of (sending_of node trace) (act_of node bit)
+    told_of node (events_at trace bit) ≡ starts_of (act_of node bit)
+        ++ rest_of (sending_of node trace) (act_of node bit)
 bit_tells node trace bit within =
     let starts = λ (k : ℕ). starts_of (act_of k bit) in
     let rest = λ (k : ℕ). rest_of (sending_of k trace) (act_of k bit) in
-    of-append node (lines_from starts (length trace) 0 (length bit.acts)) (lines_from rest (length trace) 0 (length bit.acts))
-    ∙ ap (λ ts. ts ++ told_of node (lines_from rest (length trace) 0 (length bit.acts))) (from_own starts (length trace) 0 (length bit.acts) node (omega arith) (omega (arith, within)))
-    ∙ ap (λ ts. starts node ++ ts) (from_own rest (length trace) 0 (length bit.acts) node (omega arith) (omega (arith, within)))
+    of-append node (lines_from starts (length trace) 0 (length bit.acts))
+        (lines_from rest (length trace) 0 (length bit.acts))
+    ∙ ap (λ ts. ts ++ told_of node (lines_from rest (length trace) 0 (length bit.acts)))
+        (from_own starts (length trace) 0 (length bit.acts) node (omega arith) (omega (arith, within)))
+    ∙ ap (λ ts. starts node ++ ts)
+        (from_own rest (length trace) 0 (length bit.acts) node (omega arith) (omega (arith, within)))
 
 -- what is told of a node at a bit of a trace, and at all bits before one
 told_bit : ℕ → List Bit → ℕ → List Told
-told_bit node trace k = starts_of (act_at node trace k) ++ rest_of (sending_of node (take k trace)) (act_at node trace k)
+told_bit node trace k =
+    starts_of (act_at node trace k) ++ rest_of (sending_of node (take k trace)) (act_at node trace k)
 
 told_before : ℕ → List Bit → ℕ → List Told
 told_before node trace zero = []
 told_before node trace (suc k) = told_before node trace k ++ told_bit node trace k
 
-told_same : (node : ℕ) (trace : List Bit) (bit : Bit) (k : ℕ) → k ≤ length trace → told_before node (trace ++ bit ∷ []) k ≡ told_before node trace k
+told_same : (node : ℕ) (trace : List Bit) (bit : Bit) (k : ℕ) → k ≤ length trace →
+    told_before node (trace ++ bit ∷ []) k ≡ told_before node trace k
 unfolding told_before told_bit
 told_same node trace bit zero h = refl
 told_same node trace bit (suc k) h =
     let acts = act_before node trace bit k (omega (arith, h)) in
     let traces = take_left trace (bit ∷ []) k (omega (arith, h)) in
     ap (λ ts. ts ++ told_bit node (trace ++ bit ∷ []) k) (told_same node trace bit k (omega (arith, h)))
-    ∙ ap (λ act. told_before node trace k ++ (starts_of act ++ rest_of (sending_of node (take k (trace ++ bit ∷ []))) act)) acts
-    ∙ ap (λ t. told_before node trace k ++ (starts_of (act_at node trace k) ++ rest_of (sending_of node t) (act_at node trace k))) traces
+    ∙ ap (λ act. told_before node trace k
+        ++ (starts_of act ++ rest_of (sending_of node (take k (trace ++ bit ∷ []))) act)) acts
+    ∙ ap (λ t. told_before node trace k
+        ++ (starts_of (act_at node trace k) ++ rest_of (sending_of node t) (act_at node trace k))) traces
 
-told_run : {plan : SegmentPlan} {trace : List Bit} {levels : List Bool} {events : List Event} (node : ℕ) → Run plan trace levels events →
-    node < length plan.talkers.items + length plan.controllers.items → told_of node events ≡ told_before node trace (length trace)
+told_run : {plan : SegmentPlan} {trace : List Bit} {levels : List Bool} {events : List Event} (node : ℕ) →
+    Run plan trace levels events →
+    node < length plan.talkers.items + length plan.controllers.items →
+        told_of node events ≡ told_before node trace (length trace)
 unfolding told_before told_bit
 told_run node no_bit within = refl
 told_run node (one_more {trace = trace} {events = events} bit run is) within =
     let size : length (trace ++ bit ∷ []) ≡ suc (length trace) = omega (arith, length-append trace (bit ∷ [])) in
     let whole = take_left trace (bit ∷ []) (length trace) (omega arith) ∙ take_whole trace in
     of-append node events (events_at trace bit)
-    ∙ ap (λ ts. ts ++ told_of node (events_at trace bit)) (told_run node run within ∙ sym (told_same node trace bit (length trace) (omega arith)))
+    ∙ ap (λ ts. ts ++ told_of node (events_at trace bit))
+        (told_run node run within ∙ sym (told_same node trace bit (length trace) (omega arith)))
     ∙ ap (λ ts. told_before node (trace ++ bit ∷ []) (length trace) ++ ts)
     (bit_tells node trace bit (omega (arith, within, is.each))
     ∙ ap (λ t. starts_of (act_of node bit) ++ rest_of (sending_of node t) (act_of node bit)) (sym whole)
-    ∙ ap (λ act. starts_of act ++ rest_of (sending_of node (take (length trace) (trace ++ bit ∷ []))) act) (sym (act_last node trace bit (length trace) refl)))
+    ∙ ap (λ act. starts_of act ++ rest_of (sending_of node (take (length trace) (trace ++ bit ∷ []))) act)
+        (sym (act_last node trace bit (length trace) refl)))
     ∙ sym (ap (told_before node (trace ++ bit ∷ [])) size)
 
 -- what holds of lines in a row holds of each part
-undone_parts : (past : BusPast) (xs ys : List Told) → StartsUndone past (xs ++ ys) → StartsUndone past xs × StartsUndone (grown past xs) ys
+undone_parts : (past : BusPast) (xs ys : List Told) → StartsUndone past (xs ++ ys) →
+    StartsUndone past xs × StartsUndone (grown past xs) ys
 undone_parts past [] ys h = (tt, subst (λ p. StartsUndone p ys) (sym (grown-nil past)) h)
 undone_parts past (x ∷ xs) ys h =
     let rest = undone_parts (grown past (x ∷ [])) xs ys h.1 in
     ((h.0, rest.0), subst (λ p. StartsUndone p ys) (sym (grown-append past (x ∷ []) xs)) rest.1)
 
-undone_at : (past : BusPast) (node : ℕ) (trace : List Bit) (n k : ℕ) → k < n → StartsUndone past (told_before node trace n) → StartsUndone (grown past (told_before node trace k)) (told_bit node trace k)
+undone_at : (past : BusPast) (node : ℕ) (trace : List Bit) (n k : ℕ) → k < n →
+    StartsUndone past (told_before node trace n) →
+    StartsUndone (grown past (told_before node trace k)) (told_bit node trace k)
 unfolding told_before
 undone_at past node trace zero k less h = absurd (omega (arith, less))
 undone_at past node trace (suc n) k less h =
@@ -117,50 +144,67 @@ undone_at past node trace (suc n) k less h =
     ]
 
 -- what a bit names is among what all bits before a later one name
-among : {X : Type 0} (names : Told → List X) (node : ℕ) (trace : List Bit) (k bit : ℕ) (x : X) → bit < k → Has (all_in names (told_bit node trace bit)) x → Has (all_in names (told_before node trace k)) x
+among : {X : Type 0} (names : Told → List X) (node : ℕ) (trace : List Bit) (k bit : ℕ) (x : X) → bit < k →
+    Has (all_in names (told_bit node trace bit)) x → Has (all_in names (told_before node trace k)) x
 unfolding told_before
 among names node trace zero bit x less has = absurd (omega (arith, less))
 among names node trace (suc k) bit x less has =
     subst (λ xs. Has xs x) (sym (all-append names (told_before node trace k) (told_bit node trace k)))
     (elim (cases_lt bit k) [
-      | inl earlier ↦ has-left (all_in names (told_before node trace k)) (all_in names (told_bit node trace k)) x (among names node trace k bit x earlier has)
+      | inl earlier ↦ has-left (all_in names (told_before node trace k)) (all_in names (told_bit node trace k)) x
+          (among names node trace k bit x earlier has)
       | inr last ↦ (let now : bit ≡ k = omega (arith, last, less) in
-          has-right (all_in names (told_before node trace k)) (all_in names (told_bit node trace k)) x (subst (λ m. Has (all_in names (told_bit node trace m)) x) now has))
+          has-right (all_in names (told_before node trace k)) (all_in names (told_bit node trace k)) x
+              (subst (λ m. Has (all_in names (told_bit node trace m)) x) now has))
     ])
 
 -- the lines of a bit at which a request is begun, is sent, or is reaped
-begun_told : (node : ℕ) (trace : List Bit) (k : ℕ) (act : Act) (sent : Sent) (label : Label) (past : BusPast) → act_at node trace k ≡ Some act → act.begun ≡ Some sent → sent.label ≡ Some label →
+begun_told : (node : ℕ) (trace : List Bit) (k : ℕ) (act : Act) (sent : Sent) (label : Label) (past : BusPast) →
+    act_at node trace k ≡ Some act → act.begun ≡ Some sent → sent.label ≡ Some label →
     StartsUndone past (told_bit node trace k) → IsUndone past (label.route, label.number, sent.frame)
 unfolding told_bit
 begun_told node trace k act sent label past act_is begun labelled h =
-    let line : told_bit node trace k ≡ (told.Started sent.frame (Some label) ∷ []) ++ rest_of (sending_of node (take k trace)) (act_at node trace k) =
+    let line : told_bit node trace k ≡ (told.Started sent.frame (Some label) ∷ [])
+        ++ rest_of (sending_of node (take k trace)) (act_at node trace k) =
     ap (λ a. starts_of a ++ rest_of (sending_of node (take k trace)) (act_at node trace k)) act_is
     ∙ ap (λ b. told_start b ++ rest_of (sending_of node (take k trace)) (act_at node trace k)) begun
-    ∙ ap (λ l. (told.Started sent.frame l ∷ []) ++ rest_of (sending_of node (take k trace)) (act_at node trace k)) labelled in
+    ∙ ap (λ l. (told.Started sent.frame l ∷ []) ++ rest_of (sending_of node (take k trace)) (act_at node trace k))
+        labelled in
     (subst (StartsUndone past) line h).0.0
 
-rest_told : {X : Type 0} (names : Told → List X) (node : ℕ) (trace : List Bit) (k : ℕ) (act : Act) (x : X) → act_at node trace k ≡ Some act →
-    Has (all_in names (told_outcome (sending_now (sending_of node (take k trace)) act.begun) act.outcome ++ told_reaped act.reaped)) x → Has (all_in names (told_bit node trace k)) x
+rest_told : {X : Type 0} (names : Told → List X) (node : ℕ) (trace : List Bit) (k : ℕ) (act : Act) (x : X) →
+    act_at node trace k ≡ Some act →
+    Has (all_in names (told_outcome (sending_now (sending_of node (take k trace)) act.begun) act.outcome
+        ++ told_reaped act.reaped)) x → Has (all_in names (told_bit node trace k)) x
 unfolding told_bit
 rest_told names node trace k act x act_is has =
-    subst (λ xs. Has xs x) (sym (all-append names (starts_of (act_at node trace k)) (rest_of (sending_of node (take k trace)) (act_at node trace k))))
+    subst (λ xs. Has xs x)
+        (sym (all-append names (starts_of (act_at node trace k))
+        (rest_of (sending_of node (take k trace)) (act_at node trace k))))
     (has-right (all_in names (starts_of (act_at node trace k))) _ x
     (subst (λ a. Has (all_in names (rest_of (sending_of node (take k trace)) a)) x) (sym act_is) has))
 
-sending_by : (node : ℕ) (trace : List Bit) (k : ℕ) (act : Act) (sent : Sent) → act_at node trace k ≡ Some act → sending_at node trace k ≡ Some sent → sending_now (sending_of node (take k trace)) act.begun ≡ Some sent
-sending_by node trace k act sent act_is sends = ap (sending_now (sending_of node (take k trace))) (sym (begun_by node trace k act act_is)) ∙ sends
+sending_by : (node : ℕ) (trace : List Bit) (k : ℕ) (act : Act) (sent : Sent) → act_at node trace k ≡ Some act →
+    sending_at node trace k ≡ Some sent → sending_now (sending_of node (take k trace)) act.begun ≡ Some sent
+sending_by node trace k act sent act_is sends =
+    ap (sending_now (sending_of node (take k trace))) (sym (begun_by node trace k act act_is)) ∙ sends
 
-sent_told : (node : ℕ) (trace : List Bit) (k : ℕ) (act : Act) (sent : Sent) (label : Label) → act_at node trace k ≡ Some act → act.outcome ≡ Completed → sending_at node trace k ≡ Some sent → sent.label ≡ Some label →
+sent_told : (node : ℕ) (trace : List Bit) (k : ℕ) (act : Act) (sent : Sent) (label : Label) →
+    act_at node trace k ≡ Some act → act.outcome ≡ Completed → sending_at node trace k ≡ Some sent →
+    sent.label ≡ Some label →
     Has (all_in sent_in (told_bit node trace k)) (label.route, label.number, sent.frame)
 sent_told node trace k act sent label act_is outcome sends labelled =
-    let P : List Told → Type 0 = λ ts. Has (all_in sent_in (ts ++ told_reaped act.reaped)) (label.route, label.number, sent.frame) in
-    let line : told_outcome (sending_now (sending_of node (take k trace)) act.begun) act.outcome ≡ told.Completed sent.start sent.frame (Some label) ∷ [] =
+    let P : List Told → Type 0 =
+        λ ts. Has (all_in sent_in (ts ++ told_reaped act.reaped)) (label.route, label.number, sent.frame) in
+    let line : told_outcome (sending_now (sending_of node (take k trace)) act.begun) act.outcome ≡ told.Completed
+        sent.start sent.frame (Some label) ∷ [] =
     ap (λ o. told_outcome (sending_now (sending_of node (take k trace)) act.begun) o) outcome
     ∙ ap (λ s. told_outcome s Completed) (sending_by node trace k act sent act_is sends)
     ∙ ap (λ l. told.Completed sent.start sent.frame l ∷ []) labelled in
     rest_told sent_in node trace k act (label.route, label.number, sent.frame) act_is (subst P (sym line) (inl refl))
 
-reaped_told : (node : ℕ) (trace : List Bit) (k : ℕ) (act : Act) (label : Label) → act_at node trace k ≡ Some act → act.reaped ≡ Some label → Has (all_in reaped_in (told_bit node trace k)) (label.route, label.number)
+reaped_told : (node : ℕ) (trace : List Bit) (k : ℕ) (act : Act) (label : Label) → act_at node trace k ≡ Some act →
+    act.reaped ≡ Some label → Has (all_in reaped_in (told_bit node trace k)) (label.route, label.number)
 reaped_told node trace k act label act_is reaped =
     let outcome = told_outcome (sending_now (sending_of node (take k trace)) act.begun) act.outcome in
     rest_told reaped_in node trace k act (label.route, label.number) act_is
@@ -168,42 +212,61 @@ reaped_told node trace k act label act_is reaped =
     (has-right (all_in reaped_in outcome) (all_in reaped_in (told_reaped act.reaped)) (label.route, label.number)
     (subst (λ r. Has (all_in reaped_in (told_reaped r)) (label.route, label.number)) (sym reaped) (inl refl))))
 
-label_of_begun : (node : ℕ) (trace : List Bit) (k : ℕ) (sent : Sent) (label : Label) → begun_at node trace k ≡ Some sent → request_at node trace k ≡ Some label → sent.label ≡ Some label
-label_of_begun node trace k sent label begun labelled = sym (ap (option_and_then (λ (s : Sent). s.label)) begun) ∙ labelled
+label_of_begun : (node : ℕ) (trace : List Bit) (k : ℕ) (sent : Sent) (label : Label) →
+    begun_at node trace k ≡ Some sent → request_at node trace k ≡ Some label → sent.label ≡ Some label
+label_of_begun node trace k sent label begun labelled = sym (ap (option_and_then (λ (s : Sent). s.label)) begun)
+    ∙ labelled
 
 none_or_some : (found : Option Label) → (found ≡ None) ⊎ ((label : Label) × (found ≡ Some label))
 none_or_some None = inl refl
 none_or_some (Some label) = inr (label, refl)
 
-reaped_by : (node : ℕ) (trace : List Bit) (k : ℕ) (act : Act) → act_at node trace k ≡ Some act → reaped_at node trace k ≡ act.reaped
+reaped_by : (node : ℕ) (trace : List Bit) (k : ℕ) (act : Act) → act_at node trace k ≡ Some act →
+    reaped_at node trace k ≡ act.reaped
 reaped_by node trace k act is = ap (option_and_then (λ (a : Act). a.reaped)) is
 
-pub requests_try_failures : {plan : SegmentPlan} {trace : List Bit} {levels : List Bool} {events : List Event} → Run plan trace levels events → (node : ℕ) → StartsUndone no_bus_past (told_of node events) → RequestsTryFailures plan trace node
-requests_try_failures {plan = plan} {trace = trace} run node undone past label start end start' end' frame frame' state state' outcome outcome' p earlier later before one other =
+pub requests_try_failures : {plan : SegmentPlan} {trace : List Bit} {levels : List Bool} {events : List Event} →
+    Run plan trace levels events → (node : ℕ) → StartsUndone no_bus_past (told_of node events) →
+    RequestsTryFailures plan trace node
+requests_try_failures {plan = plan} {trace = trace} run node undone past label start end start' end' frame frame' state
+    state' outcome outcome' p earlier later before one other =
     let first = attempts_are_told run node past start end frame state outcome p earlier in
     let second = attempts_are_told run node past start' end' frame' state' outcome' p later in
     let within : node < length plan.talkers.items + length plan.controllers.items =
-    omega (arith, slice_get_within (firsts plan) node p.on p.on_is, length-append (map (λ (t : Talker). t.on) plan.talkers.items) (map (λ (c : Controller). c.on) plan.controllers.items), length-map {B = ℕ} plan.talkers.items (λ (t : Talker). t.on), length-map {B = ℕ} plan.controllers.items (λ (c : Controller). c.on)) in
+    omega (arith, slice_get_within (firsts plan) node p.on p.on_is,
+        length-append (map (λ (t : Talker). t.on) plan.talkers.items)
+        (map (λ (c : Controller). c.on) plan.controllers.items),
+        length-map {B = ℕ} plan.talkers.items (λ (t : Talker). t.on),
+        length-map {B = ℕ} plan.controllers.items (λ (c : Controller). c.on)) in
     let again = act_begins node trace (first_bit later) second.sent second.begins in
     let at = within_act node trace (first_bit later) again.0 again.1 in
-    let free : IsUndone (grown no_bus_past (told_before node trace (first_bit later))) (label.route, label.number, second.sent.frame) =
-    begun_told node trace (first_bit later) again.0 second.sent label _ again.1 again.2 (label_of_begun node trace (first_bit later) second.sent label second.begins other)
-    (undone_at no_bus_past node trace (length trace) (first_bit later) at (subst (StartsUndone no_bus_past) (told_run node run within) undone)) in
+    let free : IsUndone (grown no_bus_past (told_before node trace (first_bit later)))
+        (label.route, label.number, second.sent.frame) =
+    begun_told node trace (first_bit later) again.0 second.sent label _ again.1 again.2
+        (label_of_begun node trace (first_bit later) second.sent label second.begins other)
+    (undone_at no_bus_past node trace (length trace) (first_bit later) at
+        (subst (StartsUndone no_bus_past) (told_run node run within) undone)) in
     let labelled = label_of_begun node trace (first_bit earlier) first.sent label first.begins one in
     let ends = ap ends_sending first.outcome_is ∙ ends_it (attempt_end past start end frame state outcome earlier) in
     let act = act_ends node trace end ends in
     let done = does_at node p.on end act.0 run p.on_is act.1 in (
       fails (attempt_end past start end frame state outcome earlier) (λ is.
-          let completed : act.0.outcome ≡ Completed = sym (outcome_by node trace end act.0 act.1) ∙ first.outcome_is ∙ is in
+          let completed : act.0.outcome ≡ Completed = sym (outcome_by node trace end act.0 act.1) ∙ first.outcome_is
+              ∙ is in
           free.unsent (label.route, label.number, first.sent.frame)
-          (among sent_in node trace (first_bit later) end (label.route, label.number, first.sent.frame) before (sent_told node trace end act.0 first.sent label act.1 completed first.ends labelled)) refl),
+          (among sent_in node trace (first_bit later) end (label.route, label.number, first.sent.frame) before
+              (sent_told node trace end act.0 first.sent label act.1 completed first.ends labelled)) refl),
       elim (none_or_some act.0.reaped) [
         | inl none ↦ reaped_by node trace end act.0 act.1 ∙ none
         | inr some ↦ absurd (
             let r = done.reaps some.0 some.1 in
-            let same : r.sent ≡ first.sent = same_found r.sent first.sent (sym r.sends ∙ sending_by node trace end act.0 first.sent act.1 first.ends) in
-            let its : some.0 ≡ label = same_found some.0 label (sym r.is_its_label ∙ ap (λ (s : Sent). s.label) same ∙ labelled) in
+            let same : r.sent ≡ first.sent =
+                same_found r.sent first.sent (sym r.sends ∙ sending_by node trace end act.0 first.sent act.1 first.ends)
+                in
+            let its : some.0 ≡ label =
+                same_found some.0 label (sym r.is_its_label ∙ ap (λ (s : Sent). s.label) same ∙ labelled) in
             free.unreaped (among reaped_in node trace (first_bit later) end (label.route, label.number) before
-            (subst (λ (l : Label). Has (all_in reaped_in (told_bit node trace end)) (l.route, l.number)) its (reaped_told node trace end act.0 some.0 act.1 some.1))))
+            (subst (λ (l : Label). Has (all_in reaped_in (told_bit node trace end)) (l.route, l.number)) its
+                (reaped_told node trace end act.0 some.0 act.1 some.1))))
       ],
     )

@@ -1,5 +1,8 @@
 -- Of two attempts of one request the earlier one failed.
-use Rattle.std.proofs.Common.{◌≡◌, ℕ, zero, suc, ◌+◌, ◌<◌, ◌≤◌, Bool, true, List, [], ◌∷◌, fold, length, take, slice_get, refl, ap, subst, arith, ◌∙◌}
+use Rattle.std.proofs.Common.{
+  ◌≡◌, ℕ, zero, suc, ◌+◌, ◌<◌, ◌≤◌, Bool, true, List, [], ◌∷◌, fold, length, take, slice_get, refl, ap, subst, arith,
+  ◌∙◌,
+}
 use Rattle.std.specs.List.{Contains}
 use Rattle.can_node.specs.declared.outcome.Outcome.{Outcome}
 use Rattle.can_node.specs.declared.outcome.Outcome.TheVariants.{Completed}
@@ -21,7 +24,8 @@ count : ℕ → List Bit → ℕ
 count k [] = 0
 count k (bit ∷ trace) = completed_in (act_of k bit) + count k trace
 
-count_from : (k : ℕ) (trace : List Bit) (n : ℕ) → fold (λ m bit. m + completed_in (act_of k bit)) n trace ≡ n + count k trace
+count_from : (k : ℕ) (trace : List Bit) (n : ℕ) →
+    fold (λ m bit. m + completed_in (act_of k bit)) n trace ≡ n + count k trace
 unfolding count
 count_from k [] n = omega arith
 count_from k (bit ∷ trace) n = omega (arith, count_from k trace (n + completed_in (act_of k bit)))
@@ -35,9 +39,11 @@ counted k (w ∷ trace) zero zero zero a b one = absurd (omega (arith, b))
 counted k (w ∷ trace) zero zero (suc to) a b one = omega (arith, one)
 counted k (w ∷ trace) (suc from) zero to a b one = absurd (omega (arith, a))
 counted k (w ∷ trace) zero (suc end) zero a b one = absurd (omega (arith, b))
-counted k (w ∷ trace) zero (suc end) (suc to) a b one = omega (arith, counted k trace zero end to (omega arith) (omega (arith, b)) one)
+counted k (w ∷ trace) zero (suc end) (suc to) a b one =
+    omega (arith, counted k trace zero end to (omega arith) (omega (arith, b)) one)
 counted k (w ∷ trace) (suc from) (suc end) zero a b one = absurd (omega (arith, b))
-counted k (w ∷ trace) (suc from) (suc end) (suc to) a b one = omega (arith, counted k trace from end to (omega (arith, a)) (omega (arith, b)) one)
+counted k (w ∷ trace) (suc from) (suc end) (suc to) a b one =
+    omega (arith, counted k trace from end to (omega (arith, a)) (omega (arith, b)) one)
 
 pub fails : {outcome : Outcome} → IsEnd outcome → (outcome ≡ Completed → ⊥) → is_failure outcome ≡ true
 fails is_completed no_end = absurd (no_end refl)
@@ -45,14 +51,20 @@ fails is_lost no_end = refl
 fails (is_error kind) no_end = refl
 fails is_off no_end = refl
 
-pub talkers_try_failures : {plan : SegmentPlan} {trace : List Bit} {levels : List Bool} {events : List Event} → Run plan trace levels events → TalkersTryFailures plan trace
-talkers_try_failures {trace = trace} run node talker past start end start' end' frame frame' state state' outcome outcome' planned p earlier later before same =
+pub talkers_try_failures : {plan : SegmentPlan} {trace : List Bit} {levels : List Bool} {events : List Event} →
+    Run plan trace levels events → TalkersTryFailures plan trace
+talkers_try_failures {trace = trace} run node talker past start end start' end' frame frame' state state' outcome
+    outcome' planned p earlier later before same =
     fails (attempt_end past start end frame state outcome earlier) (λ is.
-    let done : IsAttempt past start frame state end Completed = subst (IsAttempt past start frame state end) is earlier in
-    let first : earlier.done.first + length earlier.done.pairs ≤ end = first_no_later past start end frame state outcome earlier is in
+    let done : IsAttempt past start frame state end Completed =
+        subst (IsAttempt past start frame state end) is earlier in
+    let first : earlier.done.first + length earlier.done.pairs ≤ end =
+        first_no_later past start end frame state outcome earlier is in
     let told = told_at node p.on end Completed run p.on_is
-    (subst (λ (q : Past). Contains q.outcomes (end, Completed)) p.past_is (completed_told past start end frame state done)) in
-    let one : completed_in (act_at node trace end) ≡ 1 = ap completed_in told.act_is ∙ ap completed_by told.outcome_is in
+    (subst (λ (q : Past). Contains q.outcomes (end, Completed)) p.past_is
+        (completed_told past start end frame state done)) in
+    let one : completed_in (act_at node trace end) ≡ 1 =
+        ap completed_in told.act_is ∙ ap completed_by told.outcome_is in
     let more = counted node trace (first_bit earlier) end (first_bit later) first before one in
     let a = count_from node (take (first_bit earlier) trace) 0 in
     let b = count_from node (take (first_bit later) trace) 0 in

@@ -1,5 +1,7 @@
 -- What the lines of a record tell of a node's attempts.
-use Rattle.std.specs.Prelude.{◌≡◌, ℕ, ◌<◌, ◌≤◌, Option, Some, None, true, List, length, slice_get, take, option_and_then}
+use Rattle.std.specs.Prelude.{
+  ◌≡◌, ℕ, ◌<◌, ◌≤◌, Option, Some, None, true, List, length, slice_get, take, option_and_then,
+}
 use Rattle.can_frame.specs.Frames.{FrameValue}
 use Rattle.can_node.specs.declared.confinement.ErrorState.{ErrorState}
 use Rattle.can_node.specs.declared.outcome.Outcome.{Outcome}
@@ -48,9 +50,11 @@ reaped_at node trace bit = option_and_then (λ (act : Act). act.reaped) (act_at 
 abbrev pub request_at : ℕ → List Bit → ℕ → Option Label
 request_at node trace bit = option_and_then (λ (sent : Sent). sent.label) (begun_at node trace bit)
 
--- The lines tell of an attempt: its first bit has the line `started` with its frame, and the line of its last bit tells what
+-- The lines tell of an attempt: its first bit has the line `started` with its frame, and the line of its last bit tells
+-- what
 -- became of it, with its start.
-pub record IsTold (node : ℕ) (trace : List Bit) (start : ℕ) (frame : FrameValue) (first end : ℕ) (outcome : Outcome) : Type 0 where
+pub record IsTold (node : ℕ) (trace : List Bit) (start : ℕ) (frame : FrameValue) (first end : ℕ)
+    (outcome : Outcome) : Type 0 where
   pub sent : Sent
   pub begins : begun_at node trace first ≡ Some sent
   pub start_is : sent.start ≡ start
@@ -61,10 +65,13 @@ pub record IsTold (node : ℕ) (trace : List Bit) (start : ℕ) (frame : FrameVa
 -- so they do of each
 abbrev pub AttemptsAreTold : SegmentPlan → List Bit → Type 0
 AttemptsAreTold plan trace =
-    (node : ℕ) (past : Past) (start end : ℕ) (frame : FrameValue) (state : ErrorState) (outcome : Outcome) → IsPastOf plan trace node past →
-    (attempt : IsAttempt past start frame state end outcome) → IsTold node trace start frame (first_bit attempt) end outcome
+    (node : ℕ) (past : Past) (start end : ℕ) (frame : FrameValue) (state : ErrorState) (outcome : Outcome) →
+    IsPastOf plan trace node past →
+    (attempt : IsAttempt past start frame state end outcome) →
+    IsTold node trace start frame (first_bit attempt) end outcome
 
--- and what they tell of the end of a transmission, be it completed, lost, in an error or in bus off, is the end of an attempt
+-- and what they tell of the end of a transmission, be it completed, lost, in an error or in bus off, is the end of an
+-- attempt
 abbrev pub EndsAreOfAttempts : SegmentPlan → List Bit → Type 0
 EndsAreOfAttempts plan trace =
     (node end : ℕ) (past : Past) (sent : Sent) → IsPastOf plan trace node past →
@@ -74,8 +81,10 @@ EndsAreOfAttempts plan trace =
 -- Of two attempts of one request of a controller the earlier one failed, and the request did not end by it.
 abbrev pub RequestsTryFailures : SegmentPlan → List Bit → ℕ → Type 0
 RequestsTryFailures plan trace node =
-    (past : Past) (label : Label) (start end start' end' : ℕ) (frame frame' : FrameValue) (state state' : ErrorState) (outcome outcome' : Outcome) →
+    (past : Past) (label : Label) (start end start' end' : ℕ) (frame frame' : FrameValue) (state state' : ErrorState)
+    (outcome outcome' : Outcome) →
     IsPastOf plan trace node past →
-    (earlier : IsAttempt past start frame state end outcome) → (later : IsAttempt past start' frame' state' end' outcome') → end < first_bit later →
+    (earlier : IsAttempt past start frame state end outcome) →
+    (later : IsAttempt past start' frame' state' end' outcome') → end < first_bit later →
     request_at node trace (first_bit earlier) ≡ Some label → request_at node trace (first_bit later) ≡ Some label →
     (is_failure outcome ≡ true) × (reaped_at node trace end ≡ None)
