@@ -1,6 +1,27 @@
 -- What is begun and told at the bits of an attempt.
 use Rattle.std.proofs.Common.{
-  ◌≡◌, inl, inr, ◌⊎◌, ℕ, suc, ◌+◌, ◌-◌, ◌<◌, ◌≤◌, Bool, List, [], ◌∷◌, ◌++◌, length, refl, sym, ap, subst, arith, ◌∙◌,
+  ◌≡◌,
+  inl,
+  inr,
+  ◌⊎◌,
+  ℕ,
+  suc,
+  ◌+◌,
+  ◌-◌,
+  ◌<◌,
+  ◌≤◌,
+  Bool,
+  List,
+  [],
+  ◌∷◌,
+  ◌++◌,
+  length,
+  refl,
+  sym,
+  ap,
+  subst,
+  arith,
+  ◌∙◌,
 }
 use Rattle.std.specs.List.{Contains}
 use Rattle.std.proofs.lemmas.List.{append-nil, append_assoc, length-append}
@@ -35,7 +56,7 @@ some_last pairs pair = omega (arith, length-append pairs (pair ∷ []))
 sent_some : {at start : ℕ} {before : List ErrorEvent} {given : List Bool} {pairs : List Pair} {events : List ErrorEvent}
     {outcome : Outcome} {next : Phase} {frame : FrameValue} →
     Episode at before (Send start given frame) pairs events outcome next → (outcome ≡ Completed → 1 ≤ length pairs) →
-        1 ≤ length pairs
+    1 ≤ length pairs
 sent_some (ends (completed start given frame driven sampled send) on) whole = whole refl
 sent_some (ends (lost start given frame driven seen bit place) on) whole = some_last _ _
 sent_some (ends (stuff_lost start given frame driven seen bit place) on) whole = some_last _ _
@@ -86,7 +107,7 @@ attempts_stand_alone past start end frame state outcome h =
     let last : h.done.first + length (h.done.pairs ++ h.pairs) - 1 ≡ end = omega (arith, h.end_is) in
     let told : Contains (noted (h.done.first + length (h.done.pairs ++ h.pairs) - 1) outcome) (end, outcome) =
     subst (λ n. Contains (noted n outcome) (end, outcome)) (sym last)
-        (noted_end end (attempt_end past start end frame state outcome h)) in
+    (noted_end end (attempt_end past start end frame state outcome h)) in
     record {
       in_order = omega (arith, h.end_is, size, some);
       begun = stays_begun (first, frame) h.here.leads
@@ -103,9 +124,9 @@ attempts_stand_alone past start end frame state outcome h =
       none_told = λ bit other from to c. elim (told_behind bit other h.here.leads c) [
         | inl whole ↦ elim (Contains-append_cases h.done.outcomes
             (noted (h.done.first + length (h.done.pairs ++ h.pairs) - 1) outcome) (bit, other) whole) [
-          | inl before ↦ omega (arith, told_before bit other h.here.whole before, from)
-          | inr now ↦ (let n = noted_is _ bit outcome other now in omega (arith, n.0, last, to))
-        ]
+              | inl before ↦ omega (arith, told_before bit other h.here.whole before, from)
+              | inr now ↦ (let n = noted_is _ bit outcome other now in omega (arith, n.0, last, to))
+            ]
         | inr later ↦ omega (arith, later, h.end_is, to)
       ];
     }
@@ -115,8 +136,8 @@ pub open_tells_nothing : (past : Past) (first : ℕ) (frame : FrameValue) → Is
     (bit : ℕ) (outcome : Outcome) → first ≤ bit → Contains past.outcomes (bit, outcome) → ⊥
 open_tells_nothing past first frame h bit outcome from c =
     let before : Contains h.done.outcomes (bit, outcome) =
-        subst (λ os. Contains os (bit, outcome))
-        (ap (λ (p : Past). p.outcomes) h.here.past_is ∙ append-nil h.done.outcomes) c in
+    subst (λ os. Contains os (bit, outcome))
+    (ap (λ (p : Past). p.outcomes) h.here.past_is ∙ append-nil h.done.outcomes) c in
     omega (arith, told_before bit outcome h.here.whole before, h.first_is, from)
 
 -- the send that began with this bit
@@ -136,12 +157,12 @@ record Located (to : Past) (last : Phase) (bit : ℕ) (frame : FrameValue) : Typ
 located_now : {past : Past} {phase next : Phase} {pairs : List Pair} {events : List ErrorEvent} {outcome : Outcome}
     (bit start : ℕ) (given : List Bool) (frame : FrameValue) → phase ≡ Send start given frame → Whole past phase →
     Episode (past.first + length past.pairs) past.events phase pairs events outcome next →
-        past.first + length past.pairs ≡ bit → Located (with_episode past phase pairs events outcome) next bit frame
+    past.first + length past.pairs ≡ bit → Located (with_episode past phase pairs events outcome) next bit frame
 located_now {past = past} {next = next} {pairs = pairs} {events = events} {outcome = outcome} bit start given frame is
     whole episode first =
     let P : Phase → Type 0 = λ phase. Whole past phase →
-        Episode (past.first + length past.pairs) past.events phase pairs events outcome next →
-        Located (with_episode past phase pairs events outcome) next bit frame in
+    Episode (past.first + length past.pairs) past.events phase pairs events outcome next →
+    Located (with_episode past phase pairs events outcome) next bit frame in
     subst P (sym is) (λ w e. record {
       done = past;
       start = start;
@@ -197,7 +218,7 @@ pub begun_attempts : (past : Past) (bit : ℕ) (frame : FrameValue) → IsHistor
     IsAttemptFrom past bit frame ⊎ IsOpenAttempt past bit frame
 begun_attempts past bit frame h c =
     elim (Contains-append_cases h.done.begun (begins (h.done.first + length h.done.pairs) h.phase) (bit, frame)
-        (subst (λ bs. Contains bs (bit, frame)) (ap (λ (p : Past). p.begun) h.past_is) c)) [
+    (subst (λ bs. Contains bs (bit, frame)) (ap (λ (p : Past). p.begun) h.past_is) c)) [
       | inl before ↦ (let l = locate bit frame h.whole before in
           let bits = some_bits l.whole l.episode in
           inl (record {
@@ -214,8 +235,17 @@ begun_attempts past bit frame h c =
               here = record {
                 whole = l.whole;
                 episode = l.episode;
-                leads = record { to = h.done; last = h.phase; part = h.part; counting = h.counting; onward =
-                    l.onward; begun = h.goes_on; on = h.on; past_is = h.past_is };
+                leads = record {
+                  to = h.done;
+                  last = h.phase;
+                  part = h.part;
+                  counting = h.counting;
+                  onward =
+                      l.onward;
+                  begun = h.goes_on;
+                  on = h.on;
+                  past_is = h.past_is;
+                };
               };
               end_is = omega (arith, bits);
               state_is = refl;
@@ -224,5 +254,5 @@ begun_attempts past bit frame h c =
           }))
       | inr now ↦ (let b = begins_is (h.done.first + length h.done.pairs) bit h.phase frame now in
           inr (open_now bit b.start b.given frame b.phase_is
-              (record { whole = h.whole; begun = h.goes_on; past_is = h.past_is }) (sym b.bit_is)))
+          (record { whole = h.whole; begun = h.goes_on; past_is = h.past_is }) (sym b.bit_is)))
     ]

@@ -1,6 +1,26 @@
 -- Each completion and each frame taken that a history tells is that of an attempt or a take.
 use Rattle.std.proofs.Common.{
-  ◌≡◌, inl, inr, ℕ, zero, suc, ◌+◌, ◌-◌, Bool, false, List, [], ◌∷◌, ◌++◌, length, refl, sym, ap, subst, arith, ◌∙◌,
+  ◌≡◌,
+  inl,
+  inr,
+  ℕ,
+  zero,
+  suc,
+  ◌+◌,
+  ◌-◌,
+  Bool,
+  false,
+  List,
+  [],
+  ◌∷◌,
+  ◌++◌,
+  length,
+  refl,
+  sym,
+  ap,
+  subst,
+  arith,
+  ◌∙◌,
 }
 use Rattle.std.specs.List.{Contains}
 use Rattle.std.proofs.lemmas.List.{append-nil, length-append}
@@ -10,7 +30,13 @@ use Rattle.can_node.specs.declared.confinement.ErrorEvent.{ErrorEvent}
 use Rattle.can_node.specs.declared.confinement.ErrorState.{ErrorState}
 use Rattle.can_node.specs.declared.outcome.Outcome.{Outcome}
 use Rattle.can_node.specs.declared.outcome.Outcome.TheVariants.{
-  Nothing, Took, Completed, Lost, Errored, WentOff, CameBack,
+  Nothing,
+  Took,
+  Completed,
+  Lost,
+  Errored,
+  WentOff,
+  CameBack,
 }
 use Rattle.can_node.specs.Confinement.{state_after}
 use Rattle.can_node.specs.Pairs.{Pair}
@@ -18,9 +44,30 @@ use Rattle.can_node.specs.Phases.{Phase}
 use Rattle.can_node.specs.Phases.Phase.{Send, Take}
 use Rattle.can_node.specs.Episodes.{Course, Episode}
 use Rattle.can_node.specs.Episodes.Course.{
-  synced, woken, completed, lost, stuff_lost, unacknowledged, bit_differs, took, spoiled, quiet_end, late_overload,
-  flagged, overload_flagged, passive_flagged, delimited, cut_short, overloaded, rested, rested_sender, pressed,
-  hurried, waited, overtaken, recovered,
+  synced,
+  woken,
+  completed,
+  lost,
+  stuff_lost,
+  unacknowledged,
+  bit_differs,
+  took,
+  spoiled,
+  quiet_end,
+  late_overload,
+  flagged,
+  overload_flagged,
+  passive_flagged,
+  delimited,
+  cut_short,
+  overloaded,
+  rested,
+  rested_sender,
+  pressed,
+  hurried,
+  waited,
+  overtaken,
+  recovered,
 }
 use Rattle.can_node.specs.Episodes.Episode.{begun, joined, ends, off_within, off_at_end}
 use Rattle.can_node.specs.Histories.{Past, Whole, with_episode, noted, IsHistory}
@@ -38,7 +85,7 @@ use Rattle.can_node.proofs.Stamps.{noted_is}
 pub one_more : {from to : Past} {phase last next : Phase} {pairs : List Pair} {events : List ErrorEvent}
     {outcome : Outcome} → Onward from phase to last →
     Episode (to.first + length to.pairs) to.events last pairs events outcome next →
-        Onward from phase (with_episode to last pairs events outcome) next
+    Onward from phase (with_episode to last pairs events outcome) next
 one_more stays episode = goes_on episode stays
 one_more (goes_on first onward) episode = goes_on first (one_more onward episode)
 
@@ -60,14 +107,34 @@ locate end outcome (switched_on first) c = absurd (omega (arith, c.1))
 locate end outcome (then {past = past} {phase = phase} {next = next} {pairs = pairs} {events = events} {outcome = told}
     whole episode) c =
     elim (Contains-append_cases past.outcomes (noted (past.first + length (past.pairs ++ pairs) - 1) told)
-        (end, outcome) c) [
+    (end, outcome) c) [
       | inl before ↦ (let l = locate end outcome whole before in
-          record { done = l.done; phase = l.phase; pairs = l.pairs; events = l.events; next = l.next; whole =
-              l.whole; episode = l.episode; onward = one_more l.onward episode; end_is = l.end_is })
+          record {
+            done = l.done;
+            phase = l.phase;
+            pairs = l.pairs;
+            events = l.events;
+            next = l.next;
+            whole =
+                l.whole;
+            episode = l.episode;
+            onward = one_more l.onward episode;
+            end_is = l.end_is;
+          })
       | inr now ↦ (let n = noted_is (past.first + length (past.pairs ++ pairs) - 1) end told outcome now in
           subst (Located (with_episode past phase pairs events told) next end) n.1
-          (record { done = past; phase = phase; pairs = pairs; events = events; next = next; whole = whole; episode =
-              episode; onward = stays; end_is = n.0 }))
+          (record {
+            done = past;
+            phase = phase;
+            pairs = pairs;
+            events = events;
+            next = next;
+            whole = whole;
+            episode =
+                episode;
+            onward = stays;
+            end_is = n.0;
+          }))
     ]
 
 record Found (past : Past) (end : ℕ) (outcome : Outcome) : Type 0 where
@@ -83,17 +150,30 @@ find : (past : Past) (end : ℕ) (outcome : Outcome) → IsHistory past → Cont
     Found past end outcome
 find past end outcome h c =
     let l = locate end outcome h.whole
-        (subst (λ os. Contains os (end, outcome)) (ap (λ (p : Past). p.outcomes) h.past_is ∙ append-nil h.done.outcomes)
-        c) in
+    (subst (λ os. Contains os (end, outcome)) (ap (λ (p : Past). p.outcomes) h.past_is ∙ append-nil h.done.outcomes)
+    c) in
     record {
       done = l.done;
       phase = l.phase;
       pairs = l.pairs;
       events = l.events;
       next = l.next;
-      here = record { whole = l.whole; episode = l.episode; leads =
-          record { to = h.done; last = h.phase; part = h.part; counting = h.counting; onward = l.onward; begun =
-          h.goes_on; on = h.on; past_is = h.past_is } };
+      here = record {
+        whole = l.whole;
+        episode = l.episode;
+        leads =
+            record {
+              to = h.done;
+              last = h.phase;
+              part = h.part;
+              counting = h.counting;
+              onward = l.onward;
+              begun =
+                  h.goes_on;
+              on = h.on;
+              past_is = h.past_is;
+            };
+      };
       end_is = l.end_is;
     }
 
@@ -221,7 +301,7 @@ told_take past end start frame h c =
     let here = subst (λ phase. HasEpisode past f.done phase f.pairs f.events (Took start frame) f.next) s.is f.here in
     let r = read here.episode refl in
     let text = heard past f.done _ f.next f.pairs f.events _ start s.given r.levels here
-        (starts here.whole) r.samples in
+    (starts here.whole) r.samples in
     let p = parts frame (s.given ++ r.levels) r.front in
     record {
       given = s.given;

@@ -2,8 +2,35 @@
 -- before,
 -- where that was a dominant one.
 use Rattle.std.proofs.Common.{
-  ◌≡◌, inl, inr, ◌⊎◌, ℕ, zero, suc, ◌+◌, ◌-◌, ◌<◌, Bool, true, false, Option, Some, None, List, [], ◌∷◌, ◌++◌, length,
-  replicate, slice_get, refl, sym, ap, subst, arith, ◌∙◌,
+  ◌≡◌,
+  inl,
+  inr,
+  ◌⊎◌,
+  ℕ,
+  zero,
+  suc,
+  ◌+◌,
+  ◌-◌,
+  ◌<◌,
+  Bool,
+  true,
+  false,
+  Option,
+  Some,
+  None,
+  List,
+  [],
+  ◌∷◌,
+  ◌++◌,
+  length,
+  replicate,
+  slice_get,
+  refl,
+  sym,
+  ap,
+  subst,
+  arith,
+  ◌∙◌,
 }
 use Rattle.std.proofs.lemmas.List.{append-nil, append_assoc, length-append, length-map, length-replicate, map-append}
 use Rattle.can_frame.specs.Frames.{FrameValue}
@@ -15,15 +42,47 @@ use Rattle.can_node.specs.declared.outcome.Outcome.{Outcome}
 use Rattle.can_node.specs.Pairs.{Pair, listening, recessive}
 use Rattle.can_node.specs.Phases.{Phase, flag_of, sent_from}
 use Rattle.can_node.specs.Phases.Phase.{
-  Sync, Idle, Send, Take, LastBit, ActiveFlag, OverloadFlag, PassiveFlag, Delimiter, Intermission, Suspend, BusOff,
+  Sync,
+  Idle,
+  Send,
+  Take,
+  LastBit,
+  ActiveFlag,
+  OverloadFlag,
+  PassiveFlag,
+  Delimiter,
+  Intermission,
+  Suspend,
+  BusOff,
 }
 use Rattle.can_node.specs.Waits.{Recoveries}
 use Rattle.can_node.specs.Waits.Recoveries.{no_run, one_more}
 use Rattle.can_node.specs.Episodes.{Course, Episode}
 use Rattle.can_node.specs.Episodes.Course.{
-  synced, woken, completed, lost, stuff_lost, unacknowledged, bit_differs, took, spoiled, quiet_end, late_overload,
-  flagged, overload_flagged, passive_flagged, delimited, cut_short, overloaded, rested, rested_sender, pressed,
-  hurried, waited, overtaken, recovered,
+  synced,
+  woken,
+  completed,
+  lost,
+  stuff_lost,
+  unacknowledged,
+  bit_differs,
+  took,
+  spoiled,
+  quiet_end,
+  late_overload,
+  flagged,
+  overload_flagged,
+  passive_flagged,
+  delimited,
+  cut_short,
+  overloaded,
+  rested,
+  rested_sender,
+  pressed,
+  hurried,
+  waited,
+  overtaken,
+  recovered,
 }
 use Rattle.can_node.specs.Episodes.Episode.{begun, joined, ends, off_within, off_at_end}
 use Rattle.can_node.specs.Histories.{Past, Whole, begins}
@@ -62,15 +121,19 @@ ends_in pairs levels level =
     let all = pairs ++ listening (levels ++ level ∷ []) in
     let text : sampled_in all ≡ (sampled_in pairs ++ levels) ++ level ∷ [] =
     sampled_append pairs (listening (levels ++ level ∷ []))
-        ∙ ap (λ t. sampled_in pairs ++ t) (sampled_listening (levels ++ level ∷ []))
-        ∙ sym (append_assoc (sampled_in pairs) levels (level ∷ [])) in
+    ∙ ap (λ t. sampled_in pairs ++ t) (sampled_listening (levels ++ level ∷ []))
+    ∙ sym (append_assoc (sampled_in pairs) levels (level ∷ [])) in
     let size : length all - 1 ≡ length (sampled_in pairs ++ levels) =
-    omega (arith, length-append pairs (listening (levels ++ level ∷ [])),
-        length-map {B = Pair} (levels ++ level ∷ []) (λ (l : Bool). record { driven = true; sampled = l }),
-        length-append levels (level ∷ []),
-    length-append (sampled_in pairs) levels, length-map {B = Bool} pairs (λ (pair : Pair). pair.sampled)) in
+    omega (
+      arith,
+      length-append pairs (listening (levels ++ level ∷ [])),
+      length-map {B = Pair} (levels ++ level ∷ []) (λ (l : Bool). record { driven = true; sampled = l }),
+      length-append levels (level ∷ []),
+      length-append (sampled_in pairs) levels,
+      length-map {B = Bool} pairs (λ (pair : Pair). pair.sampled),
+    ) in
     ap (λ t. slice_get t (length all - 1)) text ∙ ap (slice_get ((sampled_in pairs ++ levels) ++ level ∷ [])) size
-        ∙ at_end (sampled_in pairs ++ levels) level
+    ∙ at_end (sampled_in pairs ++ levels) level
 
 -- behind a text that ends in a run of recessive levels
 ends_recessive : (pairs : List Pair) (text : List Bool) (n : ℕ) →
@@ -108,7 +171,7 @@ may_not e = absurd (cc e)
 
 course_sofs : (past : Past) {phase next : Phase} {pairs : List Pair} {events : List ErrorEvent} {outcome : Outcome} →
     Course (past.first + length past.pairs) past.events phase pairs events outcome next →
-        Sofs past.first (past.pairs ++ pairs) next
+    Sofs past.first (past.pairs ++ pairs) next
 course_sofs past (synced broken b) = run_of_eleven past.pairs broken
 course_sofs past (woken n) = λ e. may_not e
 course_sofs past (completed start given frame driven sampled send) = tt
@@ -134,8 +197,10 @@ course_sofs past (rested role goes) = ends_recessive past.pairs [] 2
 course_sofs past (rested_sender role waits) = tt
 course_sofs past (pressed role k below) = tt
 course_sofs past (hurried role) =
-    λ e. (ends_in past.pairs (recessive 2) false,
-    omega (arith, length-append past.pairs (listening (recessive 2 ++ false ∷ []))))
+    λ e. (
+      ends_in past.pairs (recessive 2) false,
+      omega (arith, length-append past.pairs (listening (recessive 2 ++ false ∷ []))),
+    )
 course_sofs past waited = ends_recessive past.pairs [] 7
 course_sofs past (overtaken k below) = λ e. may_not e
 course_sofs past (recovered text whole) = recovers past.pairs whole (omega arith)
@@ -143,7 +208,7 @@ course_sofs past (recovered text whole) = recovers past.pairs whole (omega arith
 episode_sofs : (past : Past) {phase next : Phase} {pairs : List Pair} {events : List ErrorEvent} {outcome : Outcome} →
     Sofs past.first past.pairs phase →
     Episode (past.first + length past.pairs) past.events phase pairs events outcome next →
-        Sofs past.first (past.pairs ++ pairs) next
+    Sofs past.first (past.pairs ++ pairs) next
 episode_sofs past h (begun n frame is on) =
     inl (idles past.pairs n h, sof_place past.first n past.pairs past.first refl)
 episode_sofs past h (joined start given frame is on) =
@@ -210,17 +275,17 @@ begun_sof before frame sof h =
     let s = sends_from hist.phase sof h.start_is in
     let here : Whole hist.done (Send sof s.given s.frame) = subst (Whole hist.done) s.is hist.whole in
     let begun_is : before.begun ++ (before.first + length before.pairs, frame) ∷ [] ≡ hist.done.begun
-        ++ (hist.done.first + length hist.done.pairs, s.frame) ∷ [] =
+    ++ (hist.done.first + length hist.done.pairs, s.frame) ∷ [] =
     ap (λ (p : Past). p.begun) hist.past_is
-        ∙ ap (λ phase. hist.done.begun ++ begins (hist.done.first + length hist.done.pairs) phase) s.is in
+    ∙ ap (λ phase. hist.done.begun ++ begins (hist.done.first + length hist.done.pairs) phase) s.is in
     let bit : before.first + length before.pairs ≡ hist.done.first + length hist.done.pairs =
     ap (λ (p : ℕ × FrameValue). p.0)
-        (last_of before.begun hist.done.begun (before.first + length before.pairs, frame)
-        (hist.done.first + length hist.done.pairs, s.frame) begun_is) in
+    (last_of before.begun hist.done.begun (before.first + length before.pairs, frame)
+    (hist.done.first + length hist.done.pairs, s.frame) begun_is) in
     let first : before.first ≡ hist.done.first = ap (λ (p : Past). p.first) hist.past_is in
     let pairs : before.pairs ≡ hist.done.pairs ++ hist.part = ap (λ (p : Past). p.pairs) hist.past_is in
     let none : hist.done.pairs ++ hist.part ≡ hist.done.pairs =
-        no_more hist.done.pairs hist.part (omega (arith, bit, first, ap length pairs)) in
+    no_more hist.done.pairs hist.part (omega (arith, bit, first, ap length pairs)) in
     moved hist.done before sof (sym first) (sym (pairs ∙ none)) (sofs here)
   where
     moved : (done past : Past) (start : ℕ) → done.first ≡ past.first → done.pairs ≡ past.pairs →
@@ -248,13 +313,13 @@ send_sof whole = sofs whole
 pub starts_are_sofs : (past before : Past) (more : List Pair) (start sof end : ℕ) (frame given : FrameValue)
     (state : ErrorState) (outcome : Outcome) (attempt : IsAttempt past start frame state end outcome) →
     past.first ≡ before.first → past.pairs ≡ before.pairs ++ more →
-        first_bit attempt ≡ before.first + length before.pairs → IsSending (with_begin before given) (Some sof) →
-        sof ≡ start
+    first_bit attempt ≡ before.first + length before.pairs → IsSending (with_begin before given) (Some sof) →
+    sof ≡ start
 starts_are_sofs past before more start sof end frame given state outcome attempt first pairs place sending =
     let g = leads_grows attempt.here.leads in
     let done : attempt.done.first ≡ before.first = sym g.first_is ∙ first in
     let whole : attempt.done.pairs ++ (attempt.pairs ++ g.more) ≡ before.pairs ++ more =
-        sym (append_assoc attempt.done.pairs attempt.pairs g.more) ∙ sym g.pairs_are ∙ pairs in
+    sym (append_assoc attempt.done.pairs attempt.pairs g.more) ∙ sym g.pairs_are ∙ pairs in
     let same : attempt.done.pairs ≡ before.pairs =
-        front_same attempt.done.pairs before.pairs _ more (omega (arith, place, done)) whole in
+    front_same attempt.done.pairs before.pairs _ more (omega (arith, place, done)) whole in
     one_sof attempt.done before start sof done same (send_sof attempt.here.whole) (begun_sof before given sof sending)

@@ -1,7 +1,28 @@
 -- The bits with which a history notes what it begins and what it tells: each stands inside of its episode.
 use Rattle.std.proofs.Common.{
-  ◌≡◌, inl, inr, ◌⊎◌, ℕ, zero, suc, ◌+◌, ◌-◌, ◌≤◌, Bool, true, List, [], ◌∷◌, ◌++◌, length, refl, sym, ap, subst,
-  arith, ◌∙◌,
+  ◌≡◌,
+  inl,
+  inr,
+  ◌⊎◌,
+  ℕ,
+  zero,
+  suc,
+  ◌+◌,
+  ◌-◌,
+  ◌≤◌,
+  Bool,
+  true,
+  List,
+  [],
+  ◌∷◌,
+  ◌++◌,
+  length,
+  refl,
+  sym,
+  ap,
+  subst,
+  arith,
+  ◌∙◌,
 }
 use Rattle.std.specs.List.{Contains}
 use Rattle.std.proofs.lemmas.List.{append-nil, length-append, length-map, length-replicate}
@@ -10,12 +31,29 @@ use Rattle.can_frame.specs.Frames.{FrameValue}
 use Rattle.can_node.specs.declared.confinement.ErrorEvent.{ErrorEvent}
 use Rattle.can_node.specs.declared.outcome.Outcome.{Outcome}
 use Rattle.can_node.specs.declared.outcome.Outcome.TheVariants.{
-  Nothing, Took, Completed, Lost, Errored, WentOff, CameBack,
+  Nothing,
+  Took,
+  Completed,
+  Lost,
+  Errored,
+  WentOff,
+  CameBack,
 }
 use Rattle.can_node.specs.Pairs.{Pair, recessive}
 use Rattle.can_node.specs.Phases.{Phase}
 use Rattle.can_node.specs.Phases.Phase.{
-  Sync, Idle, Send, Take, LastBit, ActiveFlag, OverloadFlag, PassiveFlag, Delimiter, Intermission, Suspend, BusOff,
+  Sync,
+  Idle,
+  Send,
+  Take,
+  LastBit,
+  ActiveFlag,
+  OverloadFlag,
+  PassiveFlag,
+  Delimiter,
+  Intermission,
+  Suspend,
+  BusOff,
 }
 use Rattle.can_node.specs.Episodes.{Episode}
 use Rattle.can_node.specs.Episodes.Course.{synced}
@@ -81,15 +119,18 @@ sync_some : {at : ℕ} {before : List ErrorEvent} {pairs : List Pair} {events : 
     {next : Phase} →
     Episode at before Sync pairs events outcome next → 1 ≤ length pairs
 sync_some (ends (synced broken b) on) =
-    omega (arith, length-map {B = Pair} (broken ++ recessive 11) (λ (l : Bool). record { driven = true; sampled = l }),
-        length-append broken (recessive 11))
+    omega (
+      arith,
+      length-map {B = Pair} (broken ++ recessive 11) (λ (l : Bool). record { driven = true; sampled = l }),
+      length-append broken (recessive 11),
+    )
 sync_some (off_within {pairs = pairs} pair event goes on more off) = omega (arith, length-append pairs (pair ∷ []))
 sync_some (off_at_end {pairs = pairs} pair event goes on course off) = omega (arith, length-append pairs (pair ∷ []))
 
 pub some_bits : {past : Past} {phase next : Phase} {pairs : List Pair} {events : List ErrorEvent} {outcome : Outcome} →
     Whole past phase →
     Episode (past.first + length past.pairs) past.events phase pairs events outcome next →
-        1 ≤ length (past.pairs ++ pairs)
+    1 ≤ length (past.pairs ++ pairs)
 some_bits (switched_on first) episode = sync_some episode
 some_bits {pairs = more} (then {past = past} {pairs = pairs} whole episode) last =
     omega (arith, some_bits whole episode, length-append (past.pairs ++ pairs) more)
@@ -100,7 +141,7 @@ pub told_before : {past : Past} {phase : Phase} (bit : ℕ) (outcome : Outcome) 
 told_before bit outcome (switched_on first) c = absurd (omega (arith, c.1))
 told_before bit outcome (then {past = past} {pairs = pairs} {outcome = told} whole episode) c =
     elim (Contains-append_cases past.outcomes (noted (past.first + length (past.pairs ++ pairs) - 1) told)
-        (bit, outcome) c) [
+    (bit, outcome) c) [
       | inl before ↦ omega (arith, told_before bit outcome whole before, length-append past.pairs pairs)
       | inr now ↦ (let n = noted_is (past.first + length (past.pairs ++ pairs) - 1) bit told outcome now in
           omega (arith, n.0, some_bits whole episode))
@@ -126,10 +167,10 @@ told_onward bit outcome (goes_on {past = past} {pairs = pairs} {outcome = told} 
     elim (told_onward bit outcome onward c) [
       | inl here ↦ elim (Contains-append_cases past.outcomes
           (noted (past.first + length (past.pairs ++ pairs) - 1) told) (bit, outcome) here) [
-        | inl before ↦ inl before
-        | inr now ↦ (let n = noted_is (past.first + length (past.pairs ++ pairs) - 1) bit told outcome now in
-            inr (omega (arith, n.0, length-append past.pairs pairs)))
-      ]
+            | inl before ↦ inl before
+            | inr now ↦ (let n = noted_is (past.first + length (past.pairs ++ pairs) - 1) bit told outcome now in
+                inr (omega (arith, n.0, length-append past.pairs pairs)))
+          ]
       | inr later ↦ inr (omega (arith, later, length-append past.pairs pairs))
     ]
 
@@ -142,10 +183,10 @@ begun_onward bit frame (goes_on {past = past} {phase = phase} {pairs = pairs} ep
     elim (begun_onward bit frame onward c) [
       | inl here ↦ elim (Contains-append_cases past.begun (begins (past.first + length past.pairs) phase)
           (bit, frame) here) [
-        | inl before ↦ inl before
-        | inr now ↦ (let b = begins_is (past.first + length past.pairs) bit phase frame now in
-            inr (omega (arith, b.bit_is)))
-      ]
+            | inl before ↦ inl before
+            | inr now ↦ (let b = begins_is (past.first + length past.pairs) bit phase frame now in
+                inr (omega (arith, b.bit_is)))
+          ]
       | inr later ↦ inr (omega (arith, later, length-append past.pairs pairs))
     ]
 
@@ -162,15 +203,15 @@ pub told_behind : {from past : Past} {phase : Phase} (bit : ℕ) (outcome : Outc
     Contains from.outcomes (bit, outcome) ⊎ (from.first + length from.pairs ≤ bit + 1)
 told_behind bit outcome h c =
     told_onward bit outcome h.onward
-        (subst (λ os. Contains os (bit, outcome)) (ap (λ (p : Past). p.outcomes) h.past_is ∙ append-nil h.to.outcomes)
-        c)
+    (subst (λ os. Contains os (bit, outcome)) (ap (λ (p : Past). p.outcomes) h.past_is ∙ append-nil h.to.outcomes)
+    c)
 
 pub begun_behind : {from past : Past} {phase : Phase} (bit : ℕ) (frame : FrameValue) → Leads from phase past →
     Contains past.begun (bit, frame) →
     Contains from.begun (bit, frame) ⊎ (from.first + length from.pairs ≤ bit)
 begun_behind bit frame h c =
     elim (Contains-append_cases h.to.begun (begins (h.to.first + length h.to.pairs) h.last) (bit, frame)
-        (subst (λ bs. Contains bs (bit, frame)) (ap (λ (p : Past). p.begun) h.past_is) c)) [
+    (subst (λ bs. Contains bs (bit, frame)) (ap (λ (p : Past). p.begun) h.past_is) c)) [
       | inl whole ↦ begun_onward bit frame h.onward whole
       | inr now ↦ (let b = begins_is (h.to.first + length h.to.pairs) bit h.last frame now in
           inr (omega (arith, b.bit_is, longer h.onward)))

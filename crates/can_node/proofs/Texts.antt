@@ -1,6 +1,22 @@
 -- What a node samples of a frame from its SOF on.
 use Rattle.std.proofs.Common.{
-  ◌≡◌, ℕ, ◌+◌, Bool, true, false, List, [], ◌∷◌, ◌++◌, length, refl, sym, ap, subst, arith, ◌∙◌,
+  ◌≡◌,
+  ℕ,
+  ◌+◌,
+  Bool,
+  true,
+  false,
+  List,
+  [],
+  ◌∷◌,
+  ◌++◌,
+  length,
+  refl,
+  sym,
+  ap,
+  subst,
+  arith,
+  ◌∙◌,
 }
 use Rattle.std.proofs.lemmas.List.{append_assoc, append-nil, map-append, length-append, length-map, length-replicate}
 use Rattle.can_frame.specs.Frames.{FrameValue, IsFrameValue}
@@ -19,9 +35,30 @@ use Rattle.can_node.specs.Phases.{Phase, flag_of}
 use Rattle.can_node.specs.Phases.Phase.{Send, Take}
 use Rattle.can_node.specs.Episodes.{Course, Episode}
 use Rattle.can_node.specs.Episodes.Course.{
-  synced, woken, completed, lost, stuff_lost, unacknowledged, bit_differs, took, spoiled, quiet_end, late_overload,
-  flagged, overload_flagged, passive_flagged, delimited, cut_short, overloaded, rested, rested_sender, pressed,
-  hurried, waited, overtaken, recovered,
+  synced,
+  woken,
+  completed,
+  lost,
+  stuff_lost,
+  unacknowledged,
+  bit_differs,
+  took,
+  spoiled,
+  quiet_end,
+  late_overload,
+  flagged,
+  overload_flagged,
+  passive_flagged,
+  delimited,
+  cut_short,
+  overloaded,
+  rested,
+  rested_sender,
+  pressed,
+  hurried,
+  waited,
+  overtaken,
+  recovered,
 }
 use Rattle.can_node.specs.Episodes.Episode.{begun, joined, ends, off_within, off_at_end}
 use Rattle.can_node.specs.Histories.{Past, Whole, with_episode}
@@ -60,8 +97,14 @@ pub send_lengths : (frame : FrameValue) (given driven sampled : List Bool) → I
 send_lengths frame given driven sampled send =
     let s = slot_stands_alone frame _ true false (given ++ driven) send.drives in
     let same = one_spelling frame _ false (given ++ sampled) (s.0 ++ false ∷ _) send.samples s.2 in
-    omega (arith, ap length s.1, ap length same, length-append given driven, length-append given sampled,
-        length-append s.0)
+    omega (
+      arith,
+      ap length s.1,
+      ap length same,
+      length-append given driven,
+      length-append given sampled,
+      length-append s.0,
+    )
 
 -- from the bit `start` on a node with this past sampled these levels, up to its end
 pub record From (past : Past) (start : ℕ) (text : List Bool) : Type 0 where
@@ -97,8 +140,13 @@ from_more past start given levels pairs after h e first more = record {
 pub sof_place : (first n : ℕ) (pairs : List Pair) (now : ℕ) → now ≡ first →
     first + length pairs + n ≡ now + length (pairs ++ listening (recessive n))
 sof_place first n pairs now e =
-    omega (arith, e, length-append pairs (listening (recessive n)),
-    length-map {B = Pair} (recessive n) (λ (l : Bool). record { driven = true; sampled = l }), length-replicate n true)
+    omega (
+      arith,
+      e,
+      length-append pairs (listening (recessive n)),
+      length-map {B = Pair} (recessive n) (λ (l : Bool). record { driven = true; sampled = l }),
+      length-replicate n true,
+    )
 
 -- SOF behind n recessive levels
 sof_behind : (past : Past) (n : ℕ) (after : Past) → after.first ≡ past.first →
@@ -118,17 +166,17 @@ sof_behind past n after first is = record {
 course_starts : (past : Past) {phase next : Phase} {pairs : List Pair} {events : List ErrorEvent} {outcome : Outcome} →
     Starts past phase →
     Course (past.first + length past.pairs) past.events phase pairs events outcome next →
-        Starts (with_episode past phase pairs events outcome) next
+    Starts (with_episode past phase pairs events outcome) next
 course_starts past h (synced broken b) = tt
 course_starts past h (woken n) = sof_behind past n _ refl refl
 course_starts past h (completed start given frame driven sampled send) = tt
 course_starts past h (lost start given frame driven seen bit place) =
     subst (From (with_episode past (Send start given frame)
-        (driving driven seen ++ record { driven = true; sampled = false } ∷ []) [] Lost) start)
-        (sym (append_assoc given seen (false ∷ [])))
+    (driving driven seen ++ record { driven = true; sampled = false } ∷ []) [] Lost) start)
+    (sym (append_assoc given seen (false ∷ [])))
     (from_more past start given (seen ++ false ∷ []) _ _ h.0
     (sampled_append (driving driven seen) _ ∙ ap (λ t. t ++ false ∷ []) (sampled_driving driven seen bit.same_place))
-        refl refl)
+    refl refl)
 course_starts past h (stuff_lost start given frame driven seen bit place) = flag_starts _ _ _ _
 course_starts past h (unacknowledged start given frame driven seen bit) = flag_starts _ _ _ _
 course_starts past h (bit_differs start given frame driven seen level bit no_loss no_stuff) = flag_starts _ _ _ _
@@ -153,7 +201,7 @@ course_starts past h (recovered text whole) = tt
 episode_starts : (past : Past) {phase next : Phase} {pairs : List Pair} {events : List ErrorEvent} {outcome : Outcome} →
     Starts past phase →
     Episode (past.first + length past.pairs) past.events phase pairs events outcome next →
-        Starts (with_episode past phase pairs events outcome) next
+    Starts (with_episode past phase pairs events outcome) next
 episode_starts past h (begun n frame is on) = (
   record {
     before = past.pairs ++ listening (recessive n);

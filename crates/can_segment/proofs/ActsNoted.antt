@@ -1,7 +1,36 @@
 -- What the acts of a trace note in the history of a node, and the other way round.
 use Rattle.std.proofs.Common.{
-  ◌≡◌, inl, inr, ◌⊎◌, ℕ, zero, suc, ◌+◌, ◌-◌, ◌<◌, ◌≤◌, Bool, true, false, Option, Some, None, List, [], ◌∷◌, ◌++◌,
-  fold, length, take, slice_get, refl, sym, ap, subst, arith, ◌∙◌,
+  ◌≡◌,
+  inl,
+  inr,
+  ◌⊎◌,
+  ℕ,
+  zero,
+  suc,
+  ◌+◌,
+  ◌-◌,
+  ◌<◌,
+  ◌≤◌,
+  Bool,
+  true,
+  false,
+  Option,
+  Some,
+  None,
+  List,
+  [],
+  ◌∷◌,
+  ◌++◌,
+  fold,
+  length,
+  take,
+  slice_get,
+  refl,
+  sym,
+  ap,
+  subst,
+  arith,
+  ◌∙◌,
 }
 use Rattle.std.specs.Prelude.{option_and_then}
 use Rattle.std.specs.List.{Contains}
@@ -14,7 +43,13 @@ use Rattle.can_frame.specs.Frames.{FrameValue}
 use Rattle.can_node.specs.declared.confinement.ErrorState.{ErrorState}
 use Rattle.can_node.specs.declared.outcome.Outcome.{Outcome}
 use Rattle.can_node.specs.declared.outcome.Outcome.TheVariants.{
-  Nothing, Took, Completed, Lost, Errored, WentOff, CameBack,
+  Nothing,
+  Took,
+  Completed,
+  Lost,
+  Errored,
+  WentOff,
+  CameBack,
 }
 use Rattle.can_node.specs.Pairs.{Pair}
 use Rattle.can_node.specs.Histories.{Past, IsHistory, no_past, noted}
@@ -52,14 +87,19 @@ pub record NextAct (plan : SegmentPlan) (on node : ℕ) (trace : List Bit) (bit 
 
 next_by : (plan : SegmentPlan) (on node : ℕ) (Rules : Act → Type 0) (trace : List Bit) (bit : Bit) →
     ((act : Act) → Rules act → (label : Label) → act.reaped ≡ Some label →
-        IsReaping (sending_of node trace) act label) →
+    IsReaping (sending_of node trace) act label) →
     ActsAt plan on node Rules trace bit → NextAct plan on node trace bit
 next_by plan on node Rules trace bit reaping h = record {
   before = λ early. act_found bit.level bit.acts node None (h.before early);
   from_there_on = λ late.
       let a = h.from_there_on late in
-      record { act = a.0; act_is = act_found bit.level bit.acts node (Some a.0) a.1; is_act = a.2; reaps =
-          reaping a.0 a.3 };
+      record {
+        act = a.0;
+        act_is = act_found bit.level bit.acts node (Some a.0) a.1;
+        is_act = a.2;
+        reaps =
+            reaping a.0 a.3;
+      };
 }
 
 no_reaping : (node : ℕ) (trace : List Bit) (act : Act) (label : Label) → act.reaped ≡ None → act.reaped ≡ Some label →
@@ -72,21 +112,21 @@ pub next_act : (plan : SegmentPlan) (on node : ℕ) (trace : List Bit) (bit : Bi
 next_act plan on node trace bit h e =
     elim (first_at (λ (talker : Talker). talker.on) (λ (controller : Controller). controller.on) plan.talkers.items
     plan.controllers.items node on e) [
-  | inl is ↦ subst (λ n. NextAct plan n node trace bit) is.2
-      (next_by plan is.0.on node _ trace bit
+      | inl is ↦ subst (λ n. NextAct plan n node trace bit) is.2
+          (next_by plan is.0.on node _ trace bit
           (λ act rules label reaped. no_reaping node trace act label rules.no_reaping reaped)
           (h.talkers node is.0 is.1))
-  | inr is ↦ (let at = length plan.talkers.items + is.0 in
-      subst (λ n. NextAct plan on n trace bit) (sym is.2)
-      (subst (λ n. NextAct plan n at trace bit) is.4
-      (next_by plan is.1.on at _ trace bit (λ act rules label reaped. rules.reaps label reaped)
+      | inr is ↦ (let at = length plan.talkers.items + is.0 in
+          subst (λ n. NextAct plan on n trace bit) (sym is.2)
+          (subst (λ n. NextAct plan n at trace bit) is.4
+          (next_by plan is.1.on at _ trace bit (λ act rules label reaped. rules.reaps label reaped)
           (h.controllers is.0 is.1 is.3))))
-]
+    ]
 
 -- what a node begins and tells is noted in its past
 start_keeps : (past : Past) (begun : Option Sent) →
     ((with_start past begun).outcomes ≡ past.outcomes)
-        × ((with_start past begun).first + length (with_start past begun).pairs ≡ past.first + length past.pairs)
+    × ((with_start past begun).first + length (with_start past begun).pairs ≡ past.first + length past.pairs)
 start_keeps past None = (refl, refl)
 start_keeps past (Some sent) = (refl, refl)
 
@@ -95,7 +135,7 @@ pub act_outcomes : (past : Past) (act : Act) →
 act_outcomes past act =
     let keeps = start_keeps past act.begun in
     ap (λ o. o ++ noted ((with_start past act.begun).first + length (with_start past act.begun).pairs) act.outcome)
-        keeps.0
+    keeps.0
     ∙ ap (λ n. past.outcomes ++ noted n act.outcome) keeps.1
 
 -- a frame with its bit, where one is begun
@@ -162,7 +202,7 @@ grows_along node past [] = record {
 }
 grows_along node past (bit ∷ trace) =
     grows_on past (with_act past (act_of node bit)) _ (grows_by past (act_of node bit))
-        (grows_along node (with_act past (act_of node bit)) trace)
+    (grows_along node (with_act past (act_of node bit)) trace)
 
 split_at : {X : Type 0} (xs : List X) (k : ℕ) → (more : List X) × (xs ≡ take k xs ++ more)
 split_at xs zero = (xs, refl)
@@ -175,7 +215,7 @@ prefix_grows on node trace k =
     let rest = split_at trace k in
     subst (GrowsTo (past_of on node (take k trace)))
     (sym (ap (past_of on node) rest.1
-        ∙ fold-append (λ p bit. with_act p (act_of node bit)) (no_past on) (take k trace) rest.0))
+    ∙ fold-append (λ p bit. with_act p (act_of node bit)) (no_past on) (take k trace) rest.0))
     (grows_along node (past_of on node (take k trace)) rest.0)
 
 -- what a node does at a bit of a trace
@@ -203,7 +243,7 @@ does_before : (plan : SegmentPlan) (node on : ℕ) (trace : List Bit) (bit : Bit
 does_before plan node on trace bit b act d =
     let same : take b (trace ++ bit ∷ []) ≡ take b trace = take_left trace (bit ∷ []) b (omega (arith, d.within)) in
     let grown = subst (GrowsTo (past_of on node trace)) (sym (past_more on node trace bit))
-        (grows_by (past_of on node trace) (act_of node bit)) in
+    (grows_by (past_of on node trace) (act_of node bit)) in
     record {
       late = d.late;
       within = omega (arith, d.within, length-append trace (bit ∷ []));
@@ -216,22 +256,21 @@ does_before plan node on trace bit b act d =
       reaps = λ label e. subst (λ t. IsReaping (sending_of node t) act label) (sym same) (d.reaps label e);
     }
 
-
 -- a node has made as many bits as it was on
 clock_of : {plan : SegmentPlan} {trace : List Bit} {levels : List Bool} {events : List Event} (node on : ℕ) →
     Run plan trace levels events →
     slice_get (firsts plan) node ≡ Some on → on ≤ length trace →
-        (past_of on node trace).first + length (past_of on node trace).pairs ≡ length trace
+    (past_of on node trace).first + length (past_of on node trace).pairs ≡ length trace
 clock_of {trace = trace} node on run e late =
     omega (arith, (node_run node on run e).size, first_from node (no_past on) trace, late)
 
 noted_here : (node : ℕ) (past : Past) (trace : List Bit) (bit : Bit) (act : Act) (on b : ℕ) →
     past ≡ past_of on node trace → act_of node bit ≡ Some act → past.first + length past.pairs ≡ b →
     ((past_of on node (trace ++ bit ∷ [])).begun ≡ past.begun ++ begun_in b act.begun)
-        × ((past_of on node (trace ++ bit ∷ [])).outcomes ≡ past.outcomes ++ noted b act.outcome)
+    × ((past_of on node (trace ++ bit ∷ [])).outcomes ≡ past.outcomes ++ noted b act.outcome)
 noted_here node past trace bit act on b is act_is clock =
     let more : past_of on node (trace ++ bit ∷ []) ≡ with_act past (Some act) =
-        past_more on node trace bit ∙ ap (λ p. with_act p (act_of node bit)) (sym is) ∙ ap (with_act past) act_is in (
+    past_more on node trace bit ∙ ap (λ p. with_act p (act_of node bit)) (sym is) ∙ ap (with_act past) act_is in (
       ap (λ (p : Past). p.begun) more ∙ start_begun past act.begun ∙ ap (λ n. past.begun ++ begun_in n act.begun) clock,
       ap (λ (p : Past). p.outcomes) more ∙ act_outcomes past act ∙ ap (λ n. past.outcomes ++ noted n act.outcome) clock,
     )
@@ -239,13 +278,13 @@ noted_here node past trace bit act on b is act_is clock =
 does_last : {plan : SegmentPlan} {trace : List Bit} {levels : List Bool} {events : List Event} (node on : ℕ) (bit : Bit)
     (b : ℕ) → Run plan trace levels events →
     slice_get (firsts plan) node ≡ Some on → b ≡ length trace → on ≤ length trace →
-        (d : DoesNext plan on node trace bit) → Does plan node on (trace ++ bit ∷ []) b d.act
+    (d : DoesNext plan on node trace bit) → Does plan node on (trace ++ bit ∷ []) b d.act
 does_last {plan = plan} {trace = trace} node on bit b run e now late d =
     let past = past_of on node trace in
     let clock : past.first + length past.pairs ≡ b = clock_of node on run e late ∙ sym now in
     let here = noted_here node past trace bit d.act on b refl d.act_is clock in
     let before : take b (trace ++ bit ∷ []) ≡ trace = take_left trace (bit ∷ []) b (omega (arith, now))
-        ∙ ap (λ n. take n trace) now ∙ take_whole trace in
+    ∙ ap (λ n. take n trace) now ∙ take_whole trace in
     record {
       late = omega (arith, late, now);
       within = omega (arith, now, length-append trace (bit ∷ []));
@@ -253,7 +292,7 @@ does_last {plan = plan} {trace = trace} node on bit b run e now late d =
       begins = λ sent is. subst (λ t. IsBegun (past_of on node t) sent) (sym before) (d.is_act.begins sent is);
       begun = λ sent is. subst (λ l. Contains l (b, sent.frame)) (sym here.0)
           (Contains-append_right past.begun (begun_in b d.act.begun) (b, sent.frame)
-              (subst (λ s. Contains (begun_in b s) (b, sent.frame)) (sym is) (0, omega arith, refl)));
+          (subst (λ s. Contains (begun_in b s) (b, sent.frame)) (sym is) (0, omega arith, refl)));
       told = λ x c. subst (λ l. Contains l x) (sym here.1)
           (Contains-append_right past.outcomes (noted b d.act.outcome) x c);
       reaps = λ label is. subst (λ t. IsReaping (sending_of node t) d.act label) (sym before) (d.reaps label is);
@@ -276,7 +315,7 @@ act_past : (node : ℕ) (trace : List Bit) (bit : Bit) (b : ℕ) (act : Act) →
     act_at node (trace ++ bit ∷ []) b ≡ Some act → ⊥
 act_past node trace bit b act late e =
     let none = ap (option_and_then (act_of node))
-        (slice_get_past (trace ++ bit ∷ []) b (omega (arith, late, length-append trace (bit ∷ [])))) in
+    (slice_get_past (trace ++ bit ∷ []) b (omega (arith, late, length-append trace (bit ∷ [])))) in
     cc (none, e)
 
 -- each act of a trace notes what it begins and tells
@@ -297,7 +336,7 @@ does_at {plan = plan} node on b act (one_more {trace = trace} bit run is_bit) e 
               | inl early ↦ absurd (let none = next.before early in cc (none, here))
               | inr on_now ↦ (let d = next.from_there_on on_now in
                   subst (Does plan node on (trace ++ bit ∷ []) b) (same_found d.act act (sym d.act_is ∙ here))
-                      (does_last node on bit b run e now on_now d))
+                  (does_last node on bit b run e now on_now d))
             ])
       ]
     ]
@@ -336,13 +375,19 @@ later_act node trace bit b act is = act_before node trace bit b (within_act node
 pub began_at : {plan : SegmentPlan} {trace : List Bit} {levels : List Bool} {events : List Event} (node on b : ℕ)
     (frame : FrameValue) → Run plan trace levels events →
     slice_get (firsts plan) node ≡ Some on → Contains (past_of on node trace).begun (b, frame) →
-        BeganAt node on trace b frame
+    BeganAt node on trace b frame
 began_at node on b frame no_bit e c = absurd (omega (arith, c.1))
 began_at {plan = plan} node on b frame (one_more {trace = trace} bit run is_bit) e c =
     let next = next_act plan on node trace bit is_bit e in
     let older : BeganAt node on trace b frame → BeganAt node on (trace ++ bit ∷ []) b frame =
-    λ t. record { act = t.act; act_is = later_act node trace bit b t.act t.act_is; sent = t.sent; begun_is =
-        t.begun_is; frame_is = t.frame_is } in
+    λ t. record {
+      act = t.act;
+      act_is = later_act node trace bit b t.act t.act_is;
+      sent = t.sent;
+      begun_is =
+          t.begun_is;
+      frame_is = t.frame_is;
+    } in
     elim (cases_lt (length trace) on) [
       | inl early ↦ (let same : past_of on node (trace ++ bit ∷ []) ≡ past_of on node trace =
           past_more on node trace bit ∙ ap (with_act (past_of on node trace)) (next.before early) in
@@ -350,20 +395,26 @@ began_at {plan = plan} node on b frame (one_more {trace = trace} bit run is_bit)
       | inr late ↦ (let d = next.from_there_on late in
           let past = past_of on node trace in
           let here = noted_here node past trace bit d.act on (length trace) refl d.act_is
-              (clock_of node on run e late) in
+          (clock_of node on run e late) in
           elim (Contains-append_cases past.begun (begun_in (length trace) d.act.begun) (b, frame)
-              (subst (λ l. Contains l (b, frame)) here.0 c)) [
+          (subst (λ l. Contains l (b, frame)) here.0 c)) [
             | inl before ↦ older (began_at node on b frame run e before)
             | inr now ↦ (let n = begun_noted (length trace) b d.act.begun frame now in
-                record { act = d.act; act_is = act_last node trace bit b n.3 ∙ d.act_is; sent = n.0; begun_is =
-                    n.1; frame_is = n.2 })
+                record {
+                  act = d.act;
+                  act_is = act_last node trace bit b n.3 ∙ d.act_is;
+                  sent = n.0;
+                  begun_is =
+                      n.1;
+                  frame_is = n.2;
+                })
           ])
     ]
 
 pub told_at : {plan : SegmentPlan} {trace : List Bit} {levels : List Bool} {events : List Event} (node on b : ℕ)
     (outcome : Outcome) → Run plan trace levels events →
     slice_get (firsts plan) node ≡ Some on → Contains (past_of on node trace).outcomes (b, outcome) →
-        ToldAt node trace b outcome
+    ToldAt node trace b outcome
 told_at node on b outcome no_bit e c = absurd (omega (arith, c.1))
 told_at {plan = plan} node on b outcome (one_more {trace = trace} bit run is_bit) e c =
     let next = next_act plan on node trace bit is_bit e in
@@ -376,9 +427,9 @@ told_at {plan = plan} node on b outcome (one_more {trace = trace} bit run is_bit
       | inr late ↦ (let d = next.from_there_on late in
           let past = past_of on node trace in
           let here = noted_here node past trace bit d.act on (length trace) refl d.act_is
-              (clock_of node on run e late) in
+          (clock_of node on run e late) in
           elim (Contains-append_cases past.outcomes (noted (length trace) d.act.outcome) (b, outcome)
-              (subst (λ l. Contains l (b, outcome)) here.1 c)) [
+          (subst (λ l. Contains l (b, outcome)) here.1 c)) [
             | inl before ↦ older (told_at node on b outcome run e before)
             | inr now ↦ (let n = noted_is (length trace) b d.act.outcome outcome now in
                 record { act = d.act; act_is = act_last node trace bit b n.0 ∙ d.act_is; outcome_is = n.1 })
@@ -405,7 +456,7 @@ fresh_past node on no_bit e few = refl
 fresh_past {plan = plan} node on (one_more {trace = trace} bit run is_bit) e few =
     let early : length trace < on = omega (arith, few, length-append trace (bit ∷ [])) in
     past_more on node trace bit
-        ∙ ap (with_act (past_of on node trace)) ((next_act plan on node trace bit is_bit e).before early)
+    ∙ ap (with_act (past_of on node trace)) ((next_act plan on node trace bit is_bit e).before early)
     ∙ fresh_past node on run e (omega (arith, early))
 
 -- the past of each node is a history
@@ -418,9 +469,9 @@ has_history {plan = plan} node on (one_more {trace = trace} bit run is_bit) e =
     elim (cases_lt (length trace) on) [
       | inl early ↦ (let same : past_of on node (trace ++ bit ∷ []) ≡ no_past on =
           past_more on node trace bit ∙ ap (with_act (past_of on node trace)) (next.before early)
-              ∙ fresh_past node on run e (omega (arith, early)) in
+          ∙ fresh_past node on run e (omega (arith, early)) in
           subst IsHistory (sym same) (fresh_history on))
       | inr late ↦ (let d = next.from_there_on late in
           subst IsHistory (sym (past_more on node trace bit ∙ ap (with_act (past_of on node trace)) d.act_is))
-              d.is_act.history)
+          d.is_act.history)
     ]

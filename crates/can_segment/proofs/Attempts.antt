@@ -1,7 +1,37 @@
 -- What the lines tell of attempts.
 use Rattle.std.proofs.Common.{
-  ◌≡◌, inl, inr, ◌⊎◌, ℕ, zero, suc, ◌+◌, ◌-◌, ◌<◌, ◌≤◌, Bool, true, false, cond, Option, Some, None, List, [], ◌∷◌,
-  ◌++◌, fold, length, take, slice_get, refl, sym, ap, subst, arith, ◌∙◌,
+  ◌≡◌,
+  inl,
+  inr,
+  ◌⊎◌,
+  ℕ,
+  zero,
+  suc,
+  ◌+◌,
+  ◌-◌,
+  ◌<◌,
+  ◌≤◌,
+  Bool,
+  true,
+  false,
+  cond,
+  Option,
+  Some,
+  None,
+  List,
+  [],
+  ◌∷◌,
+  ◌++◌,
+  fold,
+  length,
+  take,
+  slice_get,
+  refl,
+  sym,
+  ap,
+  subst,
+  arith,
+  ◌∙◌,
 }
 use Rattle.std.specs.Prelude.{option_and_then}
 use Rattle.std.specs.List.{Contains}
@@ -12,7 +42,13 @@ use Rattle.can_frame.specs.Frames.{FrameValue}
 use Rattle.can_node.specs.declared.confinement.ErrorState.{ErrorState}
 use Rattle.can_node.specs.declared.outcome.Outcome.{Outcome}
 use Rattle.can_node.specs.declared.outcome.Outcome.TheVariants.{
-  Nothing, Took, Completed, Lost, Errored, WentOff, CameBack,
+  Nothing,
+  Took,
+  Completed,
+  Lost,
+  Errored,
+  WentOff,
+  CameBack,
 }
 use Rattle.can_node.specs.Histories.{Past, no_past, noted}
 use Rattle.can_node.specs.Cuts.{IsAttempt}
@@ -25,10 +61,25 @@ use Rattle.can_segment.specs.declared.event.Event.{Event}
 use Rattle.can_segment.specs.declared.plan.SegmentPlan.{SegmentPlan}
 use Rattle.can_segment.specs.declared.sent.Sent.{Sent}
 use Rattle.can_segment.specs.Attempts.{
-  IsPastOf, act_at, begun_at, sending_at, outcome_at, IsTold, AttemptsAreTold, EndsAreOfAttempts,
+  IsPastOf,
+  act_at,
+  begun_at,
+  sending_at,
+  outcome_at,
+  IsTold,
+  AttemptsAreTold,
+  EndsAreOfAttempts,
 }
 use Rattle.can_segment.specs.Traces.{
-  Act, Bit, act_of, past_of, sending_of, sending_now, sending_after, sending_behind, ends_sending,
+  Act,
+  Bit,
+  act_of,
+  past_of,
+  sending_of,
+  sending_now,
+  sending_after,
+  sending_behind,
+  ends_sending,
 }
 use Rattle.can_segment.specs.Runs.{Run, firsts}
 use Rattle.can_segment.proofs.OneLine.{same_found, first_from}
@@ -135,7 +186,7 @@ behind_more node trace k not = elim (act_or_none (act_at node trace k)) [
   | inr some ↦ (let outcome = outcome_by node trace k some.0 some.1 in
       ap (sending_behind (sending_of node (take k trace))) some.1
       ∙ after_more (sending_now (sending_of node (take k trace)) some.0.begun) some.0.outcome
-          (ends_sending some.0.outcome) refl (λ ends. not (ap ends_sending outcome ∙ ends))
+      (ends_sending some.0.outcome) refl (λ ends. not (ap ends_sending outcome ∙ ends))
       ∙ sym (ap (λ f. sending_now (sending_of node (take k trace)) (option_and_then (λ (a : Act). a.begun) f)) some.1))
 ]
 
@@ -159,7 +210,7 @@ sends_still node trace first (suc k) sent s =
     let at : first + suc k ≡ suc (first + k) = omega arith in
     let carried : sending_of node (take (suc (first + k)) trace) ≡ Some sent =
     sending_next node trace (first + k)
-        ∙ behind_more node trace (first + k) (s.none_ended (first + k) (omega arith) (omega arith)) ∙ before in
+    ∙ behind_more node trace (first + k) (s.none_ended (first + k) (omega arith) (omega arith)) ∙ before in
     ap (λ n. sending_at node trace n) at
     ∙ now_none (sending_of node (take (suc (first + k)) trace)) (begun_at node trace (suc (first + k))) sent carried
     (λ other e. s.none_begun (suc (first + k)) other (omega arith) (omega arith) e)
@@ -191,7 +242,7 @@ sends_behind node trace k sent e = elim (act_or_none (act_at node trace k)) [
   | inr some ↦ (let acted = sym (ap (sending_behind (sending_of node (take k trace))) some.1)
       ∙ sym (sending_next node trace k) ∙ e in
       let h = after_sends (sending_now (sending_of node (take k trace)) some.0.begun) some.0.outcome
-          (ends_sending some.0.outcome) sent refl acted in
+      (ends_sending some.0.outcome) sent refl acted in
       record {
         before = ap (λ f. sending_now (sending_of node (take k trace)) (option_and_then (λ (a : Act). a.begun) f))
             some.1 ∙ h.1;
@@ -216,27 +267,27 @@ sends_since node trace zero sent e = elim (began None (begun_at node trace 0) se
 ]
 sends_since node trace (suc k) sent e =
     elim (began (sending_of node (take (suc k) trace)) (begun_at node trace (suc k)) sent e) [
-  | inl now ↦ (suc k, from_here node trace (suc k) sent now)
-  | inr earlier ↦ (let b = sends_behind node trace k sent earlier.1 in
-      let s = sends_since node trace k sent b.before in (
-        s.0,
-        record {
-          in_order = omega (arith, s.1.in_order);
-          begins = s.1.begins;
-          none_begun = λ bit other from to is. elim (cases_lt k bit) [
-            | inl last ↦ (let now : bit ≡ suc k = omega (arith, last, to) in
-                let here = ap (begun_at node trace) now in cc (here, is, earlier.0))
-            | inr within ↦ s.1.none_begun bit other from within is
-          ];
-          none_ended = λ bit from to ends. elim (cases_lt bit k) [
-            | inl within ↦ s.1.none_ended bit from within ends
-            | inr last ↦ (let now : bit ≡ k =
-                omega (arith, last, to) in
-                b.goes_on (sym (ap (λ n. ends_sending (outcome_at node trace n)) now) ∙ ends))
-          ];
-        },
-      ))
-]
+      | inl now ↦ (suc k, from_here node trace (suc k) sent now)
+      | inr earlier ↦ (let b = sends_behind node trace k sent earlier.1 in
+          let s = sends_since node trace k sent b.before in (
+            s.0,
+            record {
+              in_order = omega (arith, s.1.in_order);
+              begins = s.1.begins;
+              none_begun = λ bit other from to is. elim (cases_lt k bit) [
+                | inl last ↦ (let now : bit ≡ suc k = omega (arith, last, to) in
+                    let here = ap (begun_at node trace) now in cc (here, is, earlier.0))
+                | inr within ↦ s.1.none_begun bit other from within is
+              ];
+              none_ended = λ bit from to ends. elim (cases_lt bit k) [
+                | inl within ↦ s.1.none_ended bit from within ends
+                | inr last ↦ (let now : bit ≡ k =
+                    omega (arith, last, to) in
+                    b.goes_on (sym (ap (λ n. ends_sending (outcome_at node trace n)) now) ∙ ends))
+              ];
+            },
+          ))
+    ]
 
 -- an attempt of a node's history, as the acts show it
 record Shown (node : ℕ) (trace : List Bit) (start : ℕ) (frame : FrameValue) (first end : ℕ)
@@ -251,7 +302,7 @@ shown : {plan : SegmentPlan} {trace : List Bit} {levels : List Bool} {events : L
     (frame : FrameValue) (state : ErrorState) (outcome : Outcome) →
     Run plan trace levels events → slice_get (firsts plan) node ≡ Some on →
     (attempt : IsAttempt (past_of on node trace) start frame state end outcome) →
-        Shown node trace start frame (first_bit attempt) end outcome
+    Shown node trace start frame (first_bit attempt) end outcome
 shown {trace = trace} node on start end frame state outcome run on_is attempt =
     let past = past_of on node trace in
     let alone = attempts_stand_alone past start end frame state outcome attempt in
@@ -264,7 +315,7 @@ shown {trace = trace} node on start end frame state outcome run on_is attempt =
       sent = b.sent;
       start_is = starts_are_sofs past before g.pairs start b.sent.start end frame b.sent.frame state outcome attempt
           (first_from node (no_past on) trace ∙ sym (first_from node (no_past on) (take (first_bit attempt) trace)))
-              g.pairs_are (sym d.clock) (d.begins b.sent b.begun_is).sends;
+          g.pairs_are (sym d.clock) (d.begins b.sent b.begun_is).sends;
       frame_is = b.frame_is;
       sends = record {
         in_order = alone.in_order;
@@ -276,7 +327,7 @@ shown {trace = trace} node on start end frame state outcome run on_is attempt =
             let a = act_ends node trace bit ends in
             let told = end_noted bit a.0.outcome (sym (ap ends_sending (outcome_by node trace bit a.0 a.1)) ∙ ends) in
             alone.none_told bit a.0.outcome from to
-                ((does_at node on bit a.0 run on_is a.1).told (bit, a.0.outcome) told);
+            ((does_at node on bit a.0 run on_is a.1).told (bit, a.0.outcome) told);
       };
       outcome_is = outcome_by node trace end t.act t.act_is ∙ t.outcome_is;
     }
@@ -286,7 +337,7 @@ is_told : {plan : SegmentPlan} {trace : List Bit} {levels : List Bool} {events :
     (frame : FrameValue) (state : ErrorState) (outcome : Outcome) →
     Run plan trace levels events → slice_get (firsts plan) node ≡ Some on →
     (attempt : IsAttempt (past_of on node trace) start frame state end outcome) →
-        IsTold node trace start frame (first_bit attempt) end outcome
+    IsTold node trace start frame (first_bit attempt) end outcome
 is_told {trace = trace} node on start end frame state outcome run on_is attempt =
     let s = shown node on start end frame state outcome run on_is attempt in
     let at : first_bit attempt + (end - first_bit attempt) ≡ end = omega (arith, s.sends.in_order) in
@@ -305,7 +356,7 @@ pub attempts_are_told : {plan : SegmentPlan} {trace : List Bit} {levels : List B
     Run plan trace levels events → AttemptsAreTold plan trace
 attempts_are_told {trace = trace} run node past start end frame state outcome p attempt =
     let P : Past → Type 0 = λ past. (attempt : IsAttempt past start frame state end outcome) →
-        IsTold node trace start frame (first_bit attempt) end outcome in
+    IsTold node trace start frame (first_bit attempt) end outcome in
     subst P (sym p.past_is) (λ attempt. is_told node p.on start end frame state outcome run p.on_is attempt) attempt
 
 -- a transmission that ends is an attempt that ends there
@@ -313,18 +364,18 @@ ends_as : {plan : SegmentPlan} {trace : List Bit} {levels : List Bool} {events :
     (sent : Sent) → Run plan trace levels events → slice_get (firsts plan) node ≡ Some on →
     SendsFrom node trace first end sent → ends_sending (outcome_at node trace end) ≡ true →
     (from : IsAttemptFrom (past_of on node trace) first sent.frame) →
-        (state : ErrorState) × IsAttempt (past_of on node trace) sent.start sent.frame state end
-        (outcome_at node trace end)
+    (state : ErrorState) × IsAttempt (past_of on node trace) sent.start sent.frame state end
+    (outcome_at node trace end)
 ends_as {trace = trace} node on first end sent run on_is sends ends from =
     let past = past_of on node trace in
     let s = shown node on from.start from.end sent.frame from.state from.outcome run on_is from.attempt in
     let begins : begun_at node trace first ≡ Some s.sent = ap (begun_at node trace) (sym from.first_is)
-        ∙ s.sends.begins in
+    ∙ s.sends.begins in
     let same : s.sent ≡ sent = same_found s.sent sent (sym begins ∙ sends.begins) in
     let start : from.start ≡ sent.start = sym s.start_is ∙ ap (λ (x : Sent). x.start) same in
     let over : ends_sending (outcome_at node trace from.end) ≡ true =
     ap ends_sending s.outcome_is
-        ∙ ends_it (attempt_end past from.start from.end sent.frame from.state from.outcome from.attempt) in
+    ∙ ends_it (attempt_end past from.start from.end sent.frame from.state from.outcome from.attempt) in
     let order : first ≤ from.end = omega (arith, s.sends.in_order, from.first_is) in
     let end_is : from.end ≡ end = elim (cases_lt from.end end) [
       | inl sooner ↦ absurd (sends.none_ended from.end order sooner over)
@@ -355,12 +406,12 @@ end_of {trace = trace} node on end sent run on_is sending ends =
           let a = act_ends node trace end ends in
           let told = end_noted end a.0.outcome (sym (ap ends_sending (outcome_by node trace end a.0 a.1)) ∙ ends) in
           open_tells_nothing past since.0 sent.frame goes_on end a.0.outcome since.1.in_order
-              ((does_at node on end a.0 run on_is a.1).told (end, a.0.outcome) told))
+          ((does_at node on end a.0 run on_is a.1).told (end, a.0.outcome) told))
     ]
 
 pub ends_are_of_attempts : {plan : SegmentPlan} {trace : List Bit} {levels : List Bool} {events : List Event} →
     Run plan trace levels events → EndsAreOfAttempts plan trace
 ends_are_of_attempts {trace = trace} run node end past sent p sending ends =
     let P : Past → Type 0 =
-        λ past. (state : ErrorState) × IsAttempt past sent.start sent.frame state end (outcome_at node trace end) in
+    λ past. (state : ErrorState) × IsAttempt past sent.start sent.frame state end (outcome_at node trace end) in
     subst P (sym p.past_is) (end_of node p.on end sent run p.on_is sending ends)

@@ -17,13 +17,13 @@ pub keeps_copies : {plan : SegmentPlan} {trace : List Bit} {levels : List Bool} 
 keeps_copies {plan = plan} run = record {
   errors = λ node other sender receiver start end last frame given kind s r attempt take fair.
       active_errors sender receiver (is_falsified plan node) (is_falsified plan other) start end last frame given kind
-          (one_line node other sender receiver run s r) attempt take fair;
+      (one_line node other sender receiver run s r) attempt take fair;
   completed = λ node other sender receiver start end last frame state outcome s r attempt sound take tells.
       completed_taken sender receiver (is_falsified plan node) (is_falsified plan other) start end last frame state
-          outcome (one_line node other sender receiver run s r) attempt sound take tells;
+      outcome (one_line node other sender receiver run s r) attempt sound take tells;
   no_open = λ node other sender receiver start end frame state s r attempt sound take.
       none_open sender receiver (is_falsified plan node) (is_falsified plan other) start end frame state
-          (one_line node other sender receiver run s r) attempt sound take;
+      (one_line node other sender receiver run s r) attempt sound take;
   talkers = talkers_try_failures run;
   controllers = requests_try_failures run;
   told = attempts_are_told run;

@@ -1,7 +1,42 @@
 -- Two nodes of a run are on one line.
 use Rattle.std.proofs.Common.{
-  ◌≡◌, inl, inr, ℕ, zero, suc, ◌+◌, ◌-◌, ◌<◌, ◌≤◌, Bool, true, false, not, cond, eqb, ◌||◌, ◌&&◌, Option, Some, None,
-  List, [], ◌∷◌, ◌++◌, fold, length, map, slice_get, option_map, refl, sym, ap, subst, arith, ◌∙◌, length-append,
+  ◌≡◌,
+  inl,
+  inr,
+  ℕ,
+  zero,
+  suc,
+  ◌+◌,
+  ◌-◌,
+  ◌<◌,
+  ◌≤◌,
+  Bool,
+  true,
+  false,
+  not,
+  cond,
+  eqb,
+  ◌||◌,
+  ◌&&◌,
+  Option,
+  Some,
+  None,
+  List,
+  [],
+  ◌∷◌,
+  ◌++◌,
+  fold,
+  length,
+  map,
+  slice_get,
+  option_map,
+  refl,
+  sym,
+  ap,
+  subst,
+  arith,
+  ◌∙◌,
+  length-append,
 }
 use Rattle.std.specs.List.{list_any, list_all}
 use Rattle.std.proofs.lemmas.Bool.{cases_lt}
@@ -68,16 +103,22 @@ pub node_acts : (plan : SegmentPlan) (on node : ℕ) (trace : List Bit) (bit : B
 node_acts plan on node trace bit h e =
     elim (first_at (λ (talker : Talker). talker.on) (λ (controller : Controller). controller.on) plan.talkers.items
     plan.controllers.items node on e) [
-  | inl is ↦ (let a = h.talkers node is.0 is.1 in
-      subst (λ n. NodeActs plan n node trace bit) is.2
-          (record { before = λ early. none_by plan _ node _ trace bit early a; from_there_on =
-          λ late. acts_by plan _ node _ trace bit late a }))
-  | inr is ↦ (let a = h.controllers is.0 is.1 is.3 in
-      subst (λ n. NodeActs plan on n trace bit) (sym is.2)
-      (subst (λ n. NodeActs plan n (length plan.talkers.items + is.0) trace bit) is.4
-      (record { before = λ early. none_by plan _ _ _ trace bit early a; from_there_on =
-          λ late. acts_by plan _ _ _ trace bit late a })))
-]
+      | inl is ↦ (let a = h.talkers node is.0 is.1 in
+          subst (λ n. NodeActs plan n node trace bit) is.2
+          (record {
+            before = λ early. none_by plan _ node _ trace bit early a;
+            from_there_on =
+                λ late. acts_by plan _ node _ trace bit late a;
+          }))
+      | inr is ↦ (let a = h.controllers is.0 is.1 is.3 in
+          subst (λ n. NodeActs plan on n trace bit) (sym is.2)
+          (subst (λ n. NodeActs plan n (length plan.talkers.items + is.0) trace bit) is.4
+          (record {
+            before = λ early. none_by plan _ _ _ trace bit early a;
+            from_there_on =
+                λ late. acts_by plan _ _ _ trace bit late a;
+          })))
+    ]
 
 start_keeps : (past : Past) (begun : Option Sent) →
     ((with_start past begun).pairs ≡ past.pairs) × ((with_start past begun).first ≡ past.first)
@@ -144,8 +185,8 @@ node_run {plan = plan} node on (one_more {trace = trace} bit run is) e =
     elim (cases_lt (length trace) on) [
       | inl early ↦ (
           let same : past_of on node (trace ++ bit ∷ []) ≡ past_of on node trace =
-              past_more on node trace bit
-              ∙ ap (with_act (past_of on node trace)) (act_found bit.level bit.acts node None (acts.before early)) in
+          past_more on node trace bit
+          ∙ ap (with_act (past_of on node trace)) (act_found bit.level bit.acts node None (acts.before early)) in
           record {
             size = omega (arith, ap (λ (p : Past). length p.pairs) same, h.size, size, early);
             at = λ b late before. absurd (omega (arith, late, before, size, early));
@@ -153,15 +194,21 @@ node_run {plan = plan} node on (one_more {trace = trace} bit run is) e =
       | inr late ↦ (
           let a = acts.from_there_on late in
           let more : (past_of on node (trace ++ bit ∷ [])).pairs ≡ (past_of on node trace).pairs
-              ++ record { driven = a.act.driven; sampled = a.act.sampled } ∷ [] =
+          ++ record { driven = a.act.driven; sampled = a.act.sampled } ∷ [] =
           ap (λ (p : Past). p.pairs)
-              (past_more on node trace bit
-              ∙ ap (with_act (past_of on node trace)) (act_found bit.level bit.acts node (Some a.act) a.here))
-              ∙ act_pairs (past_of on node trace) a.act in
+          (past_more on node trace bit
+          ∙ ap (with_act (past_of on node trace)) (act_found bit.level bit.acts node (Some a.act) a.here))
+          ∙ act_pairs (past_of on node trace) a.act in
           record {
-            size = omega (arith, ap length more,
-                length-append (past_of on node trace).pairs
-                (record { driven = a.act.driven; sampled = a.act.sampled } ∷ []), h.size, size, late);
+            size = omega (
+              arith,
+              ap length more,
+              length-append (past_of on node trace).pairs
+                  (record { driven = a.act.driven; sampled = a.act.sampled } ∷ []),
+              h.size,
+              size,
+              late,
+            );
             at = λ b from before. elim (cases_lt b (length trace)) [
               | inl earlier ↦ (let w = h.at b from earlier in record {
                 bit = w.bit;
@@ -213,15 +260,23 @@ sampled_at : (plan : SegmentPlan) (node on : ℕ) (trace : List Bit) (bit : ℕ)
 sampled_at plan node on trace bit x h s =
     let first = first_from node (no_past on) trace in
     let within = slice_get_within (map (λ (pair : Pair). pair.sampled) (past_of on node trace).pairs) s.place x
-        s.level_is in
+    s.level_is in
     let a = h.at bit (omega (arith, s.bit_is, first))
-        (omega (arith, s.bit_is, first, within,
-        length-map {B = Bool} (past_of on node trace).pairs (λ (pair : Pair). pair.sampled), h.size)) in
+    (omega (
+      arith,
+      s.bit_is,
+      first,
+      within,
+      length-map {B = Bool} (past_of on node trace).pairs (λ (pair : Pair). pair.sampled),
+      h.size,
+    )) in
     let place : s.place ≡ bit - on = omega (arith, s.bit_is, first) in
     let found = sym (slice_get-map (λ (pair : Pair). pair.sampled) (past_of on node trace).pairs s.place)
-        ∙ s.level_is in
-    (a, option_same (λ (pair : Pair). pair.sampled) (slice_get (past_of on node trace).pairs s.place) _ x
-        (ap (slice_get (past_of on node trace).pairs) place ∙ a.pair_is) found)
+    ∙ s.level_is in (
+      a,
+      option_same (λ (pair : Pair). pair.sampled) (slice_get (past_of on node trace).pairs s.place) _ x
+          (ap (slice_get (past_of on node trace).pairs) place ∙ a.pair_is) found,
+    )
 
 -- and what it drives
 driven_at : (plan : SegmentPlan) (node on : ℕ) (trace : List Bit) (bit : ℕ) (x : Bool) → NodeRun plan node on trace →
@@ -229,48 +284,63 @@ driven_at : (plan : SegmentPlan) (node on : ℕ) (trace : List Bit) (bit : ℕ) 
 driven_at plan node on trace bit x h s =
     let first = first_from node (no_past on) trace in
     let within = slice_get_within (map (λ (pair : Pair). pair.driven) (past_of on node trace).pairs) s.place x
-        s.level_is in
+    s.level_is in
     let a = h.at bit (omega (arith, s.bit_is, first))
-        (omega (arith, s.bit_is, first, within,
-        length-map {B = Bool} (past_of on node trace).pairs (λ (pair : Pair). pair.driven), h.size)) in
+    (omega (
+      arith,
+      s.bit_is,
+      first,
+      within,
+      length-map {B = Bool} (past_of on node trace).pairs (λ (pair : Pair). pair.driven),
+      h.size,
+    )) in
     let place : s.place ≡ bit - on = omega (arith, s.bit_is, first) in
-    let found = sym (slice_get-map (λ (pair : Pair). pair.driven) (past_of on node trace).pairs s.place) ∙ s.level_is in
-    (a, option_same (λ (pair : Pair). pair.driven) (slice_get (past_of on node trace).pairs s.place) _ x
-        (ap (slice_get (past_of on node trace).pairs) place ∙ a.pair_is) found)
+    let found = sym (slice_get-map (λ (pair : Pair). pair.driven) (past_of on node trace).pairs s.place) ∙ s.level_is in (
+      a,
+      option_same (λ (pair : Pair). pair.driven) (slice_get (past_of on node trace).pairs s.place) _ x
+          (ap (slice_get (past_of on node trace).pairs) place ∙ a.pair_is) found,
+    )
 
 -- the level that a node samples which is not falsified
 fair_level : (plan : SegmentPlan) (node on : ℕ) (trace : List Bit) (bit : ℕ) (a : Acting plan node on trace bit) →
     is_falsified plan node bit ≡ false → a.act.sampled ≡ list_all drives a.bit.acts
 fair_level plan node on trace bit a fair =
     let parts = or_false (list_any (λ (fault : LineFault). eqb fault.bit bit) plan.line_faults.items)
-        (is_inverted plan.node_faults.items node bit) fair in
+    (is_inverted plan.node_faults.items node bit) fair in
     a.samples ∙ no_node_fault plan.node_faults.items node bit a.bit.level parts.1 ∙ a.line
-        ∙ no_line_fault plan.line_faults.items bit (list_all drives a.bit.acts) parts.0
+    ∙ no_line_fault plan.line_faults.items bit (list_all drives a.bit.acts) parts.0
 
 -- two nodes of a run are on one line, where the plan's faults don't touch them
 pub one_line : {plan : SegmentPlan} {trace : List Bit} {levels : List Bool} {events : List Event} (node other : ℕ)
     (sender receiver : Past) → Run plan trace levels events →
     IsPastOf plan trace node sender → IsPastOf plan trace other receiver →
-        OnOneLine sender receiver (is_falsified plan node) (is_falsified plan other)
+    OnOneLine sender receiver (is_falsified plan node) (is_falsified plan other)
 one_line {plan = plan} {trace = trace} node other sender receiver run s r =
     let hs = node_run node s.on run s.on_is in
     let hr = node_run other r.on run r.on_is in
     subst (λ p. OnOneLine p receiver (is_falsified plan node) (is_falsified plan other)) (sym s.past_is)
     (subst (λ p. OnOneLine (past_of s.on node trace) p (is_falsified plan node) (is_falsified plan other))
-        (sym r.past_is) (record {
-      ends = omega (arith, first_from node (no_past s.on) trace, first_from other (no_past r.on) trace, hs.size,
-          hr.size, s.is_on, r.is_on);
+    (sym r.past_is) (record {
+      ends = omega (
+        arith,
+        first_from node (no_past s.on) trace,
+        first_from other (no_past r.on) trace,
+        hs.size,
+        hr.size,
+        s.is_on,
+        r.is_on,
+      );
       equal = λ bit x y fair other_fair xs ys.
           let a = sampled_at plan node s.on trace bit x hs xs in
           let b = sampled_at plan other r.on trace bit y hr ys in
           let same : a.0.bit ≡ b.0.bit = same_found a.0.bit b.0.bit (sym a.0.bit_is ∙ b.0.bit_is) in
           a.1 ∙ fair_level plan node s.on trace bit a.0 fair ∙ ap (λ (w : Bit). list_all drives w.acts) same
-              ∙ sym (fair_level plan other r.on trace bit b.0 other_fair) ∙ sym b.1;
+          ∙ sym (fair_level plan other r.on trace bit b.0 other_fair) ∙ sym b.1;
       dominant = λ bit y other_fair ds ys.
           let a = driven_at plan node s.on trace bit false hs ds in
           let b = sampled_at plan other r.on trace bit y hr ys in
           let same : a.0.bit ≡ b.0.bit = same_found a.0.bit b.0.bit (sym a.0.bit_is ∙ b.0.bit_is) in
           b.1 ∙ fair_level plan other r.on trace bit b.0 other_fair
-              ∙ sym (ap (λ (w : Bit). list_all drives w.acts) same)
-              ∙ all_false drives a.0.bit.acts node (Some a.0.act) a.0.act_is (sym a.1);
+          ∙ sym (ap (λ (w : Bit). list_all drives w.acts) same)
+          ∙ all_false drives a.0.bit.acts node (Some a.0.act) a.0.act_is (sym a.1);
     }))

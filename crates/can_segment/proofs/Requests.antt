@@ -1,7 +1,34 @@
 -- Of two attempts of one request of a controller the earlier one failed, and did not end the request.
 use Rattle.std.proofs.Common.{
-  ◌≡◌, inl, inr, ◌⊎◌, ℕ, zero, suc, ◌+◌, ◌<◌, ◌≤◌, Bool, true, Option, Some, None, List, [], ◌∷◌, ◌++◌, length, map,
-  take, slice_get, refl, sym, ap, subst, arith, ◌∙◌,
+  ◌≡◌,
+  inl,
+  inr,
+  ◌⊎◌,
+  ℕ,
+  zero,
+  suc,
+  ◌+◌,
+  ◌<◌,
+  ◌≤◌,
+  Bool,
+  true,
+  Option,
+  Some,
+  None,
+  List,
+  [],
+  ◌∷◌,
+  ◌++◌,
+  length,
+  map,
+  take,
+  slice_get,
+  refl,
+  sym,
+  ap,
+  subst,
+  arith,
+  ◌∙◌,
 }
 use Rattle.std.specs.Prelude.{option_and_then}
 use Rattle.std.proofs.lemmas.Bool.{cases_lt}
@@ -28,11 +55,26 @@ use Rattle.can_segment.specs.declared.plan.SegmentPlan.{SegmentPlan}
 use Rattle.can_segment.specs.declared.plan.Talker.{Talker}
 use Rattle.can_segment.specs.declared.sent.Sent.{Sent}
 use Rattle.can_segment.specs.Attempts.{
-  IsPastOf, act_at, begun_at, sending_at, outcome_at, reaped_at, request_at, IsTold, RequestsTryFailures,
+  IsPastOf,
+  act_at,
+  begun_at,
+  sending_at,
+  outcome_at,
+  reaped_at,
+  request_at,
+  IsTold,
+  RequestsTryFailures,
 }
 use Rattle.can_segment.specs.Brought.{StartsUndone, told_of, start_in, sent_in, reaped_in, all_in, grown}
 use Rattle.can_segment.specs.Tells.{
-  told_start, told_outcome, told_reaped, starts_of, rest_of, lines, lines_from, events_at,
+  told_start,
+  told_outcome,
+  told_reaped,
+  starts_of,
+  rest_of,
+  lines,
+  lines_from,
+  events_at,
 }
 use Rattle.can_segment.specs.Traces.{Act, Bit, act_of, sending_of, sending_now, ends_sending, is_failure}
 use Rattle.can_segment.specs.Runs.{Run, IsBit, firsts}
@@ -50,7 +92,7 @@ from_other tells bit first zero node h = refl
 from_other tells bit first (suc more) node h =
     of-append node (lines bit first (tells first)) (lines_from tells bit (suc first) more)
     ∙ ap (λ ts. ts ++ told_of node (lines_from tells bit (suc first) more))
-        (of-other node bit first (tells first) (λ e. omega (arith, e, h)))
+    (of-other node bit first (tells first) (λ e. omega (arith, e, h)))
     ∙ from_other tells bit (suc first) more node (omega (arith, h))
 
 from_own : (tells : ℕ → List Told) (bit first count node : ℕ) → first ≤ node → node < first + count →
@@ -59,27 +101,27 @@ from_own tells bit first zero node low high = absurd (omega (arith, low, high))
 from_own tells bit first (suc more) node low high = elim (eqb_tells first node) [
   | inl same ↦ of-append node (lines bit first (tells first)) (lines_from tells bit (suc first) more)
       ∙ ap (λ ts. ts ++ told_of node (lines_from tells bit (suc first) more))
-          (ap (λ n. told_of node (lines bit n (tells n))) same.1 ∙ of-same node bit (tells node))
+      (ap (λ n. told_of node (lines bit n (tells n))) same.1 ∙ of-same node bit (tells node))
       ∙ ap (λ ts. tells node ++ ts) (from_other tells bit (suc first) more node (omega (arith, same.1)))
       ∙ append-nil (tells node)
   | inr other ↦ of-append node (lines bit first (tells first)) (lines_from tells bit (suc first) more)
       ∙ ap (λ ts. ts ++ told_of node (lines_from tells bit (suc first) more))
-          (of-other node bit first (tells first) other.1)
+      (of-other node bit first (tells first) other.1)
       ∙ from_own tells bit (suc first) more node (let ne = other.1 in omega (arith, low, ne)) (omega (arith, high))
 ]
 
 bit_tells : (node : ℕ) (trace : List Bit) (bit : Bit) → node < length bit.acts →
     told_of node (events_at trace bit) ≡ starts_of (act_of node bit)
-        ++ rest_of (sending_of node trace) (act_of node bit)
+    ++ rest_of (sending_of node trace) (act_of node bit)
 bit_tells node trace bit within =
     let starts = λ (k : ℕ). starts_of (act_of k bit) in
     let rest = λ (k : ℕ). rest_of (sending_of k trace) (act_of k bit) in
     of-append node (lines_from starts (length trace) 0 (length bit.acts))
-        (lines_from rest (length trace) 0 (length bit.acts))
+    (lines_from rest (length trace) 0 (length bit.acts))
     ∙ ap (λ ts. ts ++ told_of node (lines_from rest (length trace) 0 (length bit.acts)))
-        (from_own starts (length trace) 0 (length bit.acts) node (omega arith) (omega (arith, within)))
+    (from_own starts (length trace) 0 (length bit.acts) node (omega arith) (omega (arith, within)))
     ∙ ap (λ ts. starts node ++ ts)
-        (from_own rest (length trace) 0 (length bit.acts) node (omega arith) (omega (arith, within)))
+    (from_own rest (length trace) 0 (length bit.acts) node (omega arith) (omega (arith, within)))
 
 -- what is told of a node at a bit of a trace, and at all bits before one
 told_bit : ℕ → List Bit → ℕ → List Told
@@ -99,14 +141,14 @@ told_same node trace bit (suc k) h =
     let traces = take_left trace (bit ∷ []) k (omega (arith, h)) in
     ap (λ ts. ts ++ told_bit node (trace ++ bit ∷ []) k) (told_same node trace bit k (omega (arith, h)))
     ∙ ap (λ act. told_before node trace k
-        ++ (starts_of act ++ rest_of (sending_of node (take k (trace ++ bit ∷ []))) act)) acts
+    ++ (starts_of act ++ rest_of (sending_of node (take k (trace ++ bit ∷ []))) act)) acts
     ∙ ap (λ t. told_before node trace k
-        ++ (starts_of (act_at node trace k) ++ rest_of (sending_of node t) (act_at node trace k))) traces
+    ++ (starts_of (act_at node trace k) ++ rest_of (sending_of node t) (act_at node trace k))) traces
 
 told_run : {plan : SegmentPlan} {trace : List Bit} {levels : List Bool} {events : List Event} (node : ℕ) →
     Run plan trace levels events →
     node < length plan.talkers.items + length plan.controllers.items →
-        told_of node events ≡ told_before node trace (length trace)
+    told_of node events ≡ told_before node trace (length trace)
 unfolding told_before told_bit
 told_run node no_bit within = refl
 told_run node (one_more {trace = trace} {events = events} bit run is) within =
@@ -114,12 +156,12 @@ told_run node (one_more {trace = trace} {events = events} bit run is) within =
     let whole = take_left trace (bit ∷ []) (length trace) (omega arith) ∙ take_whole trace in
     of-append node events (events_at trace bit)
     ∙ ap (λ ts. ts ++ told_of node (events_at trace bit))
-        (told_run node run within ∙ sym (told_same node trace bit (length trace) (omega arith)))
+    (told_run node run within ∙ sym (told_same node trace bit (length trace) (omega arith)))
     ∙ ap (λ ts. told_before node (trace ++ bit ∷ []) (length trace) ++ ts)
     (bit_tells node trace bit (omega (arith, within, is.each))
     ∙ ap (λ t. starts_of (act_of node bit) ++ rest_of (sending_of node t) (act_of node bit)) (sym whole)
     ∙ ap (λ act. starts_of act ++ rest_of (sending_of node (take (length trace) (trace ++ bit ∷ []))) act)
-        (sym (act_last node trace bit (length trace) refl)))
+    (sym (act_last node trace bit (length trace) refl)))
     ∙ sym (ap (told_before node (trace ++ bit ∷ [])) size)
 
 -- what holds of lines in a row holds of each part
@@ -155,7 +197,7 @@ among names node trace (suc k) bit x less has =
           (among names node trace k bit x earlier has)
       | inr last ↦ (let now : bit ≡ k = omega (arith, last, less) in
           has-right (all_in names (told_before node trace k)) (all_in names (told_bit node trace k)) x
-              (subst (λ m. Has (all_in names (told_bit node trace m)) x) now has))
+          (subst (λ m. Has (all_in names (told_bit node trace m)) x) now has))
     ])
 
 -- the lines of a bit at which a request is begun, is sent, or is reaped
@@ -165,22 +207,22 @@ begun_told : (node : ℕ) (trace : List Bit) (k : ℕ) (act : Act) (sent : Sent)
 unfolding told_bit
 begun_told node trace k act sent label past act_is begun labelled h =
     let line : told_bit node trace k ≡ (told.Started sent.frame (Some label) ∷ [])
-        ++ rest_of (sending_of node (take k trace)) (act_at node trace k) =
+    ++ rest_of (sending_of node (take k trace)) (act_at node trace k) =
     ap (λ a. starts_of a ++ rest_of (sending_of node (take k trace)) (act_at node trace k)) act_is
     ∙ ap (λ b. told_start b ++ rest_of (sending_of node (take k trace)) (act_at node trace k)) begun
     ∙ ap (λ l. (told.Started sent.frame l ∷ []) ++ rest_of (sending_of node (take k trace)) (act_at node trace k))
-        labelled in
+    labelled in
     (subst (StartsUndone past) line h).0.0
 
 rest_told : {X : Type 0} (names : Told → List X) (node : ℕ) (trace : List Bit) (k : ℕ) (act : Act) (x : X) →
     act_at node trace k ≡ Some act →
     Has (all_in names (told_outcome (sending_now (sending_of node (take k trace)) act.begun) act.outcome
-        ++ told_reaped act.reaped)) x → Has (all_in names (told_bit node trace k)) x
+    ++ told_reaped act.reaped)) x → Has (all_in names (told_bit node trace k)) x
 unfolding told_bit
 rest_told names node trace k act x act_is has =
     subst (λ xs. Has xs x)
-        (sym (all-append names (starts_of (act_at node trace k))
-        (rest_of (sending_of node (take k trace)) (act_at node trace k))))
+    (sym (all-append names (starts_of (act_at node trace k))
+    (rest_of (sending_of node (take k trace)) (act_at node trace k))))
     (has-right (all_in names (starts_of (act_at node trace k))) _ x
     (subst (λ a. Has (all_in names (rest_of (sending_of node (take k trace)) a)) x) (sym act_is) has))
 
@@ -195,9 +237,9 @@ sent_told : (node : ℕ) (trace : List Bit) (k : ℕ) (act : Act) (sent : Sent) 
     Has (all_in sent_in (told_bit node trace k)) (label.route, label.number, sent.frame)
 sent_told node trace k act sent label act_is outcome sends labelled =
     let P : List Told → Type 0 =
-        λ ts. Has (all_in sent_in (ts ++ told_reaped act.reaped)) (label.route, label.number, sent.frame) in
+    λ ts. Has (all_in sent_in (ts ++ told_reaped act.reaped)) (label.route, label.number, sent.frame) in
     let line : told_outcome (sending_now (sending_of node (take k trace)) act.begun) act.outcome ≡ told.Completed
-        sent.start sent.frame (Some label) ∷ [] =
+    sent.start sent.frame (Some label) ∷ [] =
     ap (λ o. told_outcome (sending_now (sending_of node (take k trace)) act.begun) o) outcome
     ∙ ap (λ s. told_outcome s Completed) (sending_by node trace k act sent act_is sends)
     ∙ ap (λ l. told.Completed sent.start sent.frame l ∷ []) labelled in
@@ -233,40 +275,43 @@ requests_try_failures {plan = plan} {trace = trace} run node undone past label s
     let first = attempts_are_told run node past start end frame state outcome p earlier in
     let second = attempts_are_told run node past start' end' frame' state' outcome' p later in
     let within : node < length plan.talkers.items + length plan.controllers.items =
-    omega (arith, slice_get_within (firsts plan) node p.on p.on_is,
-        length-append (map (λ (t : Talker). t.on) plan.talkers.items)
-        (map (λ (c : Controller). c.on) plan.controllers.items),
-        length-map {B = ℕ} plan.talkers.items (λ (t : Talker). t.on),
-        length-map {B = ℕ} plan.controllers.items (λ (c : Controller). c.on)) in
+    omega (
+      arith,
+      slice_get_within (firsts plan) node p.on p.on_is,
+      length-append (map (λ (t : Talker). t.on) plan.talkers.items)
+          (map (λ (c : Controller). c.on) plan.controllers.items),
+      length-map {B = ℕ} plan.talkers.items (λ (t : Talker). t.on),
+      length-map {B = ℕ} plan.controllers.items (λ (c : Controller). c.on),
+    ) in
     let again = act_begins node trace (first_bit later) second.sent second.begins in
     let at = within_act node trace (first_bit later) again.0 again.1 in
     let free : IsUndone (grown no_bus_past (told_before node trace (first_bit later)))
-        (label.route, label.number, second.sent.frame) =
+    (label.route, label.number, second.sent.frame) =
     begun_told node trace (first_bit later) again.0 second.sent label _ again.1 again.2
-        (label_of_begun node trace (first_bit later) second.sent label second.begins other)
+    (label_of_begun node trace (first_bit later) second.sent label second.begins other)
     (undone_at no_bus_past node trace (length trace) (first_bit later) at
-        (subst (StartsUndone no_bus_past) (told_run node run within) undone)) in
+    (subst (StartsUndone no_bus_past) (told_run node run within) undone)) in
     let labelled = label_of_begun node trace (first_bit earlier) first.sent label first.begins one in
     let ends = ap ends_sending first.outcome_is ∙ ends_it (attempt_end past start end frame state outcome earlier) in
     let act = act_ends node trace end ends in
     let done = does_at node p.on end act.0 run p.on_is act.1 in (
       fails (attempt_end past start end frame state outcome earlier) (λ is.
           let completed : act.0.outcome ≡ Completed = sym (outcome_by node trace end act.0 act.1) ∙ first.outcome_is
-              ∙ is in
+          ∙ is in
           free.unsent (label.route, label.number, first.sent.frame)
           (among sent_in node trace (first_bit later) end (label.route, label.number, first.sent.frame) before
-              (sent_told node trace end act.0 first.sent label act.1 completed first.ends labelled)) refl),
+          (sent_told node trace end act.0 first.sent label act.1 completed first.ends labelled)) refl),
       elim (none_or_some act.0.reaped) [
         | inl none ↦ reaped_by node trace end act.0 act.1 ∙ none
         | inr some ↦ absurd (
             let r = done.reaps some.0 some.1 in
             let same : r.sent ≡ first.sent =
-                same_found r.sent first.sent (sym r.sends ∙ sending_by node trace end act.0 first.sent act.1 first.ends)
-                in
+            same_found r.sent first.sent (sym r.sends ∙ sending_by node trace end act.0 first.sent act.1 first.ends)
+            in
             let its : some.0 ≡ label =
-                same_found some.0 label (sym r.is_its_label ∙ ap (λ (s : Sent). s.label) same ∙ labelled) in
+            same_found some.0 label (sym r.is_its_label ∙ ap (λ (s : Sent). s.label) same ∙ labelled) in
             free.unreaped (among reaped_in node trace (first_bit later) end (label.route, label.number) before
             (subst (λ (l : Label). Has (all_in reaped_in (told_bit node trace end)) (l.route, l.number)) its
-                (reaped_told node trace end act.0 some.0 act.1 some.1))))
+            (reaped_told node trace end act.0 some.0 act.1 some.1))))
       ],
     )

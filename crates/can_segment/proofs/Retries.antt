@@ -1,6 +1,25 @@
 -- Of two attempts of one request the earlier one failed.
 use Rattle.std.proofs.Common.{
-  ◌≡◌, ℕ, zero, suc, ◌+◌, ◌<◌, ◌≤◌, Bool, true, List, [], ◌∷◌, fold, length, take, slice_get, refl, ap, subst, arith,
+  ◌≡◌,
+  ℕ,
+  zero,
+  suc,
+  ◌+◌,
+  ◌<◌,
+  ◌≤◌,
+  Bool,
+  true,
+  List,
+  [],
+  ◌∷◌,
+  fold,
+  length,
+  take,
+  slice_get,
+  refl,
+  ap,
+  subst,
+  arith,
   ◌∙◌,
 }
 use Rattle.std.specs.List.{Contains}
@@ -57,14 +76,14 @@ talkers_try_failures {trace = trace} run node talker past start end start' end' 
     outcome' planned p earlier later before same =
     fails (attempt_end past start end frame state outcome earlier) (λ is.
     let done : IsAttempt past start frame state end Completed =
-        subst (IsAttempt past start frame state end) is earlier in
+    subst (IsAttempt past start frame state end) is earlier in
     let first : earlier.done.first + length earlier.done.pairs ≤ end =
-        first_no_later past start end frame state outcome earlier is in
+    first_no_later past start end frame state outcome earlier is in
     let told = told_at node p.on end Completed run p.on_is
     (subst (λ (q : Past). Contains q.outcomes (end, Completed)) p.past_is
-        (completed_told past start end frame state done)) in
+    (completed_told past start end frame state done)) in
     let one : completed_in (act_at node trace end) ≡ 1 =
-        ap completed_in told.act_is ∙ ap completed_by told.outcome_is in
+    ap completed_in told.act_is ∙ ap completed_by told.outcome_is in
     let more = counted node trace (first_bit earlier) end (first_bit later) first before one in
     let a = count_from node (take (first_bit earlier) trace) 0 in
     let b = count_from node (take (first_bit later) trace) 0 in

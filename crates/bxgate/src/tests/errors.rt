@@ -122,16 +122,17 @@ fn reports_on_a_wrong_sample_at_the_end_of_a_frame(rt: HostRuntime) -> Result<()
             report,
             "a {second} t started 000 data -\na {took} l took {second} 000 data -\na {sent} t completed {second} 000 data -\n"
         )?;
-        report.push_str(
-            "a node t tec 7 rec 0 active\na node l tec 0 rec 0 active\na end 132\n",
-        )?;
+        report.push_str("a node t tec 7 rec 0 active\na node l tec 0 rec 0 active\na end 132\n")?;
         let longer = changed(alloc, ONE_FRAME, r#""bits":64"#, r#""bits":132"#)?;
         let fault = format!(in alloc;
             "\"routes\":[],\"faults\":[{{\"node\":\"t\",\"bit\":{bit}}}]"
         )?;
         let script = changed(alloc, longer.as_str(), r#""routes":[]"#, fault.as_str())?;
         let words = ["bxgate", "run"];
-        assert!(rt; is_reported(&rt, words.as_slice(), script.as_str(), report.as_str()), "{bit}");
+        assert!(rt;
+            is_reported(&rt, words.as_slice(), script.as_str(), report.as_str()),
+            "{bit}"
+        );
     }
     Ok(())
 }
@@ -162,7 +163,12 @@ fn reports_on_bus_off(rt: HostRuntime) -> Result<(), Fail> {
          a end 2800\n",
     )?;
     let longer = changed(alloc, ONE_FRAME, r#""bits":64"#, r#""bits":2800"#)?;
-    let alone = changed(alloc, longer.as_str(), r#",{"name":"l","on":0,"frames":[]}"#, "")?;
+    let alone = changed(
+        alloc,
+        longer.as_str(),
+        r#",{"name":"l","on":0,"frames":[]}"#,
+        "",
+    )?;
     let script = changed(alloc, alone.as_str(), r#""routes":[]"#, faults.as_str())?;
     let words = ["bxgate", "run"];
     assert!(rt; is_reported(&rt, words.as_slice(), script.as_str(), report.as_str()));

@@ -106,7 +106,12 @@ const LAST_BUT_ONE_REPORT: &str = "a 11 t started 000 data -\n\
      a node l tec 0 rec 0 active\n\
      a end 131\n";
 
-pub fn is_reported<H: Wait + AllocGlobal>(rt: &H, words: &[&str], script: &str, report: &str) -> bool {
+pub fn is_reported<H: Wait + AllocGlobal>(
+    rt: &H,
+    words: &[&str],
+    script: &str,
+    report: &str,
+) -> bool {
     let run = run_of(rt, words, script.as_bytes());
     run.status == 0 && run.output.as_slice() == report.as_bytes() && run.faults.is_empty()
 }

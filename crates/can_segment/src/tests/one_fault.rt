@@ -8,6 +8,7 @@ use std::process::Abort;
 use std::test::Fail;
 
 const SENDER: u32 = 0;
+
 const RECEIVER: u32 = 1;
 
 /// Where the level is turned: in what the sender samples, in what the receiver samples, or on the line.
@@ -42,7 +43,10 @@ fn record_with(alloc: Global, turned: Option<Turned>, level: bool) -> Result<Rec
     if let Some(Turned { place, bit }) = turned {
         match place {
             Place::Sender => plan.node_faults.push(NodeFault { node: SENDER, bit })?,
-            Place::Receiver => plan.node_faults.push(NodeFault { node: RECEIVER, bit })?,
+            Place::Receiver => plan.node_faults.push(NodeFault {
+                node: RECEIVER,
+                bit,
+            })?,
             Place::Line => plan.line_faults.push(LineFault { bit, level })?,
         }
     }
@@ -52,9 +56,7 @@ fn record_with(alloc: Global, turned: Option<Turned>, level: bool) -> Result<Rec
 /// The receiver took this frame of this start at this bit.
 fn is_taken(events: &[Event], bit: u64, start: u64, frame: Frame) -> bool {
     let took = Told::Took { start, frame };
-    events
-        .iter()
-        .any(|event| event.node == RECEIVER && event.bit == bit && event.told == took)
+    events.iter().any(|event| event.node == RECEIVER && event.bit == bit && event.told == took)
 }
 
 /// The sender, which is error active throughout, met an error: an attempt that began at the first of these bits ended at the
@@ -113,7 +115,11 @@ fn one_wrong_level_makes_no_copy_that_the_standard_forbids(rt: HostRuntime) -> R
             let record = record_with(alloc, Some(turned), level)?;
             assert_eq!(rt; record.levels.len(), 200);
             // there is time for a second attempt, which succeeds
-            assert_eq!(rt; look_through(&rt, record.events.as_slice(), turned), 1, "{turned:?}");
+            assert_eq!(rt;
+                look_through(&rt, record.events.as_slice(), turned),
+                1,
+                "{turned:?}"
+            );
         }
     }
     Ok(())
