@@ -1,37 +1,5 @@
 -- What the acts of a trace note in the history of a node, and the other way round.
-use Rattle.std.proofs.Common.{
-  ◌≡◌,
-  inl,
-  inr,
-  ◌⊎◌,
-  ℕ,
-  zero,
-  suc,
-  ◌+◌,
-  ◌-◌,
-  ◌<◌,
-  ◌≤◌,
-  Bool,
-  true,
-  false,
-  Option,
-  Some,
-  None,
-  List,
-  [],
-  ◌∷◌,
-  ◌++◌,
-  fold,
-  length,
-  take,
-  slice_get,
-  refl,
-  sym,
-  ap,
-  subst,
-  arith,
-  ◌∙◌,
-}
+use Rattle.std.proofs.Common.{◌≡◌, inl, inr, ◌⊎◌, ℕ, zero, suc, ◌+◌, ◌-◌, ◌<◌, ◌≤◌, Bool, true, false, Option, Some, None, List, [], ◌∷◌, ◌++◌, fold, length, take, slice_get, refl, sym, ap, subst, arith, ◌∙◌}
 use Rattle.std.specs.Prelude.{option_and_then}
 use Rattle.std.specs.List.{Contains}
 use Rattle.std.proofs.lemmas.Bool.{cases_lt}
@@ -42,15 +10,7 @@ use Rattle.std.proofs.lemmas.Option.{slice_get_past}
 use Rattle.can_frame.specs.Frames.{FrameValue}
 use Rattle.can_node.specs.declared.confinement.ErrorState.{ErrorState}
 use Rattle.can_node.specs.declared.outcome.Outcome.{Outcome}
-use Rattle.can_node.specs.declared.outcome.Outcome.TheVariants.{
-  Nothing,
-  Took,
-  Completed,
-  Lost,
-  Errored,
-  WentOff,
-  CameBack,
-}
+use Rattle.can_node.specs.declared.outcome.Outcome.TheVariants.{Nothing, Took, Completed, Lost, Errored, WentOff, CameBack}
 use Rattle.can_node.specs.Pairs.{Pair}
 use Rattle.can_node.specs.Histories.{Past, IsHistory, no_past, noted}
 use Rattle.can_node.specs.Histories.Whole.{switched_on}

@@ -1,35 +1,5 @@
 -- Of two attempts of one request of a controller the earlier one failed, and did not end the request.
-use Rattle.std.proofs.Common.{
-  ◌≡◌,
-  inl,
-  inr,
-  ◌⊎◌,
-  ℕ,
-  zero,
-  suc,
-  ◌+◌,
-  ◌<◌,
-  ◌≤◌,
-  Bool,
-  true,
-  Option,
-  Some,
-  None,
-  List,
-  [],
-  ◌∷◌,
-  ◌++◌,
-  length,
-  map,
-  take,
-  slice_get,
-  refl,
-  sym,
-  ap,
-  subst,
-  arith,
-  ◌∙◌,
-}
+use Rattle.std.proofs.Common.{◌≡◌, inl, inr, ◌⊎◌, ℕ, zero, suc, ◌+◌, ◌<◌, ◌≤◌, Bool, true, Option, Some, None, List, [], ◌∷◌, ◌++◌, length, map, take, slice_get, refl, sym, ap, subst, arith, ◌∙◌}
 use Rattle.std.specs.Prelude.{option_and_then}
 use Rattle.std.proofs.lemmas.Bool.{cases_lt}
 use Rattle.std.proofs.lemmas.Bool.Decides.{eqb_tells}
@@ -54,28 +24,9 @@ use Rattle.can_segment.specs.declared.plan.Controller.{Controller}
 use Rattle.can_segment.specs.declared.plan.SegmentPlan.{SegmentPlan}
 use Rattle.can_segment.specs.declared.plan.Talker.{Talker}
 use Rattle.can_segment.specs.declared.sent.Sent.{Sent}
-use Rattle.can_segment.specs.Attempts.{
-  IsPastOf,
-  act_at,
-  begun_at,
-  sending_at,
-  outcome_at,
-  reaped_at,
-  request_at,
-  IsTold,
-  RequestsTryFailures,
-}
+use Rattle.can_segment.specs.Attempts.{IsPastOf, act_at, begun_at, sending_at, outcome_at, reaped_at, request_at, IsTold, RequestsTryFailures}
 use Rattle.can_segment.specs.Brought.{StartsUndone, told_of, start_in, sent_in, reaped_in, all_in, grown}
-use Rattle.can_segment.specs.Tells.{
-  told_start,
-  told_outcome,
-  told_reaped,
-  starts_of,
-  rest_of,
-  lines,
-  lines_from,
-  events_at,
-}
+use Rattle.can_segment.specs.Tells.{told_start, told_outcome, told_reaped, starts_of, rest_of, lines, lines_from, events_at}
 use Rattle.can_segment.specs.Traces.{Act, Bit, act_of, sending_of, sending_now, ends_sending, is_failure}
 use Rattle.can_segment.specs.Runs.{Run, IsBit, firsts}
 use Rattle.can_segment.specs.Runs.Run.{no_bit, one_more}
