@@ -44,6 +44,12 @@ def fields(frame):
             + [(int(is_remote(frame)), "rtr")] + [(level, "behind") for level in behind])
 
 
+def key(frame):
+    """What decides in arbitration, as a number of 32 bits: the field from the identifier to RTR and IDE. The lower wins."""
+    field = [level for level, _ in fields(frame)][1:33 if frame["ext"] else 14]
+    return number(field + [0] * (32 - len(field)))
+
+
 def wire(frame):
     """What the sender drives, SOF to EOF: each level with its kind."""
     plain = fields(frame)

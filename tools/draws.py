@@ -36,8 +36,10 @@ def banks(draw):
 
 
 def controller(draw, name, segments, bits):
-    return {"name": name, "segment": draw.choice(segments)["name"], "on": draw.choice([0, 0, 0, draw.randrange(bits)]),
-            "banks": banks(draw)}
+    result = {"name": name, "segment": draw.choice(segments)["name"], "on": draw.choice([0, 0, 0, draw.randrange(bits)])}
+    if draw.random() < 0.6:
+        result["txfp"] = draw.random() < 0.3
+    return result | {"banks": banks(draw)}
 
 
 def routes(draw, controllers):

@@ -39,6 +39,11 @@ def short_frame(draw):
     return frame | {"data": []} if "data" in frame else frame
 
 
+def climb(bus, tec):
+    """The sender's TEC rises to at least this, since its line is recessive: not even its SOF comes through."""
+    yield from bus.hold(RECESSIVE, lambda: bus.nodes["t0"].tec < tec)
+
+
 def strike_end(bus, sender, struck):
     """Faults in the end of the sender's next frame: at these places, each with a node or "line"."""
     node = bus.nodes[sender]
@@ -58,9 +63,9 @@ def some_strikes(draw, whose):
 
 
 def frame_ends(draw, kind):
-    """The sender is error active; or error passive, since its line was held recessive, or since it was alone and nobody
-    acknowledged sixteen attempts."""
-    script = nodes(4000, some_frames(draw, 2, 6), some_frames(draw, 0, 1), [])
+    """The sender is error active, perhaps for just one error more; or error passive, since its line was recessive, or
+    since it was alone and nobody acknowledged sixteen attempts."""
+    script = nodes(3000, some_frames(draw, 9, 9), some_frames(draw, 0, 1), [])
     if kind == "alone":
         first = short_frame(draw)
         talkers = script["segments"][0]["talkers"]
@@ -71,12 +76,11 @@ def frame_ends(draw, kind):
             talker["on"] = 16 * attempt + draw.randrange(attempt)
 
     def plot(bus):
-        node = bus.nodes["t0"]
-        if kind == "held":
-            yield from bus.hold(RECESSIVE, lambda: node.tec < 128)
         if kind == "alone":
-            yield from until(lambda: node.tec >= 128 and bus.nodes["t2"].state == "take")
-        for _ in range(draw.randint(3, 8)):
+            yield from until(lambda: bus.nodes["t0"].is_passive() and bus.nodes["t2"].state == "take")
+        else:
+            yield from climb(bus, 128 if kind == "passive" else draw.choice([0, 0, 120]))
+        for _ in range(draw.randint(4, 9)):
             yield from strike_end(bus, "t0", some_strikes(draw, ["line", "line", "t0", "t0", "t1", "t2"]))
 
     return sabotaged(draw, script, plot)
@@ -163,11 +167,6 @@ def broken_flags(draw, cause, name):
                 yield
 
     return sabotaged(draw, script, plot)
-
-
-def climb(bus, tec):
-    """The sender's TEC rises to at least this, since its line is recessive: not even its SOF comes through."""
-    yield from bus.hold(RECESSIVE, lambda: bus.nodes["t0"].tec < tec)
 
 
 def overload_delimiters(draw, counts):
@@ -276,8 +275,8 @@ def passive_receiver(draw):
     return sabotaged(draw, script, plot)
 
 
-def aborts(draw):
-    """A controller's requests are to be given up while it transmits, and some of them meet an error then."""
+def aborts(draw, fails):
+    """Requests of a controller are to be given up while it transmits. Then they fail, or not."""
     script = with_gateway(draw, nodes(1500, some_frames(draw, 2, 6), []), some_frames(draw, 0, 2))
 
     def plot(bus):
@@ -287,8 +286,9 @@ def aborts(draw):
             request = controller.transmitting()
             yield from wait(draw.randint(0, 30))
             bus.abort(request)
-            yield from wait(draw.randint(1, 10))
-            if draw.random() < 0.5:
+            yield from until(lambda: request.abort_asked or request not in controller.requests)
+            yield from wait(draw.randint(0, 5))
+            if fails:
                 bus.flip("c1")
             yield from until(lambda: request not in controller.requests)
 
@@ -298,6 +298,8 @@ def aborts(draw):
 def gateways(draw):
     """Copies are carried over, while frames on both sides are struck."""
     script = with_gateway(draw, nodes(2000, some_frames(draw, 3, 8), some_frames(draw, 0, 3)), some_frames(draw, 0, 4))
+    # copies wait for a controller that comes late
+    script["controllers"][1]["on"] = draw.choice([0, draw.randint(100, 700)])
 
     def plot(bus):
         for _ in range(draw.randint(1, 6)):
@@ -310,9 +312,9 @@ def gateways(draw):
 
 
 def perturb(draw, script, turn):
-    """Some scripts stay as they are; in the others faults are moved, left out or put anywhere, and requests aborted."""
+    """Faults are moved, left out or put anywhere, and requests aborted; or not."""
     faults, last = script["faults"], script["bits"] - 1
-    for _ in range(draw.choice([0, 0, 0, 1, 3])):
+    for _ in range(draw.choice([0, 0, 1, 3])):
         change = draw.choice(["move", "leave out", "add"])
         if change == "add":
             faults.append(draws.fault(draw, script))
@@ -327,19 +329,22 @@ def perturb(draw, script, turn):
 
 # what a run draws in turn
 KINDS = [
-    *[(frame_ends, kind) for kind in ("active", "held", "alone")] * 5,
-    *[(joins, kind) for kind in ("remote", "formats", "remote", "lower", "remote", "equal")],
+    *[(frame_ends, kind) for kind in ("active", "passive", "alone")] * 5,
+    *[(joins, kind) for kind in ("remote", "formats", "remote", "lower", "remote", "equal", "remote")],
     *[(started_together, kind) for kind in ("equal", "bytes", "formats", "remote")],
     *[(broken_flags, cause, name) for cause in (meet_error, overload) for name in ("t0", "t1")] * 2,
     *[(overload_delimiters, counts) for counts in ([6], [8], [8, 6, 8, 6])],
     *[(off_behind_overload, level) for level in (RECESSIVE, DOMINANT)] * 2,
-    *[(make,) for make in (off_behind_error, off_by_owed_error, recovery, passive_receiver, aborts, gateways)] * 2,
-    (off_by_owed_error,), (aborts,)]
+    *[(aborts, fails) for fails in (True, False)] * 2,
+    *[(make,) for make in (off_behind_error, off_by_owed_error, recovery, passive_receiver, gateways)] * 2,
+    (off_by_owed_error,)]
 
 
 def drawn(draw, place):
-    """The script of this place in a run, and how many bits lie between two turns of a route."""
+    """The script of this place in a run, and how many bits lie between two turns of a route. The first one of each kind
+    stays as it was aimed."""
     make, *arguments = KINDS[place % len(KINDS)]
     script, turn = make(draw, *arguments)
-    perturb(draw, script, turn)
+    if place >= len(KINDS):
+        perturb(draw, script, turn)
     return script, turn

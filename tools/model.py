@@ -6,7 +6,7 @@ scripts/check-hostile-bus hold the program's reports against it. It is slow, and
 
 from dataclasses import dataclass
 
-from can_model import RECESSIVE, Node, frame_text, is_remote
+from can_model import RECESSIVE, Node, frame_text, is_remote, key
 
 
 # ---- controllers
@@ -48,14 +48,14 @@ def chosen_fifo(banks, frame):
 class Request:
     def __init__(self, route, place, frame):
         self.route, self.number, self.frame = route, place, frame
-        self.state, self.abort_asked = "pending", False
+        self.state, self.abort_asked, self.mailbox = "pending", False, None
 
 
 class Controller:
     """Filters, two FIFOs of three frames, and three mailboxes, the oldest request first."""
 
-    def __init__(self, banks):
-        self.banks = banks
+    def __init__(self, controller):
+        self.banks, self.goes_by_requests = controller["banks"], controller.get("txfp", True)
         self.fifos, self.accepted, self.overrun = [[], []], [0, 0], [0, 0]
         self.requests = []
 
@@ -69,9 +69,20 @@ class Controller:
         else:
             self.overrun[fifo] += 1
 
+    def put(self, request):
+        """Puts a request into the lowest empty mailbox."""
+        request.mailbox = min({0, 1, 2} - {other.mailbox for other in self.requests})
+        self.requests.append(request)
+
+    def in_turn(self):
+        """The requests in the order in which they would be sent now: what failed before goes on trying."""
+        if self.goes_by_requests:
+            return self.requests
+        return sorted(self.requests, key=lambda r: (r.state != "scheduled", key(r.frame), r.mailbox))
+
     def start(self):
         """The request that is sent next, if there is one."""
-        for request in self.requests[:1]:
+        for request in self.in_turn()[:1]:
             request.state = "transmitting"
             return request
         return None
@@ -111,7 +122,7 @@ class Route:
             self.hand = Request(self, self.released, fifo.pop(0))
         if self.hand is not None and len(self.target.requests) < 3:
             self.requested = self.hand.number
-            self.target.requests.append(self.hand)
+            self.target.put(self.hand)
             self.hand = None
 
     def waiting(self):
@@ -257,7 +268,7 @@ class Run:
     """A script before its first bit, and behind each bit that was made. `node` makes each of its nodes."""
 
     def __init__(self, script, turn=1, node=Node):
-        controllers = {c["name"]: Controller(c["banks"]) for c in script["controllers"]}
+        controllers = {c["name"]: Controller(c) for c in script["controllers"]}
         self.bits, self.turn = script["bits"], turn
         self.segments = [Segment(script, segment, controllers, node) for segment in script["segments"]]
         self.routes = [Route(script, place, controllers) for place in range(len(script["routes"]))]

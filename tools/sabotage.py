@@ -57,12 +57,13 @@ def wait(bits):
 
 
 def sabotaged(draw, script, plot, turn=1):
-    """The script with what the plot put into it; a while behind that it ends."""
+    """The script with what the plot put into it. It ends a while behind that, when all nodes are on."""
     bus = Bus(script, turn)
     for _ in plot(bus):
         bus.run.make_bit(bus.bit)
         bus.bit += 1
         if bus.bit == script["bits"]:
             break
-    script["bits"] = min(script["bits"], bus.bit + draw.randint(1, 250))
+    last = max(bus.bit, *(node.on for node in bus.nodes.values()))
+    script["bits"] = min(script["bits"], last + draw.randint(1, 250))
     return script, turn

@@ -28,6 +28,7 @@ class Watched(Node):
         super().__init__(on)
         self.reached = []  # names of situations
         self.ends = []  # of its own frames: bit, place in END, frame, error state
+        self.own_slots = []  # bits at which it was error passive, acknowledged, and sampled recessive
         self.completed_at = None
         self.whole_run = 0  # of dominant bits from a flag's start on, also across recessive ones in the flag
         self.broken_runs = []  # of recessive bits in bus off: after how many
@@ -35,6 +36,8 @@ class Watched(Node):
     def sample(self, level, bit):
         before = self.state
         self.note_end(bit)
+        if before == "take" and self.is_passive() and self.drive() == DOMINANT and level == RECESSIVE:
+            self.own_slots.append(bit)
         look = getattr(self, "look_at_" + before.replace(" ", "_"), None)
         if look:
             look(level)
@@ -76,10 +79,6 @@ class Watched(Node):
         if self.count in (5, 7) and level == DOMINANT and self.is_overload and self.is_sender:
             self.reached.append(f"delimiter bit {self.count + 1} dominant behind a sender's overload flag")
 
-    def look_at_take(self, level):
-        if self.is_passive() and self.drive() == DOMINANT and level == RECESSIVE:
-            self.reached.append("an error passive receiver samples its own ACK slot recessive")
-
     def look_at_off(self, level):
         if level == DOMINANT and self.count in (6, 8, 10):
             self.broken_runs.append(self.count)
@@ -114,7 +113,7 @@ NAMES = [
     "bus off in a passive flag by an owed error",
     *(f"back from bus off, with a run broken after {count}" for count in (6, 8, 10)),
     *(f"delimiter bit {count} dominant behind a sender's overload flag" for count in (6, 8)),
-    "an error passive receiver samples its own ACK slot recessive",
+    "a node fault of an error passive receiver at its own ACK slot",
     "started together with equal frames",
     "started together with equal identifiers and other bytes",
     "started together, standard and extended with the same base identifier",
@@ -128,19 +127,21 @@ def form_text(frame):
     return f"{'extended' if frame['ext'] else 'standard'} {'data' if 'data' in frame else 'remote'} frame"
 
 
-def faults_at_ends(script, segment):
+def faults_at_ends(segment):
     """Faults in the end of a frame. One on the line counts if it is recessive in the ACK slot or dominant behind."""
-    nodes = {(f["node"], f["bit"]) for f in script["faults"] if "node" in f}
     for member in segment.members:
         others = [other.name for other in segment.members if other is not member]
         for bit, place, frame, state in member.node.ends:
-            faulty = [WHOSE[0]] if (member.name, bit) in nodes else []
-            faulty += [WHOSE[1] for other in others if (other, bit) in nodes]
+            faulty = [WHOSE[0]] if (member.name, bit) in segment.node_faults else []
+            faulty += [WHOSE[1] for other in others if (other, bit) in segment.node_faults]
             wrong = RECESSIVE if place == "ACK slot" else DOMINANT
             faulty += [WHOSE[2]] if segment.line_faults.get(bit) == wrong else []
             for whose in faulty:
                 yield f"{whose} at {place}"
                 yield f"{whose} in the end of an error {state} sender's {form_text(frame)}"
+        for bit in member.node.own_slots:
+            if (member.name, bit) in segment.node_faults:
+                yield "a node fault of an error passive receiver at its own ACK slot"
 
 
 def is_unacknowledged(attempt):
@@ -202,7 +203,7 @@ def reached(script, run):
     for segment in run.segments:
         for member in segment.members:
             names.update(member.node.reached)
-        names.update(faults_at_ends(script, segment))
+        names.update(faults_at_ends(segment))
         names.update(lonely(segment))
         names.update(joined(segment))
         names.update(together(segment))

@@ -6,10 +6,13 @@ pub mod Reaches
 pub mod Fields
 pub mod Leads
 pub mod LastNumber
-pub mod Oldest
+pub mod Found
+pub mod Sending
 pub mod Numbers
 pub mod Empties
 pub mod Standing
 pub mod Undone
 pub mod BusSide
+pub mod KeyOrder
+pub mod Least
 pub mod RouteSide

@@ -1,6 +1,5 @@
 -- The calls of a route: what they add to its past, and what they leave as it was.
-use Rattle.std.proofs.Common.{◌≡◌, ◌≢◌, ℕ, ◌<◌, ◌==◌, ◌&&◌, ◌⊎◌, ⊎_elim, Bool, true, false, cond, not, List, [], ◌∷◌, ◌++◌, length, set, refl, sym, ap, ◌∙◌, subst, arith, Option, Some, Ok, Err, Result, ne_eqb}
-use Rattle.std.specs.Prelude.{slice_get}
+use Rattle.std.proofs.Common.{◌≡◌, ◌≢◌, ℕ, ◌<◌, ◌==◌, ◌&&◌, ◌⊎◌, ⊎_elim, Bool, true, false, cond, not, List, [], ◌∷◌, ◌++◌, length, set, refl, sym, ap, ◌∙◌, subst, Option, Some, Ok, Err, Result, ne_eqb}
 use Rattle.std.specs.List.{remove}
 use Rattle.std.proofs.lemmas.Bool.{false≢true}
 use Rattle.std.proofs.lemmas.List.{append-nil, length-set, get_or-set_same, get_or-set_other}
@@ -17,19 +16,18 @@ use Rattle.bx_core.specs.declared.refused.Refused.TheVariants.{NotOwner, NumberO
 use Rattle.bx_core.specs.Lists.{Each, Has}
 use Rattle.bx_core.specs.States.{State, RouteLists, no_lists, claim_of, lists_of, at_mailbox, place_of, is_transmitting, IsEmpty}
 use Rattle.bx_core.specs.Steps.{with_claim, with_request, with_waiting, without, new_waiting, requested_lists, aborted_lists, is_claim_of, may_follow, claimed, requested, aborted, aborted_at}
-use Rattle.bx_core.specs.Law.{Law, RestUntouched}
+use Rattle.bx_core.specs.Law.{Law}
 use Rattle.bx_core.specs.TxBus.{BusPast}
 use Rattle.bx_core.specs.RouteTx.{RoutePast, after_request, after_abort}
-use Rattle.bx_core.specs.PlainMail.{core_of, short_of, oldest, sending, sent_from, Requests, Aborts}
+use Rattle.bx_core.specs.PlainMail.{core_of, short_of, sending, Requests, Aborts}
 use Rattle.bx_core.specs.Stands.{BusStands, RouteStands, RouteKeeps, asked_of}
 use Rattle.bx_core.proofs.Words.{passed, passed_last, each_more, has-left, has-last, set-each}
 use Rattle.bx_core.proofs.Queues.{Split, split_at}
-use Rattle.bx_core.proofs.Reaches.{either_ok, transmitting_first}
-use Rattle.bx_core.proofs.Oldest.{oldest-set}
-use Rattle.bx_core.proofs.Numbers.{has-at_mailbox}
+use Rattle.bx_core.proofs.Reaches.{either_ok}
+use Rattle.bx_core.proofs.Found.{found, at_of}
+use Rattle.bx_core.proofs.Sending.{item_in, item-drop, item-asked}
 use Rattle.bx_core.proofs.Empties.{goes-claim}
-use Rattle.bx_core.proofs.Standing.{each_rest, other_past, stands_by, bus_on, asked_of-push, asked_of-drop, oldest_split, mark-bus}
-use Rattle.bx_core.proofs.BusSide.{rest_idle}
+use Rattle.bx_core.proofs.Standing.{each_rest, each_step, other_past, stands_by, bus_on, asked_of-push, asked_of-drop, mark-bus}
 
 -- request
 
@@ -76,9 +74,8 @@ request-own s r m n f past there h =
     (subst (Each (Has past.asked)) (sym (asked_of-push r s.queue (new_waiting r m n f) refl)) h.asked_waits) h.asked_reaped
 
 -- a request behind the others is not on the bus
-sent_from-push : (q : List Waiting) (r m n : ℕ) (f : FrameValue) → sent_from (slice_get (q ++ new_waiting r m n f ∷ []) 0) ≡ sent_from (slice_get q 0)
-sent_from-push [] r m n f = refl
-sent_from-push (w ∷ q) r m n f = refl
+item-push : (q : List Waiting) (r m n : ℕ) (f : FrameValue) → item_in (q ++ new_waiting r m n f ∷ []) ≡ item_in q
+item-push q r m n f = item-drop q [] (new_waiting r m n f) refl ∙ ap item_in (append-nil q)
 
 -- nothing changed
 unsent-own : (s : State) (r n : ℕ) (f : FrameValue) (answer : Result Sent NumberTooLarge) (past : RoutePast) → (after_request past n f answer).requested ≡ past.requested ++ [] →
@@ -102,13 +99,15 @@ requests-keeps a b r n f Yes there h =
     let is = was_claimed_requested s h.2 (core_of b) r h.1 n f h.3.empty h.4 h.5 in
     record {
       routes = ap (λ (v : State). length v.routes) (sym is) ∙ length-set s.routes r (more_lists s r n f);
+      priority = ap (λ (v : State). v.txfp) (sym is);
       short = λ e. h.0 ∙ e;
-      sends = ap sending (sym is) ∙ sent_from-push s.queue r h.1 n f;
+      sends = ap sending (sym is) ∙ item-push s.queue r h.1 n f;
       bus = λ past k. subst (λ (v : State). BusStands v past) is (request-bus s r h.1 n f past there k);
       others = λ r' ne past k. subst (λ (v : State). RouteStands v r' past) is (request-other s r h.1 n r' f past ne k);
     }
 requests-keeps a b r n f NotNow there h = record {
   routes = ap (λ (v : State). length v.routes) h.0;
+  priority = ap (λ (v : State). v.txfp) h.0;
   short = λ e. ⊎_elim (λ none. none.1 ∙ e) (λ refused. refused.2) h.1;
   sends = ap sending h.0;
   bus = λ past k. subst (λ (v : State). BusStands v past) (sym h.0) k;
@@ -139,16 +138,13 @@ record Left (s t : State) (w : Waiting) : Type 0 where
 
 -- a transmitting request was asked to end
 record Marked (s t : State) (w : Waiting) : Type 0 where
-  pub first : oldest s ≡ Some w
+  pub split : Split w.mailbox s.queue w
   pub unasked : w.abort_asked ≡ false
-  pub new : with_waiting s 0 (record w { abort_asked = true }) ≡ t
-
-found : (s : State) (w : Waiting) → Law s → Has s.queue w → at_mailbox w.mailbox s.queue ≡ Some w
-found s w l h = let apart = l.apart w.mailbox in has-at_mailbox s.queue w h (omega arith)
+  pub new : with_waiting s (at_of s w) (record w { abort_asked = true }) ≡ t
 
 was_left : (s t : State) (r : ℕ) (w : Waiting) → Law s → Has s.queue w → is_transmitting w.status ≡ false → aborted s r w.mailbox ≡ Ok t → Left s t w
 was_left s t r w l h idle e =
-    let at = found s w l h in
+    let at = (found s w l h).at in
     ⊎_elim
     (λ (y : (is_transmitting w.status ≡ true) × (with_waiting s (place_of w.mailbox s.queue) (record w { abort_asked = true }) ≡ t)). absurd (false≢true (sym idle ∙ y.0)))
     (λ (y : (is_transmitting w.status ≡ false) × (without s (place_of w.mailbox s.queue) w.route (aborted_lists (lists_of s w.route) w) ≡ t)).
@@ -157,16 +153,10 @@ was_left s t r w l h idle e =
 
 was_marked : (s t : State) (r : ℕ) (w : Waiting) → Law s → Has s.queue w → is_transmitting w.status ≡ true → aborted s r w.mailbox ≡ Ok t → Marked s t w
 was_marked s t r w l h sends e =
-    let at = found s w l h in
-    let sp = split_at w.mailbox s.queue w at in
-    let none = transmitting_first s w.mailbox w sp l sends in
-    let a = was_aborted s t r w at e in
+    let f = found s w l h in
+    let a = was_aborted s t r w f.at e in
     ⊎_elim
-    (λ (y : (is_transmitting w.status ≡ true) × (with_waiting s (place_of w.mailbox s.queue) (record w { abort_asked = true }) ≡ t)). record {
-      first = ap (λ (q : List Waiting). slice_get q 0) (sp.whole ∙ ap (λ (bs : List Waiting). bs ++ w ∷ sp.behind) none);
-      unasked = a.0;
-      new = ap (λ (k : ℕ). with_waiting s k (record w { abort_asked = true })) (sym (sp.place ∙ ap length none)) ∙ y.1;
-    })
+    (λ (y : (is_transmitting w.status ≡ true) × (with_waiting s (place_of w.mailbox s.queue) (record w { abort_asked = true }) ≡ t)). record { split = f.split; unasked = a.0; new = y.1 })
     (λ (y : (is_transmitting w.status ≡ false) × (without s (place_of w.mailbox s.queue) w.route (aborted_lists (lists_of s w.route) w) ≡ t)). absurd (false≢true (sym y.0 ∙ sends)))
     a.1
 
@@ -201,15 +191,9 @@ left-bus s t w past there h b =
     (set-each (λ (k : ℕ) (l : RouteLists). (lists_of s k).done ≡ l.done) s.routes w.route x no_lists there refl (λ k ne. refl))
     (set-each (λ (k : ℕ) (l : RouteLists). (lists_of s k).reaped ≡ l.reaped) s.routes w.route x no_lists there refl (λ k ne. refl)) b)
 
-sent_from-drop : (xs ys : List Waiting) (w : Waiting) → is_transmitting w.status ≡ false → RestUntouched (xs ++ w ∷ ys) → sent_from (slice_get (xs ++ ys) 0) ≡ sent_from (slice_get (xs ++ w ∷ ys) 0)
-sent_from-drop [] ys w idle a = rest_idle ys w a ∙ rw idle refl
-sent_from-drop (x ∷ xs) ys w idle a = refl
-
-left-sends : (s t : State) (w : Waiting) → Law s → Left s t w → sending t ≡ sending s
-left-sends s t w l h =
-    ap sending (sym h.new) ∙ ap (λ (q : List Waiting). sent_from (slice_get q 0)) h.split.rest
-    ∙ sent_from-drop h.split.before h.split.behind w h.idle (subst RestUntouched h.split.whole l.first)
-    ∙ ap (λ (q : List Waiting). sent_from (slice_get q 0)) (sym h.split.whole)
+left-sends : (s t : State) (w : Waiting) → Left s t w → sending t ≡ sending s
+left-sends s t w h =
+    ap sending (sym h.new) ∙ ap item_in h.split.rest ∙ sym (item-drop h.split.before h.split.behind w h.idle) ∙ ap item_in (sym h.split.whole)
 
 -- one more is asked to end
 
@@ -217,19 +201,23 @@ asked_head : (P : ℕ → Type 0) (b : Bool) (n : ℕ) (ns : List ℕ) → P n �
 asked_head P true n ns p a = (p, a)
 asked_head P false n ns p a = a
 
+-- the asked of one more
+asked_of-ask : (P : ℕ → Type 0) (r : ℕ) (xs ys : List Waiting) (w : Waiting) → P w.number → Each P (asked_of r (xs ++ w ∷ ys)) → Each P (asked_of r (xs ++ record w { abort_asked = true } ∷ ys))
+asked_of-ask P r [] ys w p a = asked_head P ((w.route == r) && true) w.number (asked_of r ys) p (each_rest P ((w.route == r) && w.abort_asked) w.number (asked_of r ys) a)
+asked_of-ask P r (x ∷ xs) ys w p a = each_step P ((x.route == r) && x.abort_asked) x.number (asked_of r (xs ++ w ∷ ys)) (asked_of r (xs ++ record w { abort_asked = true } ∷ ys)) (asked_of-ask P r xs ys w p) a
+
 marked-own : (s t : State) (w : Waiting) (past : RoutePast) → Marked s t w → RouteStands s w.route past → RouteStands t w.route (after_abort past w.number Asked true)
 marked-own s t w past h k =
     let x : Waiting = record w { abort_asked = true } in
-    let v = with_waiting s 0 x in
+    let v = with_waiting s (at_of s w) x in
     let new : RoutePast = record past { asked = past.asked ++ w.number ∷ [] } in
-    let sp = oldest_split s.queue w h.first in
+    let sp = h.split in
     let more : (n : ℕ) → Has past.asked n → Has new.asked n = λ n e. has-left past.asked (w.number ∷ []) n e in
-    let waits : Each (Has past.asked) (asked_of w.route (w ∷ sp.0)) = subst (λ (q : List Waiting). Each (Has past.asked) (asked_of w.route q)) sp.1 k.asked_waits in
-    let rest : Each (Has new.asked) (asked_of w.route sp.0) =
-    each_more (Has past.asked) (Has new.asked) (asked_of w.route sp.0) more (each_rest (Has past.asked) ((w.route == w.route) && w.abort_asked) w.number (asked_of w.route sp.0) waits) in
-    let all : Each (Has new.asked) (asked_of w.route (set s.queue 0 x)) =
-    subst (λ (q : List Waiting). Each (Has new.asked) (asked_of w.route (set q 0 x))) (sym sp.1)
-    (asked_head (Has new.asked) ((w.route == w.route) && true) w.number (asked_of w.route sp.0) (has-last past.asked w.number) rest) in
+    let waits : Each (Has past.asked) (asked_of w.route (sp.before ++ w ∷ sp.behind)) = subst (λ (q : List Waiting). Each (Has past.asked) (asked_of w.route q)) sp.whole k.asked_waits in
+    let all : Each (Has new.asked) (asked_of w.route (set s.queue (at_of s w) x)) =
+    subst (λ (q : List Waiting). Each (Has new.asked) (asked_of w.route q)) (sym (sp.set x))
+    (asked_of-ask (Has new.asked) w.route sp.before sp.behind w (has-last past.asked w.number)
+    (each_more (Has past.asked) (Has new.asked) (asked_of w.route (sp.before ++ w ∷ sp.behind)) more waits)) in
     subst (λ (u : State). RouteStands u w.route (after_abort past w.number Asked true)) h.new
     (other_past v w.route new (after_abort past w.number Asked true) refl (sym (append-nil past.aborted)) refl
     (record {
@@ -239,15 +227,16 @@ marked-own s t w past h k =
       asked_reaped = each_more (Has past.asked) (Has new.asked) (lists_of s w.route).reaped more k.asked_reaped;
     }))
 
-marked_other : (w : Waiting) (k : ℕ) (ws : List Waiting) → k ≢ w.route → asked_of k (record w { abort_asked = true } ∷ ws) ≡ asked_of k (w ∷ ws)
-marked_other w k ws ne = rw (ne_eqb w.route k (λ is. ne (sym is))) refl
+marked_other : (w : Waiting) (k : ℕ) (xs ys : List Waiting) → k ≢ w.route → asked_of k (xs ++ record w { abort_asked = true } ∷ ys) ≡ asked_of k (xs ++ w ∷ ys)
+marked_other w k [] ys ne = rw (ne_eqb w.route k (λ is. ne (sym is))) refl
+marked_other w k (x ∷ xs) ys ne = ap (λ (ns : List ℕ). cond ((x.route == k) && x.abort_asked) (x.number ∷ ns) ns) (marked_other w k xs ys ne)
 
 marked-other : (s t : State) (w : Waiting) (k : ℕ) (past : RoutePast) → k ≢ w.route → Marked s t w → RouteStands s k past → RouteStands t k past
 marked-other s t w k past ne h a =
     let x : Waiting = record w { abort_asked = true } in
-    let sp = oldest_split s.queue w h.first in
-    let same : asked_of k (set s.queue 0 x) ≡ asked_of k s.queue =
-    ap (λ (q : List Waiting). asked_of k (set q 0 x)) sp.1 ∙ marked_other w k sp.0 ne ∙ ap (asked_of k) (sym sp.1) in
+    let sp = h.split in
+    let same : asked_of k (set s.queue (at_of s w) x) ≡ asked_of k s.queue =
+    ap (asked_of k) (sp.set x) ∙ marked_other w k sp.before sp.behind ne ∙ ap (asked_of k) (sym sp.whole) in
     subst (λ (u : State). RouteStands u k past) h.new (record {
       requested_is = a.requested_is;
       aborted_is = a.aborted_is;
@@ -256,10 +245,12 @@ marked-other s t w k past ne h a =
     })
 
 marked-bus : (s t : State) (w : Waiting) (past : BusPast) → Marked s t w → BusStands s past → BusStands t past
-marked-bus s t w past h b = subst (λ (u : State). BusStands u past) h.new (mark-bus s (record w { abort_asked = true }) past b)
+marked-bus s t w past h b = subst (λ (u : State). BusStands u past) h.new (mark-bus s (at_of s w) (record w { abort_asked = true }) past b)
 
 marked-sends : (s t : State) (w : Waiting) → Marked s t w → sending t ≡ sending s
-marked-sends s t w h = ap sending (sym h.new) ∙ ap sent_from (oldest-set s.queue w (record w { abort_asked = true }) h.first) ∙ ap sent_from (sym h.first)
+marked-sends s t w h =
+    let sp = h.split in
+    ap sending (sym h.new) ∙ ap item_in (sp.set (record w { abort_asked = true })) ∙ item-asked sp.before sp.behind w ∙ ap item_in (sym sp.whole)
 
 -- nothing changed
 unasked-own : (s : State) (r n : ℕ) (answer : AbortAnswer) (past : RoutePast) → (after_abort past n answer false).aborted ≡ past.aborted ++ [] → (after_abort past n answer false).asked ≡ past.asked ++ [] →
@@ -289,6 +280,7 @@ aborts-own s t r n answer past l there h k = absurd h
 same-keeps : (a b : PlainMail) (r : ℕ) → core_of b ≡ core_of a → short_of b ≡ short_of a → RouteKeeps r a b
 same-keeps a b r core short = record {
   routes = ap (λ (v : State). length v.routes) core;
+  priority = ap (λ (v : State). v.txfp) core;
   short = λ e. short ∙ e;
   sends = ap sending core;
   bus = λ past k. subst (λ (v : State). BusStands v past) (sym core) k;
@@ -305,8 +297,9 @@ aborts-keeps a b r n Ended l there h short =
     let left = was_left s t r w l h.1 h.3 h.4 in
     record {
       routes = ap (λ (v : State). length v.routes) (sym left.new) ∙ length-set s.routes w.route (aborted_lists (lists_of s w.route) w);
+      priority = ap (λ (v : State). v.txfp) (sym left.new);
       short = λ e. short ∙ e;
-      sends = left-sends s t w l left;
+      sends = left-sends s t w left;
       bus = λ past k. left-bus s t w past at left k;
       others = λ i ne past k. left-other s t w i past (λ is. ne (is ∙ own)) left k;
     }
@@ -321,6 +314,7 @@ aborts-keeps a b r n Asked l there h short =
     let m = was_marked s t r w l h.1 y.0 y.1 in
     record {
       routes = ap (λ (v : State). length v.routes) (sym m.new);
+      priority = ap (λ (v : State). v.txfp) (sym m.new);
       short = λ e. short ∙ e;
       sends = marked-sends s t w m;
       bus = λ past k. marked-bus s t w past m k;

@@ -1,10 +1,10 @@
 -- A request that waits is not over: it was neither sent nor aborted nor reaped.
 use Rattle.std.proofs.Common.{◌≡◌, ℕ, ◌==◌, Bool, true, false, cond, Option, Some, None, List, [], ◌∷◌, sym, ap, subst, inl, inr, eq-eqb, arith, ◌∙◌}
-use Rattle.std.specs.Prelude.{IfSome, slice_get}
+use Rattle.std.specs.Prelude.{IfSome}
 use Rattle.bx_core.specs.declared.entry.Entry.{Entry}
 use Rattle.bx_core.specs.declared.waiting.Waiting.{Waiting}
 use Rattle.bx_core.specs.Lists.{Has}
-use Rattle.bx_core.specs.States.{State, RouteLists, lists_of, numbers, waits_of}
+use Rattle.bx_core.specs.States.{State, RouteLists, lists_of, numbers, waits_of, is_scheduled, in_turn}
 use Rattle.bx_core.specs.Law.{Law}
 use Rattle.bx_core.specs.TxBus.{Item, BusPast, IsUndone}
 use Rattle.bx_core.specs.RouteTx.{RoutePast}
@@ -12,6 +12,7 @@ use Rattle.bx_core.specs.PlainMail.{item_of, Starts}
 use Rattle.bx_core.specs.Stands.{BusStands, RouteStands, entry_on_bus, entries_of, numbers_of}
 use Rattle.bx_core.proofs.Times.{has_times, rises_once}
 use Rattle.bx_core.proofs.Words.{has-map}
+use Rattle.bx_core.proofs.Found.{find-has}
 
 waiting_number : (queue : List Waiting) (w : Waiting) → Has queue w → Has (waits_of w.route queue) w.number
 waiting_number [] w h = h
@@ -83,19 +84,18 @@ waiting_undone s w past l h b =
       unreaped = λ has. only.not_reaped (subst (λ ns. Has ns w.number) (b.reaped_is w.route) (own_number w.route w.number past.reaped has));
     }
 
-oldest_waits : (queue : List Waiting) (w : Waiting) → slice_get queue 0 ≡ Some w → Has queue w
-oldest_waits [] w e = absurd (cc e)
-oldest_waits (v ∷ queue) w e = inl (cc e)
+scheduled_waits : (s : State) (w : Waiting) → in_turn s ≡ Some w → Has s.queue w
+scheduled_waits s w e = find-has (λ (y : Waiting). is_scheduled y.status) s.queue w e
 
 -- what starts is not over
 pub starts_undone : (s t : State) (x : Option Item) (past : BusPast) → Law s → Starts s x t → BusStands s past → IfSome x (λ y. IsUndone past y)
 starts_undone s t None past l h b = tt
 starts_undone s t (Some x) past l h b =
-    subst (IsUndone past) (sym h.2) (waiting_undone s h.0 past l (oldest_waits s.queue h.0 h.1) b)
+    subst (IsUndone past) (sym h.2) (waiting_undone s h.0 past l (scheduled_waits s h.0 h.1) b)
 
 -- and its route did not abort it
 pub starts_unaborted : (s t : State) (x : Option Item) (past : RoutePast) → Law s → Starts s x t → IfSome x (λ y. RouteStands s y.0 past → Has past.aborted y.1 → ⊥)
 starts_unaborted s t None past l h = tt
 starts_unaborted s t (Some x) past l h =
     subst (λ (y : Item). RouteStands s y.0 past → Has past.aborted y.1 → ⊥) (sym h.2)
-    (λ stands has. (only_waits s h.0 l (oldest_waits s.queue h.0 h.1)).not_aborted (subst (λ ns. Has ns h.0.number) stands.aborted_is has))
+    (λ stands has. (only_waits s h.0 l (scheduled_waits s h.0 h.1)).not_aborted (subst (λ ns. Has ns h.0.number) stands.aborted_is has))

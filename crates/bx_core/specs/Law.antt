@@ -1,11 +1,13 @@
 -- The core law: what holds of a core after every list of events.
-use Rattle.std.specs.Prelude.{◌≡◌, ◌<◌, ◌≤◌, length, ℕ, suc, ◌+◌, Option, Some, None, Result, Ok, Err, List, [], ◌∷◌, ◌++◌, false, if◌then◌else◌}
+use Rattle.std.specs.Prelude.{◌≡◌, ◌<◌, ◌≤◌, length, ℕ, suc, ◌+◌, Option, Some, None, Result, Ok, Err, List, [], ◌∷◌, ◌++◌, Bool, true, false, if◌then◌else◌}
 use Rattle.bx_core.specs.declared.waiting.Waiting.{Waiting}
 use Rattle.bx_core.specs.declared.status.Status.TheVariants.{Pending}
 use Rattle.bx_core.specs.declared.event.Event.{Event}
+use Rattle.bx_core.specs.declared.event.Event.TheVariants.{Schedule}
 use Rattle.bx_core.specs.declared.refused.Refused.{Refused}
 use Rattle.bx_core.specs.Lists.{Each, Has, Rises, times}
-use Rattle.bx_core.specs.States.{State, RouteLists, opening, claim_of, lists_of, is_at, entry_of, numbers, waits_of}
+use Rattle.bx_core.specs.States.{State, RouteLists, opening_by, claim_of, lists_of, is_at, is_pending, entry_of, numbers, waits_of}
+use Rattle.bx_core.specs.Priority.{next}
 use Rattle.bx_core.specs.Steps.{after, InRange, InRoutes, greatest_number}
 
 -- how many requests wait in a mailbox
@@ -23,6 +25,15 @@ pub record IsInPlace (routes : ℕ) (w : Waiting) : Type 0 where
   pub route : w.route < routes
   pub mailbox : w.mailbox < 3
 
+-- how many of these requests are scheduled or transmitting
+abbrev pub count_busy : List Waiting → ℕ
+count_busy [] = 0
+count_busy (w ∷ ws) = (if is_pending w.status then 0 else 1) + count_busy ws
+
+-- only what is scheduled or transmitting is asked to end
+abbrev pub IsAskedBusy : Waiting → Type 0
+IsAskedBusy w = w.abort_asked ≡ true → is_pending w.status ≡ false
+
 -- a request that was neither scheduled nor asked to end
 pub record IsUntouched (w : Waiting) : Type 0 where
   pub pending : w.status ≡ Pending
@@ -33,16 +44,18 @@ abbrev pub RestUntouched : List Waiting → Type 0
 RestUntouched [] = Unit {0}
 RestUntouched (w ∷ ws) = Each IsUntouched ws
 
--- the law of one route: its lists, and the numbers of its requests that wait
-pub record IsRouteLawful (l : RouteLists) (waits : List ℕ) : Type 0 where
+-- the law of one route under this priority: its lists, and the numbers of its requests that wait
+pub record IsRouteLawful (txfp : Bool) (l : RouteLists) (waits : List ℕ) : Type 0 where
   -- a route's numbers rise
   pub rises : Rises (numbers l.requested)
   -- and are at least 1 and at most 16,777,215
   pub in_range : Each (λ n. (1 ≤ n) × (n ≤ greatest_number)) (numbers l.requested)
   -- with `rises`: each requested number is in exactly one of done, aborted, reaped and waiting, and these hold no other
   pub once : (n : ℕ) → times n (numbers l.requested) ≡ times n (numbers l.done) + times n l.aborted + times n l.reaped + times n waits
-  -- done and waiting rise, and each done number is below each waiting one
-  pub ordered : Rises (numbers l.done ++ waits)
+  -- waiting rises
+  pub waits_rise : Rises waits
+  -- by order of requests, done and waiting rise, and each done number is below each waiting one
+  pub ordered : txfp ≡ true → Rises (numbers l.done ++ waits)
   -- what is done was requested, with that frame
   pub done_known : Each (Has l.requested) l.done
 
@@ -57,16 +70,25 @@ pub record Law (s : State) : Type 0 where
   pub in_place : Each (IsInPlace (length s.routes)) s.queue
   -- no mailbox stands twice among the claims and the requests that wait
   pub apart : (mailbox : ℕ) → count_of_claim (claim_of s mailbox) + count_at mailbox s.queue ≤ 1
-  -- at most one request is scheduled or transmitting, and it is the oldest
-  pub first : RestUntouched s.queue
+  -- at most one request is scheduled or transmitting
+  pub one : count_busy s.queue ≤ 1
+  -- and by order of requests it is the oldest
+  pub first : s.txfp ≡ true → RestUntouched s.queue
+  -- only it may be asked to end
+  pub asked : Each IsAskedBusy s.queue
   -- what waits was requested by its route, with that frame
   pub waiting_known : Each (λ w. Has (lists_of s w.route).requested (entry_of w)) s.queue
   -- and each route keeps its own law
-  pub route : (r : ℕ) → IsRouteLawful (lists_of s r) (waits_of r s.queue)
+  pub route : (r : ℕ) → IsRouteLawful s.txfp (lists_of s r) (waits_of r s.queue)
+
+-- where requests wait and none is scheduled or transmitting, the next one may be scheduled
+abbrev pub NextGoes : Type 0
+NextGoes = (s : State) → Law s → count_busy s.queue ≡ 0 → 0 < length s.queue →
+    (w : Waiting) × (t : State) × (next s ≡ Some w) × (after s (Schedule w.mailbox) ≡ Ok t)
 
 -- the states that events lead to, from empty mailboxes and one to eight routes
 pub data Reached : State → Type 0 where
-  opened : (routes : ℕ) → 1 ≤ routes → routes ≤ 8 → Reached (opening routes)
+  opened : (txfp : Bool) (routes : ℕ) → 1 ≤ routes → routes ≤ 8 → Reached (opening_by txfp routes)
   stepped : (s t : State) (event : Event) → Reached s → InRange s event → after s event ≡ Ok t → Reached t
 
 -- the state that an event leaves, refused or not
@@ -81,4 +103,4 @@ run s (event ∷ events) = run (left_by s (after s event)) events
 
 -- the core law holds after every list of events, whichever of them are refused
 abbrev pub LawAfterAll : Type 0
-LawAfterAll = (routes : ℕ) (events : List Event) → routes ≤ 8 → Each (InRoutes routes) events → Law (run (opening routes) events)
+LawAfterAll = (txfp : Bool) (routes : ℕ) (events : List Event) → routes ≤ 8 → Each (InRoutes routes) events → Law (run (opening_by txfp routes) events)

@@ -1,6 +1,6 @@
 -- What the mailbox core of one controller keeps (RM0008, bxCAN, "Transmission handling").
 use Rattle.std.specs.Prelude.{◌≡◌, ℕ, suc, ◌<◌, ◌==◌, ◌&&◌, Option, Some, None, List, [], ◌∷◌, map, replicate, Bool, true, false, if◌then◌else◌}
-use Rattle.std.specs.List.{slice_index_or}
+use Rattle.std.specs.List.{slice_index_or, find}
 use Rattle.bx_core.specs.declared.entry.Entry.{Entry}
 use Rattle.bx_core.specs.declared.waiting.Waiting.{Waiting}
 use Rattle.bx_core.specs.declared.status.Status.{Status}
@@ -18,6 +18,8 @@ pub record RouteLists : Type 0 where
   pub reaped : List ℕ
 
 pub record State : Type 0 where
+  -- the priority: the order of requests (TXFP set), or else the identifier
+  pub txfp : Bool
   -- of each mailbox, the route that fills it
   pub claims : List (Option ℕ)
   -- the requests that wait in a mailbox, the oldest first
@@ -29,9 +31,13 @@ pub record State : Type 0 where
 abbrev pub no_lists : RouteLists
 no_lists = record { requested = []; done = []; aborted = []; reaped = [] }
 
--- three empty mailboxes, and this many routes that requested nothing yet
+-- three empty mailboxes with this priority, and this many routes that requested nothing yet
+abbrev pub opening_by : Bool → ℕ → State
+opening_by txfp routes = record { txfp = txfp; claims = replicate 3 None; queue = []; routes = replicate routes no_lists }
+
+-- the same, with the order of requests as the priority
 abbrev pub opening : ℕ → State
-opening routes = record { claims = replicate 3 None; queue = []; routes = replicate routes no_lists }
+opening = opening_by true
 
 -- the route that fills a mailbox
 abbrev pub claim_of : State → ℕ → Option ℕ
@@ -102,3 +108,11 @@ NoneIsEmpty s = (k : ℕ) → k < 3 → IsEmpty s k → ⊥
 abbrev pub of_number : ℕ → ℕ → List Waiting → Option Waiting
 of_number route number [] = None
 of_number route number (w ∷ ws) = if (w.route == route) && (w.number == number) then Some w else of_number route number ws
+
+-- the request that is transmitting: by the core law there is at most one
+abbrev pub on_bus : State → Option Waiting
+on_bus s = find (λ w. is_transmitting w.status) s.queue
+
+-- the request that is scheduled: by the core law there is at most one
+abbrev pub in_turn : State → Option Waiting
+in_turn s = find (λ w. is_scheduled w.status) s.queue

@@ -32,8 +32,10 @@ pub enum Event {
         /// The mailbox that the route fills.
         mailbox: u8,
     },
-    /// The oldest request becomes the next to be sent: the priority is the order of requests
-    /// (TXFP set; RM0008, bxCAN, "Transmit priority").
+    /// A pending request becomes the next to be sent (RM0008, bxCAN, "Transmit priority"). With TXFP set
+    /// it is the oldest request. With TXFP clear it is the pending one of the lowest
+    /// `Frame::arbitration_key`, of equal keys the one in the lowest mailbox; and no request is scheduled
+    /// or transmitting. Once scheduled it stays so, whatever is requested later.
     /// Refused, in this order: `WrongState`, `NotOldest`.
     Schedule {
         /// The mailbox of a pending request.

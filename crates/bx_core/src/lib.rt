@@ -16,6 +16,7 @@ mod queue;
 mod refused;
 mod route_tx;
 mod status;
+mod steps;
 mod tx_bus;
 mod waiting;
 

@@ -1,9 +1,13 @@
 //! The core: the mailboxes' claims, the requests that wait in them, and each route's lists.
-ghost use Rattle.std.specs.Prelude.{◌≡◌, ◌<◌, ◌≤◌, length, true, IsTrue, ◌↔◌, OnOk, OnErr, Err, None, Some, IfSome, IfNone, option_map, slice_get};
+ghost use Rattle.std.specs.Prelude.{◌≡◌, ◌<◌, ◌≤◌, length, true, IsTrue, ◌↔◌, OnOk, OnErr, Err};
+ghost use Rattle.std.specs.Prelude.{None, Some, IfSome, IfNone, option_map, slice_get};
 ghost use Rattle.std.specs.List.{slice_index_or};
 ghost use Rattle.bx_core.specs.declared.waiting.Waiting.{Waiting};
-ghost use Rattle.bx_core.specs.States.{State, opening, claim_of, lists_of, at_mailbox, place_of, waits_of, of_number, IsEmpty, IsLowestEmpty, NoneIsEmpty};
-ghost use Rattle.bx_core.specs.Steps.{last_number, Steps, IsRequest, InRange, Leads, after, claimed, withdrawn, requested, scheduled, started, completed, failed, aborted, reaped, is_claim_of, may_follow, with_claim, with_waiting, with_request, without};
+ghost use Rattle.bx_core.specs.States.{State, opening, opening_by, claim_of, lists_of, at_mailbox, place_of};
+ghost use Rattle.bx_core.specs.States.{waits_of, of_number, on_bus, in_turn, IsEmpty, IsLowestEmpty, NoneIsEmpty};
+ghost use Rattle.bx_core.specs.Priority.{is_next, next};
+ghost use Rattle.bx_core.specs.Steps.{last_number, Steps, IsRequest, InRange, Leads, after, is_claim_of, may_follow};
+ghost use Rattle.bx_core.specs.Steps.{with_claim, with_waiting, with_request, without};
 ghost use Rattle.bx_core.specs.End.{ended_lists};
 ghost use Rattle.bx_core.specs.Room.{lists_view};
 ghost use Rattle.bx_core.specs.Law.{Law, Reached, IsInPlace};
@@ -22,13 +26,15 @@ use std::alloc::{AllocError, Global};
 use std::marker::Model;
 
 /// The three transmit mailboxes of one controller, shared by up to eight routes
-/// (RM0008, bxCAN, "Transmission handling", with the priority by order of request: TXFP set).
+/// (RM0008, bxCAN, "Transmission handling"). What is sent next goes by the order of requests or by
+/// identifier, as `txfp` says; that never changes.
 #[derive(Drop)]
 pub struct Core {
     claims: [Option<u8>; 3],
     queue: ArrayVec<Waiting, 3>,
     routes: [Lists; 8],
     count: u8,
+    txfp: bool,
 }
 
 impl Model for Core {
@@ -44,11 +50,23 @@ impl Model for Core {
 }
 
 impl Core {
-    /// Three empty mailboxes, and 1 to 8 routes that requested nothing yet. Takes no memory.
+    /// Three empty mailboxes, and 1 to 8 routes that requested nothing yet. The priority is the order
+    /// of requests: TXFP is set (RM0008, bxCAN, "Transmit priority"). Takes no memory.
     pub fn new(alloc: Global, routes: u8) -> Core
         requires few { routes ≤ 8 }
         requires some { 1 ≤ routes }
         ensures { result ≡ opening routes }
+    {
+        Core::with_txfp(alloc, routes, true)
+    }
+
+    /// The same as `new`, with this priority. True is by the order of requests; false is by identifier:
+    /// of the pending requests, that of the lowest `Frame::arbitration_key` is sent next, and of equal
+    /// keys that in the lowest mailbox (RM0008, bxCAN, "Transmit priority").
+    pub fn with_txfp(alloc: Global, routes: u8, txfp: bool) -> Core
+        requires few { routes ≤ 8 }
+        requires some { 1 ≤ routes }
+        ensures { result ≡ opening_by txfp routes }
     {
         Core {
             claims: [None; 3],
@@ -64,6 +82,7 @@ impl Core {
                 Lists::new(alloc),
             ],
             count: routes,
+            txfp,
         }
     }
 
@@ -81,6 +100,7 @@ impl Core {
 
         ensures law { Law self.new }
         ensures routes { length self.new.routes ≡ length self.old.routes }
+        ensures priority { self.new.txfp ≡ self.old.txfp }
     {
         self.keep_law();
         let answer = self.take(event);
@@ -178,13 +198,52 @@ impl Core {
         self.lists(route).last_number()
     }
 
-    /// The oldest request that waits. No other is scheduled or transmitting.
+    /// Whether the priority is the order of requests (TXFP set). Else it is by identifier.
+    pub fn txfp(&self) -> bool
+        ensures { result ≡ self.now.txfp }
+    {
+        self.txfp
+    }
+
+    /// The oldest request that waits. By order of requests, no other is scheduled or transmitting.
     pub fn first(&self) -> Option<Waiting>
         ensures value { result ≡ slice_get self.now.queue 0 }
         ensures in_place { IfSome result (IsInPlace (length self.now.routes)) }
     {
         self.keep_law();
         self.queue.as_slice().first().copied()
+    }
+
+    /// The request that is transmitting. No other is scheduled or transmitting.
+    pub fn on_bus(&self) -> Option<Waiting>
+        ensures value { result ≡ on_bus self.now }
+        ensures in_place { IfSome result (IsInPlace (length self.now.routes)) }
+    {
+        self.keep_law();
+        queue::on_bus(self.queue.as_slice())
+    }
+
+    /// The request that is scheduled. No other is scheduled or transmitting.
+    pub fn in_turn(&self) -> Option<Waiting>
+        ensures value { result ≡ in_turn self.now }
+        ensures in_place { IfSome result (IsInPlace (length self.now.routes)) }
+    {
+        self.keep_law();
+        queue::in_turn(self.queue.as_slice())
+    }
+
+    /// The request that a try to schedule takes: by order of requests the oldest, whatever its status;
+    /// by identifier the least, where none is scheduled or transmitting.
+    pub(crate) fn next(&self) -> Option<Waiting>
+        ensures value { result ≡ next self.now }
+        ensures in_place { IfSome result (IsInPlace (length self.now.routes)) }
+    {
+        self.keep_law();
+        if self.txfp {
+            self.first()
+        } else {
+            queue::least(self.queue.as_slice())
+        }
     }
 
     /// The lowest mailbox that is neither claimed nor holds a request: 0, 1 or 2.
@@ -221,218 +280,18 @@ impl Core {
         &self.routes[usize::from(route)]
     }
 
-    fn take(&mut self, event: Event) -> Result<(), Refused>
-        requires { InRange self.old event }
-        ensures { Steps (IsRequest event) self.old (after self.old event) result self.new }
+    /// Whether the request at a place of the queue, a pending one, may be scheduled.
+    pub(crate) fn is_next(&self, place: usize, waiting: &Waiting) -> bool
+        ensures { result ≡ is_next self.now place waiting.now }
     {
-        match event {
-            Event::Claim { route, mailbox } => self.claim(route, mailbox),
-            Event::Request {
-                route,
-                mailbox,
-                number,
-                frame,
-            } => self.request(route, mailbox, number, frame),
-            Event::Withdraw { route, mailbox } => self.withdraw(route, mailbox),
-            Event::Schedule { mailbox } => self.schedule(mailbox),
-            Event::Start { mailbox } => self.start(mailbox),
-            Event::Complete { mailbox } => self.complete(mailbox),
-            Event::Fail { mailbox } => self.fail(mailbox),
-            Event::Abort { route, mailbox } => self.abort(route, mailbox),
-            Event::Reap { mailbox } => self.reap(mailbox),
+        if self.txfp {
+            place == 0
+        } else {
+            queue::goes_first(waiting, self.queue.as_slice())
         }
     }
 
-    #[tactic(auto, unfolding(crate::specs::Steps::claimed))]
-    fn claim(&mut self, route: u8, mailbox: u8) -> Result<(), Refused>
-        requires in_range { route < length self.old.routes }
-        requires in_mailboxes { mailbox < 3 }
-        ensures { Steps ⊥ self.old (claimed self.old route mailbox) result self.new }
-    {
-        if self.claim_at(mailbox).is_some() {
-            return Err(Refused::NotEmpty);
-        }
-        if self.find(mailbox).is_some() {
-            return Err(Refused::NotEmpty);
-        }
-        self.set_claim(mailbox, Some(route));
-        Ok(())
-    }
-
-    #[tactic(auto, unfolding(crate::specs::Steps::withdrawn))]
-    fn withdraw(&mut self, route: u8, mailbox: u8) -> Result<(), Refused>
-        requires in_range { route < length self.old.routes }
-        requires in_mailboxes { mailbox < 3 }
-        ensures { Steps ⊥ self.old (withdrawn self.old route mailbox) result self.new }
-    {
-        if !self.is_claimed_by(mailbox, route) {
-            return Err(Refused::NotOwner);
-        }
-        self.set_claim(mailbox, None);
-        Ok(())
-    }
-
-    #[tactic(auto, unfolding(crate::specs::Steps::requested))]
-    fn request(&mut self, route: u8, mailbox: u8, number: u32, frame: Frame) -> Result<(), Refused>
-        requires in_range { route < length self.old.routes }
-        requires in_mailboxes { mailbox < 3 }
-        ensures { Steps (Unit {0}) self.old (requested self.old route mailbox number frame) result self.new }
-    {
-        if !self.is_claimed_by(mailbox, route) {
-            return Err(Refused::NotOwner);
-        }
-        if !self.may_follow(route, number) {
-            return Err(Refused::NumberOrder);
-        }
-        match self.add_request(route, mailbox, number, frame) {
-            Ok(()) => Ok(()),
-            Err(_) => Err(Refused::Memory),
-        }
-    }
-
-    #[tactic(auto, unfolding(crate::specs::Steps::scheduled))]
-    fn schedule(&mut self, mailbox: u8) -> Result<(), Refused>
-        requires in_mailboxes { mailbox < 3 }
-        ensures { Steps ⊥ self.old (scheduled self.old mailbox) result self.new }
-    {
-        match self.find(mailbox) {
-            None => Err(Refused::WrongState),
-            Some((place, waiting)) => {
-                if !waiting.status.is_pending() {
-                    return Err(Refused::WrongState);
-                }
-                if place != 0 {
-                    return Err(Refused::NotOldest);
-                }
-                self.set_waiting(
-                    place,
-                    Waiting {
-                        status: Status::Scheduled,
-                        ..waiting
-                    },
-                );
-                Ok(())
-            }
-        }
-    }
-
-    #[tactic(auto, unfolding(crate::specs::Steps::started))]
-    fn start(&mut self, mailbox: u8) -> Result<(), Refused>
-        requires in_mailboxes { mailbox < 3 }
-        ensures { Steps ⊥ self.old (started self.old mailbox) result self.new }
-    {
-        match self.find(mailbox) {
-            None => Err(Refused::WrongState),
-            Some((place, waiting)) => {
-                if !waiting.may_start() {
-                    return Err(Refused::WrongState);
-                }
-                self.set_waiting(
-                    place,
-                    Waiting {
-                        status: Status::Transmitting,
-                        ..waiting
-                    },
-                );
-                Ok(())
-            }
-        }
-    }
-
-    #[tactic(auto, unfolding(crate::specs::Steps::completed))]
-    fn complete(&mut self, mailbox: u8) -> Result<(), Refused>
-        requires in_mailboxes { mailbox < 3 }
-        ensures { Steps ⊥ self.old (completed self.old mailbox) result self.new }
-    {
-        match self.find(mailbox) {
-            None => Err(Refused::WrongState),
-            Some((place, waiting)) => {
-                if !waiting.status.is_transmitting() {
-                    return Err(Refused::WrongState);
-                }
-                self.end(place, waiting, End::Done);
-                Ok(())
-            }
-        }
-    }
-
-    #[tactic(auto, unfolding(crate::specs::Steps::failed))]
-    fn fail(&mut self, mailbox: u8) -> Result<(), Refused>
-        requires in_mailboxes { mailbox < 3 }
-        ensures { Steps ⊥ self.old (failed self.old mailbox) result self.new }
-    {
-        match self.find(mailbox) {
-            None => Err(Refused::WrongState),
-            Some((place, waiting)) => {
-                if !waiting.status.is_transmitting() {
-                    return Err(Refused::WrongState);
-                }
-                self.set_waiting(
-                    place,
-                    Waiting {
-                        status: Status::Scheduled, // the frame is tried again
-                        ..waiting
-                    },
-                );
-                Ok(())
-            }
-        }
-    }
-
-    #[tactic(auto, unfolding(crate::specs::Steps::aborted))]
-    fn abort(&mut self, route: u8, mailbox: u8) -> Result<(), Refused>
-        requires in_range { route < length self.old.routes }
-        requires in_mailboxes { mailbox < 3 }
-        ensures { Steps ⊥ self.old (aborted self.old route mailbox) result self.new }
-    {
-        match self.find(mailbox) {
-            None => {
-                if !self.is_claimed_by(mailbox, route) {
-                    return Err(Refused::NotOwner);
-                }
-                Err(Refused::WrongState)
-            }
-            Some((place, waiting)) => {
-                if waiting.route != route {
-                    return Err(Refused::NotOwner);
-                }
-                if waiting.abort_asked {
-                    return Err(Refused::WrongState);
-                }
-                if waiting.status.is_transmitting() {
-                    self.set_waiting(
-                        place,
-                        Waiting {
-                            abort_asked: true,
-                            ..waiting
-                        },
-                    );
-                } else {
-                    self.end(place, waiting, End::Aborted);
-                }
-                Ok(())
-            }
-        }
-    }
-
-    #[tactic(auto, unfolding(crate::specs::Steps::reaped))]
-    fn reap(&mut self, mailbox: u8) -> Result<(), Refused>
-        requires in_mailboxes { mailbox < 3 }
-        ensures { Steps ⊥ self.old (reaped self.old mailbox) result self.new }
-    {
-        match self.find(mailbox) {
-            None => Err(Refused::WrongState),
-            Some((place, waiting)) => {
-                if !waiting.may_reap() {
-                    return Err(Refused::WrongState);
-                }
-                self.end(place, waiting, End::Reaped);
-                Ok(())
-            }
-        }
-    }
-
-    fn is_claimed_by(&self, mailbox: u8, route: u8) -> bool
+    pub(crate) fn is_claimed_by(&self, mailbox: u8, route: u8) -> bool
         requires { mailbox < 3 }
         ensures { result ≡ is_claim_of (claim_of self.now mailbox) route }
     {
@@ -442,21 +301,21 @@ impl Core {
         }
     }
 
-    fn may_follow(&self, route: u8, number: u32) -> bool
+    pub(crate) fn may_follow(&self, route: u8, number: u32) -> bool
         requires { route < length self.now.routes }
         ensures { result ≡ may_follow self.now route number }
     {
         self.routes[usize::from(route)].last_number() < number && number <= 16_777_215
     }
 
-    fn claim_at(&self, mailbox: u8) -> Option<u8>
+    pub(crate) fn claim_at(&self, mailbox: u8) -> Option<u8>
         requires { mailbox < 3 }
         ensures { result ≡ claim_of self.now mailbox }
     {
         self.claims[usize::from(mailbox)]
     }
 
-    fn find(&self, mailbox: u8) -> Option<(usize, Waiting)>
+    pub(crate) fn find(&self, mailbox: u8) -> Option<(usize, Waiting)>
         ensures place { IfSome result (λ found. found.0 ≡ place_of mailbox self.now.queue) }
         ensures within { IfSome result (λ found. found.0 < length self.now.queue) }
         ensures waiting { option_map (λ found. found.1) result ≡ at_mailbox mailbox self.now.queue }
@@ -464,7 +323,7 @@ impl Core {
         queue::find(self.queue.as_slice(), mailbox)
     }
 
-    fn set_claim(&mut self, mailbox: u8, claim: Option<u8>)
+    pub(crate) fn set_claim(&mut self, mailbox: u8, claim: Option<u8>)
         requires mailbox { mailbox < 3 }
         requires leads { Leads self.old (with_claim self.old mailbox claim) }
         ensures { self.new ≡ with_claim self.old mailbox claim }
@@ -472,7 +331,7 @@ impl Core {
         self.claims[usize::from(mailbox)] = claim;
     }
 
-    fn set_waiting(&mut self, place: usize, waiting: Waiting)
+    pub(crate) fn set_waiting(&mut self, place: usize, waiting: Waiting)
         requires place { place < length self.old.queue }
         requires route { (w : Waiting) → (slice_index_or self.old.queue place w).route ≡ waiting.route }
         requires leads { Leads self.old (with_waiting self.old place waiting) }
@@ -482,7 +341,7 @@ impl Core {
     }
 
     /// Puts a request in the place of its claim, with room for what it may become.
-    fn add_request(
+    pub(crate) fn add_request(
         &mut self,
         route: u8,
         mailbox: u8,
@@ -511,11 +370,13 @@ impl Core {
     }
 
     /// Takes a request out of the queue, into one of its route's lists.
-    fn end(&mut self, place: usize, waiting: Waiting, end: End)
+    pub(crate) fn end(&mut self, place: usize, waiting: Waiting, end: End)
         requires place { place < length self.old.queue }
         requires waiting { (w : Waiting) → slice_index_or self.old.queue place w ≡ waiting }
-        requires leads { Leads self.old (without self.old place waiting.route (ended_lists (lists_of self.old waiting.route) waiting end)) }
-        ensures { self.new ≡ without self.old place waiting.route (ended_lists (lists_of self.old waiting.route) waiting end) }
+        requires leads { Leads self.old
+            (without self.old place waiting.route (ended_lists (lists_of self.old waiting.route) waiting end)) }
+        ensures { self.new ≡
+            without self.old place waiting.route (ended_lists (lists_of self.old waiting.route) waiting end) }
     {
         self.queue.remove(place);
         self.routes[usize::from(waiting.route)].add_ended(&waiting, end);

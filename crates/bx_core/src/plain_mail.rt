@@ -1,12 +1,15 @@
 //! The mailboxes of a controller whose routes and bus share one thread.
-ghost use Rattle.std.specs.Prelude.{◌≡◌, ◌<◌, ◌≤◌, ◌↔◌, ℕ, length, true, false, IsTrue, IsSome, IsErr, IfOk, OnErr, Option, None, Some, IfSome, IfNone, option_map};
-ghost use Rattle.bx_core.specs.States.{State, opening, lists_of, IsLowestEmpty};
+ghost use Rattle.std.specs.Prelude.{◌≡◌, ◌<◌, ◌≤◌, ◌↔◌, ℕ, length, true, false, IsTrue, IsErr, IfOk, OnErr};
+ghost use Rattle.std.specs.Prelude.{Option, None, Some, IsSome, IfSome, IfNone, option_map};
+ghost use Rattle.bx_core.specs.States.{State, opening, opening_by, lists_of, IsLowestEmpty};
 ghost use Rattle.bx_core.specs.Steps.{last_number, greatest_number};
 ghost use Rattle.bx_core.specs.Law.{Law};
 ghost use Rattle.bx_core.specs.Lists.{Has};
-ghost use Rattle.bx_core.specs.TxBus.{BusPast, no_bus_past, label_of, after_start, after_complete, after_fail, IsUndone};
+ghost use Rattle.bx_core.specs.TxBus.{BusPast, IsUndone, no_bus_past, label_of};
+ghost use Rattle.bx_core.specs.TxBus.{after_start, after_complete, after_fail};
 ghost use Rattle.bx_core.specs.RouteTx.{RoutePast, no_route_past};
-ghost use Rattle.bx_core.specs.PlainMail.{core_of, short_of, sending, is_ready, readied, heard_of, Starts, Completes, Fails, Requests, Aborts};
+ghost use Rattle.bx_core.specs.PlainMail.{core_of, short_of, sending, is_ready, readied, heard_of};
+ghost use Rattle.bx_core.specs.PlainMail.{Starts, Completes, Fails, Requests, Aborts};
 ghost use Rattle.bx_core.specs.Stands.{BusStands, RouteStands, BusKeeps};
 
 use crate::answer::{AbortAnswer, Sent};
@@ -27,7 +30,8 @@ pub struct PlainMail {
 }
 
 impl PlainMail {
-    /// Three empty mailboxes, and 1 to 8 routes that requested nothing yet. Takes no memory.
+    /// Three empty mailboxes, and 1 to 8 routes that requested nothing yet. The priority is the order
+    /// of requests: TXFP is set (RM0008, bxCAN, "Transmit priority"). Takes no memory.
     pub fn new(alloc: Global, routes: u8) -> PlainMail
         requires few { routes ≤ 8 }
         requires some { 1 ≤ routes }
@@ -37,8 +41,22 @@ impl PlainMail {
         ensures bus { BusStands (core_of result) no_bus_past }
         ensures route { (route : ℕ) → RouteStands (core_of result) route no_route_past }
     {
+        PlainMail::with_txfp(alloc, routes, true)
+    }
+
+    /// The same as `new`, with this priority: true is by the order of requests, false by identifier, as
+    /// `Core::with_txfp` says.
+    pub fn with_txfp(alloc: Global, routes: u8, txfp: bool) -> PlainMail
+        requires few { routes ≤ 8 }
+        requires some { 1 ≤ routes }
+        ensures core { core_of result ≡ opening_by txfp routes }
+        ensures short { short_of result ≡ false }
+        ensures idle { sending (core_of result) ≡ None }
+        ensures bus { BusStands (core_of result) no_bus_past }
+        ensures route { (route : ℕ) → RouteStands (core_of result) route no_route_past }
+    {
         PlainMail {
-            core: Core::new(alloc, routes),
+            core: Core::with_txfp(alloc, routes, txfp),
             short: false,
         }
     }
@@ -62,79 +80,79 @@ impl PlainMail {
     pub fn is_transmitting(&self) -> bool
         ensures { IsTrue result ↔ IsSome (sending (core_of self.now)) }
     {
-        match self.core.first() {
-            Some(first) => first.status.is_transmitting(),
-            None => false,
-        }
+        self.core.on_bus().is_some()
     }
 }
 
 // What the traits' calls do to the core.
 impl PlainMail {
-    fn schedule_oldest(&mut self) -> bool
+    fn schedule_next(&mut self) -> bool
         ensures core { core_of self.new ≡ readied (core_of self.old) }
         ensures ready { result ≡ is_ready (core_of self.new) }
         ensures short { short_of self.new ≡ short_of self.old }
     {
-        if let Some(first) = self.core.first() {
+        if let Some(next) = self.core.next() {
             let _ = self.core.apply(Event::Schedule {
-                mailbox: first.mailbox,
+                mailbox: next.mailbox,
             });
         }
-        match self.core.first() {
-            Some(first) => first.may_start(),
+        match self.core.in_turn() {
+            Some(waiting) => waiting.may_start(),
             None => false,
         }
     }
 
-    fn start_oldest(&mut self) -> Option<(u8, u32, Frame)>
+    fn start_scheduled(&mut self) -> Option<(u8, u32, Frame)>
         ensures core { Starts (core_of self.old) result (core_of self.new) }
         ensures short { short_of self.new ≡ short_of self.old }
     {
-        match self.core.first() {
+        self.core.keep_law();
+        match self.core.in_turn() {
             None => None,
-            Some(first) => {
-                if !first.may_start() {
+            Some(waiting) => {
+                if !waiting.may_start() {
                     return None;
                 }
                 let _ = self.core.apply(Event::Start {
-                    mailbox: first.mailbox,
+                    mailbox: waiting.mailbox,
                 });
-                Some((first.route, first.number, first.frame))
+                Some((waiting.route, waiting.number, waiting.frame))
             }
         }
     }
 
-    fn complete_oldest(&mut self)
+    fn complete_sent(&mut self)
         requires { IsSome (sending (core_of self.old)) }
         ensures core { Completes (core_of self.old) (core_of self.new) }
         ensures short { short_of self.new ≡ short_of self.old }
     {
-        if let Some(first) = self.core.first() {
+        self.core.keep_law();
+        if let Some(waiting) = self.core.on_bus() {
             let _ = self.core.apply(Event::Complete {
-                mailbox: first.mailbox,
+                mailbox: waiting.mailbox,
             });
         }
     }
 
-    fn fail_oldest(&mut self) -> Option<(u8, u32)>
+    fn fail_sent(&mut self) -> Option<(u8, u32)>
         requires { IsSome (sending (core_of self.old)) }
         ensures core { Fails (core_of self.old) result (core_of self.new) }
         ensures short { short_of self.new ≡ short_of self.old }
     {
-        match self.core.first() {
+        self.core.keep_law();
+        match self.core.on_bus() {
             None => None,
-            Some(first) => {
+            Some(waiting) => {
                 let _ = self.core.apply(Event::Fail {
-                    mailbox: first.mailbox,
+                    mailbox: waiting.mailbox,
                 });
-                if !first.abort_asked {
+                if !waiting.abort_asked {
                     return None;
                 }
                 let _ = self.core.apply(Event::Reap {
-                    mailbox: first.mailbox,
+                    mailbox: waiting.mailbox,
                 });
-                Some((first.route, first.number))
+                Some((waiting.route, waiting.number))
             }
         }
     }
@@ -244,8 +262,8 @@ impl<R> TxBus<R> for PlainMail {
 
     ghost bus_stays = { λ a b. BusKeeps a b };
 
-    /// Schedules the oldest request, where none is scheduled. True where one is scheduled and its
-    /// abort was not asked.
+    /// Schedules the request that is to be sent next, where none is scheduled. True where one is scheduled
+    /// and its abort was not asked.
     fn ready(&mut self, _rt: &R) -> bool
         ensures past { (past : BusPast) → BusStands (core_of self.old) past
             → BusStands (core_of self.new) past }
@@ -255,7 +273,7 @@ impl<R> TxBus<R> for PlainMail {
         ensures ready { result ≡ is_ready (core_of self.new) }
     {
         self.core.keep_law();
-        self.schedule_oldest()
+        self.schedule_next()
     }
 
     /// Starts the request that is scheduled, and `None` only where none is that may start.
@@ -272,7 +290,7 @@ impl<R> TxBus<R> for PlainMail {
         ensures core { Starts (core_of self.old) result (core_of self.new) }
     {
         self.core.keep_law();
-        self.start_oldest()
+        self.start_scheduled()
     }
 
     /// The frame that is transmitting was sent. The test for the condition is `is_transmitting`.
@@ -285,7 +303,7 @@ impl<R> TxBus<R> for PlainMail {
         ensures core { Completes (core_of self.old) (core_of self.new) }
     {
         self.core.keep_law();
-        self.complete_oldest();
+        self.complete_sent();
     }
 
     /// The transmission failed. `Some` just where its abort was asked. The test for the condition is
@@ -300,7 +318,7 @@ impl<R> TxBus<R> for PlainMail {
         ensures core { Fails (core_of self.old) result (core_of self.new) }
     {
         self.core.keep_law();
-        self.fail_oldest()
+        self.fail_sent()
     }
 
     ghost bus_stays_self = { bus_keeps-self };

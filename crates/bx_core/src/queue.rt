@@ -1,6 +1,8 @@
 //! The queue of waiting requests, the oldest first.
 ghost use Rattle.std.specs.Prelude.{◌≡◌, ◌<◌, ◌≤◌, length, slice_set, IfSome, option_map};
-ghost use Rattle.bx_core.specs.States.{at_mailbox, place_of, waits_of, of_number};
+ghost use Rattle.std.specs.List.{find};
+ghost use Rattle.bx_core.specs.States.{at_mailbox, place_of, waits_of, of_number, is_scheduled, is_transmitting};
+ghost use Rattle.bx_core.specs.Priority.{goes_before, goes_first};
 
 use crate::waiting::Waiting;
 use arrayvec::ArrayVec;
@@ -51,4 +53,50 @@ pub(crate) fn of_number(queue: &[Waiting], route: u8, number: u32) -> Option<Wai
         }
     }
     None
+}
+
+/// The request that is transmitting.
+pub(crate) fn on_bus(queue: &[Waiting]) -> Option<Waiting>
+    ensures { result ≡ find (λ w. is_transmitting w.status) queue.now }
+{
+    queue
+        .iter()
+        .copied()
+        .find(|waiting| waiting.status.is_transmitting())
+}
+
+/// The request that is scheduled.
+pub(crate) fn in_turn(queue: &[Waiting]) -> Option<Waiting>
+    ensures { result ≡ find (λ w. is_scheduled w.status) queue.now }
+{
+    queue
+        .iter()
+        .copied()
+        .find(|waiting| waiting.status.is_scheduled())
+}
+
+/// The least of these by key and mailbox, where all are pending.
+pub(crate) fn least(queue: &[Waiting]) -> Option<Waiting>
+    ensures { result ≡ find (λ w. goes_first w queue.now) queue.now }
+{
+    queue
+        .iter()
+        .copied()
+        .find(|waiting| goes_first(waiting, queue))
+}
+
+/// Whether all of these are pending, and this one is the least of them.
+pub(crate) fn goes_first(waiting: &Waiting, queue: &[Waiting]) -> bool
+    ensures { result ≡ goes_first waiting.now queue.now }
+{
+    queue.iter().all(|other| other.status.is_pending() && goes_before(waiting, other))
+}
+
+/// Whether one goes before the other: by its key, and where these are equal by its mailbox.
+fn goes_before(waiting: &Waiting, other: &Waiting) -> bool
+    ensures { result ≡ goes_before waiting.now other.now }
+{
+    let key = waiting.frame.arbitration_key();
+    let other_key = other.frame.arbitration_key();
+    key < other_key || (key == other_key && waiting.mailbox <= other.mailbox)
 }

@@ -11,7 +11,8 @@ pub enum Refused {
     /// At an abort: the mailbox is empty, or another route's.
     #[error("C2")]
     NotOwner,
-    /// At a schedule: another request is older.
+    /// At a schedule, with TXFP set: another request is older. With TXFP clear: another goes first by
+    /// its key and mailbox, or is scheduled or transmitting.
     #[error("C3")]
     NotOldest,
     /// The mailbox isn't in a state that the event begins from.

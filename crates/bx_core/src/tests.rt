@@ -367,3 +367,74 @@ fn is_short_where_memory_is_refused(rt: HostRuntime) -> Result<(), Fail> {
     assert!(rt; mail.core().done(0) == mail.core().requested(0));
     Ok(())
 }
+
+/// A standard data frame with no bytes.
+fn standard_frame(number: u16) -> Result<Frame, Fail> {
+    Ok(Frame::with_bytes(Id::standard(number)?, &[])?)
+}
+
+#[test]
+fn schedules_by_identifier(rt: HostRuntime) -> Result<(), Fail> {
+    let mut core = Core::with_txfp(rt.alloc(), 1, false);
+    let late = standard_frame(1)?;
+    let early = standard_frame(0)?;
+    for (event, want) in [
+        (claim(0), 0),
+        (request(0, 1, late), 0),
+        (claim(1), 0),
+        (request(1, 2, early), 0),
+        (schedule(0), 3),
+        (schedule(1), 0),
+        (start(1), 0),
+        (complete(1), 0),
+        (schedule(0), 0),
+        (start(0), 0),
+        (complete(0), 0),
+    ] {
+        assert_eq!(rt; answer(&mut core, event), want);
+    }
+    assert!(rt; core.routes() == 1);
+    let first = Entry {
+        number: 2,
+        frame: early,
+    };
+    let second = Entry {
+        number: 1,
+        frame: late,
+    };
+    assert!(rt; core.done(0) == [first, second].as_slice());
+    assert!(rt; core.waiting(0).is_empty() && !core.txfp());
+    Ok(())
+}
+
+/// What is scheduled stays so, whatever is requested later; of one identifier the lower mailbox goes first.
+#[test]
+fn stays_scheduled(rt: HostRuntime) -> Result<(), Fail> {
+    let mut mail = PlainMail::with_txfp(rt.alloc(), 1, false);
+    let late = standard_frame(1)?;
+    let early = standard_frame(0)?;
+    for (number, frame) in [(1, late), (2, late)] {
+        let sent = asks(&rt, &mut mail, 0, number, frame, &mut NoGate);
+        assert_eq!(rt; sent, Some(Ok(Sent::Yes)));
+    }
+    assert!(rt; mail.ready(&rt));
+    let sent = asks(&rt, &mut mail, 0, 3, early, &mut NoGate);
+    assert_eq!(rt; sent, Some(Ok(Sent::Yes)));
+    assert!(rt; mail.ready(&rt));
+    assert_eq!(rt; mail.start(&rt), Some((0, 1, late)));
+    assert!(rt; !mail.ready(&rt));
+    assert!(rt; mail.is_transmitting());
+    assert_eq!(rt; fails(&rt, &mut mail), None);
+    assert!(rt; mail.ready(&rt));
+    assert_eq!(rt; mail.start(&rt), Some((0, 1, late)));
+    assert!(rt; mail.is_transmitting());
+    completes(&rt, &mut mail);
+    assert!(rt; mail.ready(&rt));
+    assert_eq!(rt; mail.start(&rt), Some((0, 3, early)));
+    assert_eq!(rt; aborts(&rt, &mut mail, 0, 3), Some(AbortAnswer::Asked));
+    assert!(rt; mail.is_transmitting());
+    assert_eq!(rt; fails(&rt, &mut mail), Some((0, 3)));
+    assert!(rt; mail.ready(&rt));
+    assert_eq!(rt; mail.start(&rt), Some((0, 2, late)));
+    Ok(())
+}

@@ -1,11 +1,11 @@
 -- The report's text, piece by piece.
-use Rattle.std.proofs.Common.{◌≡◌, ◌<◌, ◌≤◌, ℕ, suc, ◌+◌, length, List, [], ◌∷◌, ◌++◌, map, drop, get_or, codes, Result, refl, sym, ap, subst, ◌∙◌, OnOk, append_assoc, drop-cons, add-one}
+use Rattle.std.proofs.Common.{Bool, ◌≡◌, ◌<◌, ◌≤◌, ℕ, suc, ◌+◌, length, List, [], ◌∷◌, ◌++◌, map, drop, get_or, codes, Result, refl, sym, ap, subst, ◌∙◌, OnOk, append_assoc, drop-cons, add-one}
 use Rattle.std.proofs.lemmas.List.{append-nil, drop_all, length-replicate}
 use Rattle.std.proofs.lemmas.Result.{on_ok_weaker}
 use Rattle.std.specs.Fmt.{decimal}
 use Rattle.bx_core.specs.declared.entry.Entry.{Entry}
 use Rattle.bx_core.specs.declared.event.Event.{Event}
-use Rattle.bx_core.specs.States.{State, RouteLists, opening, no_lists}
+use Rattle.bx_core.specs.States.{State, RouteLists, opening_by, no_lists}
 use Rattle.bx_core.specs.Steps.{after}
 use Rattle.bx_core.specs.Law.{left_by, run}
 use Rattle.gw_script.specs.FrameTexts.{frame_text}
@@ -65,15 +65,15 @@ refused-end s place events text all beyond is =
     sym (append-nil text) ∙ ap (λ es. text ++ refused_lines s place es) (sym (drop_all place events beyond)) ∙ is
 
 -- the lines of the refused events, and what is told of the routes
-pub whole_report : (routes : ℕ) (events items : List Event) (first last : State) (start middle text : List ℕ) →
-    items ≡ events → first ≡ opening routes → start ≡ [] → last ≡ run first items → middle ≡ start ++ refused_lines first 0 items →
+pub whole_report : (txfp : Bool) (routes : ℕ) (events items : List Event) (first last : State) (start middle text : List ℕ) →
+    items ≡ events → first ≡ opening_by txfp routes → start ≡ [] → last ≡ run first items → middle ≡ start ++ refused_lines first 0 items →
     length last.routes ≡ length first.routes → AppendsRoutes last (length last.routes) middle text →
-    IsReport (record { routes = routes; events = events }) text
-whole_report routes events items first last start middle text items_are first_is start_is last_is middle_is count told =
-    let goes : last ≡ run (opening routes) events = last_is ∙ ap (λ s. run s items) first_is ∙ ap (run (opening routes)) items_are in
+    IsReport (record { routes = routes; txfp = txfp; events = events }) text
+whole_report txfp routes events items first last start middle text items_are first_is start_is last_is middle_is count told =
+    let goes : last ≡ run (opening_by txfp routes) events = last_is ∙ ap (λ s. run s items) first_is ∙ ap (run (opening_by txfp routes)) items_are in
     let counts : length last.routes ≡ routes = count ∙ ap (λ (s : State). length s.routes) first_is ∙ length-replicate routes no_lists in
-    let lines : middle ≡ refused_lines (opening routes) 0 events =
-    middle_is ∙ ap (λ t. t ++ refused_lines first 0 items) start_is ∙ ap (λ s. refused_lines s 0 items) first_is ∙ ap (refused_lines (opening routes) 0) items_are in
-    subst (λ t. AppendsRoutes (run (opening routes) events) routes t text) lines
-    (subst (λ n. AppendsRoutes (run (opening routes) events) n middle text) counts
+    let lines : middle ≡ refused_lines (opening_by txfp routes) 0 events =
+    middle_is ∙ ap (λ t. t ++ refused_lines first 0 items) start_is ∙ ap (λ s. refused_lines s 0 items) first_is ∙ ap (refused_lines (opening_by txfp routes) 0) items_are in
+    subst (λ t. AppendsRoutes (run (opening_by txfp routes) events) routes t text) lines
+    (subst (λ n. AppendsRoutes (run (opening_by txfp routes) events) n middle text) counts
     (subst (λ s. AppendsRoutes s (length last.routes) middle text) goes told))

@@ -11,8 +11,8 @@ use Rattle.gw_script.specs.ReportTexts.{report_text}
 use Rattle.gw_script.specs.declared.report.Report.{Report}
 use Rattle.gw_script.specs.declared.route_report.RouteReport.{RouteReport}
 use Rattle.gw_script.specs.declared.script_fault.ScriptFault.TheVariants as fault
-use Rattle.gw_run.specs.Headline.{InOrder, NotRefilled, Balances}
-use Rattle.gw_run.specs.Reports.{RunsSegments, RunsRoutes, AreStartsOf, lines_of}
+use Rattle.gw_run.specs.Headline.{NotRefilled, Balances}
+use Rattle.gw_run.specs.Reports.{AreOrdered, RunsSegments, RunsRoutes, AreStartsOf, lines_of}
 use Rattle.bxgate.specs.Reports.{IsReport}
 use Rattle.bxgate.specs.declared.failure.Failure.{Failure}
 use Rattle.bxgate.specs.declared.failure.Failure.TheVariants as failure
@@ -38,8 +38,9 @@ pub record IsRunOf (s : ScriptValue) (report : Report) : Type 0 where
   pub segments : RunsSegments s report
   -- of each route it has what these records tell of its two controllers
   pub routes : RunsRoutes s report
-  -- the completed frames are, in order and each once, a prefix of the released ones, the aborted ones left out
-  pub order : Each InOrder report.routes.items
+  -- of each route into a controller that sends by order of requests, the completed frames are, in order and each once, a
+  -- prefix of the released ones, the aborted ones left out; into one that sends by identifier, they are each once among these
+  pub order : AreOrdered s report
   -- no mailbox was refilled while its bus held it
   pub no_refill : (place : ℕ) (r : RouteReport) (started : List Entry) → slice_get report.routes.items place ≡ Some r
       → AreStartsOf s (lines_of report) place started → NotRefilled r started

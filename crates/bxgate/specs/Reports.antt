@@ -8,7 +8,7 @@ use Rattle.bx_core.specs.declared.entry.Entry.{Entry}
 use Rattle.bx_core.specs.declared.event.Event.{Event}
 use Rattle.bx_core.specs.declared.refused.Refused.{Refused}
 use Rattle.bx_core.specs.declared.refused.Refused.TheVariants.{NotEmpty, NotOwner, NotOldest, WrongState, NumberOrder, Memory}
-use Rattle.bx_core.specs.States.{State, RouteLists, opening, lists_of, waits_of}
+use Rattle.bx_core.specs.States.{State, RouteLists, opening_by, lists_of, waits_of}
 use Rattle.bx_core.specs.Steps.{after}
 use Rattle.bx_core.specs.Law.{left_by, run}
 use Rattle.gw_script.specs.EventLists.{EventListValue}
@@ -69,4 +69,5 @@ AppendsRoutes s (suc count) old new = (next : List ℕ) × AppendsRoutes s count
 
 -- the text is the whole report
 abbrev pub IsReport : EventListValue → List ℕ → Type 0
-IsReport l text = AppendsRoutes (run (opening l.routes) l.events) l.routes (refused_lines (opening l.routes) 0 l.events) text
+IsReport l text =
+    AppendsRoutes (run (opening_by l.txfp l.routes) l.events) l.routes (refused_lines (opening_by l.txfp l.routes) 0 l.events) text

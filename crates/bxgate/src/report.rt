@@ -2,7 +2,7 @@
 
 ghost use Rattle.std.specs.Prelude.{◌≡◌, ◌<◌, ◌++◌, List, ℕ, IfOk, IfErr, OnOk, string_bytes, map, length};
 ghost use Rattle.bx_core.specs.Lists.{Each};
-ghost use Rattle.bx_core.specs.States.{opening, lists_of, waits_of};
+ghost use Rattle.bx_core.specs.States.{opening_by, lists_of, waits_of};
 ghost use Rattle.bx_core.specs.Steps.{InRoutes, InRange, after};
 ghost use Rattle.bx_core.specs.Law.{run, left_by};
 ghost use Rattle.gw_script.specs.EventLists.{list_view};
@@ -137,7 +137,7 @@ pub fn report_of(alloc: Global, list: &EventList) -> Result<String, AllocError>
     ensures { IfOk result (λ text. IsReport (list_view list.now) (string_bytes text)) }
 {
     let mut text = String::new(alloc);
-    let mut core = Core::new(alloc, list.routes);
+    let mut core = Core::with_txfp(alloc, list.routes, list.txfp);
     apply_all(&mut text, &mut core, list.events.as_slice())?;
     push_routes(&mut text, &core)?;
     Ok(text)

@@ -1,6 +1,7 @@
 pub mod Levels
 pub mod Frames
 pub mod Fields
+pub mod Keys
 pub mod Crc
 pub mod Stuffing
 pub mod Spelling

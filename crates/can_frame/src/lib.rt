@@ -7,6 +7,7 @@ mod destuffing;
 mod error;
 mod frame;
 mod identifier;
+mod key;
 pub mod laws;
 mod reader;
 mod reading;

@@ -270,3 +270,19 @@ fn takes_what_it_sends(rt: HostRuntime) -> Result<(), Fail> {
     }
     Ok(())
 }
+
+#[test]
+fn keys_are_arbitration_fields(rt: HostRuntime) -> Result<(), Fail> {
+    let short = Id::standard(0x123)?;
+    let last = Id::extended(0x1FFF_FFFF)?;
+    for (frame, want) in [
+        (data(0, &[])?, 0),
+        (data(0x123, &[])?, 0x2460_0000),
+        (Frame::remote(short, 0)?, 0x2470_0000),
+        (long_data(0x1ABC_DEF0, &[])?, 0xD5F9_BDE0),
+        (Frame::remote(last, 8)?, 0xFFFF_FFFF),
+    ] {
+        assert_eq!(rt; frame.arbitration_key(), want);
+    }
+    Ok(())
+}

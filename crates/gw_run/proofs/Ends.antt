@@ -61,7 +61,7 @@ stored_frames r core number intake h waiting left p =
     ap frames_of p.stored_is ∙ map-append (λ (x : RxFrame). x.frame) h.out.released left ∙ ap (λ fs. fs ++ frames_of left) (sym p.log ∙ sym p.released_is)
 
 links : (r : RouteReport) (core : State) (number : ℕ) (intake : Intake) (h : HandValue) (waiting : List ℕ) (left : List RxFrame) → Parts r core number intake h waiting left →
-    (past : BusPast) → BusStands core past → RouteLinked r (entries_of number past.started)
+    (past : BusPast) → BusStands core past → RouteLinked core.txfp r (entries_of number past.started)
 links r core number intake h waiting left p past bus =
     let side = p.linked.1 in
     let matches = p.linked.2 in
@@ -75,7 +75,7 @@ links r core number intake h waiting left p past bus =
       left = frames_of left;
       log = ap (λ es. es ++ h.in_hand) (sym side.requested_is) ∙ matches.log ∙ ap (numbered 1) (sym p.released_is);
       one_hand = matches.one_hand;
-      law = subst (IsRouteLawful (lists_of core number)) (sym p.waiting_is) (p.law.route number);
+      law = subst (IsRouteLawful core.txfp (lists_of core number)) (sym p.waiting_is) (p.law.route number);
       completed_is = p.completed_is;
       ended = λ n has. matches.ended n (subst (λ ns. Has ns n) (sym side.aborted_is) has);
       ask_logged = matches.asked;

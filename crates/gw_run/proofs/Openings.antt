@@ -16,7 +16,7 @@ use Rattle.gw_run.specs.declared.lane.Lane.{Lane}
 use Rattle.gw_run.specs.declared.place.Place.{Place}
 use Rattle.gw_run.specs.declared.port.Port.{Port}
 use Rattle.gw_run.specs.declared.site.Site.{Site}
-use Rattle.gw_run.specs.Openings.{IsNewMail, IsEmptySlot, routes_at, IsNewPort, IsNewSite, AreNewSites, IsPlaceOf, IsLaneOf, IsNewLane, Takes, TakesApart}
+use Rattle.gw_run.specs.Openings.{IsNewMail, priority_of, IsEmptySlot, routes_at, IsNewPort, IsNewSite, AreNewSites, IsPlaceOf, IsLaneOf, IsNewLane, Takes, TakesApart}
 use Rattle.gw_run.specs.Plans.{IsPlanOf}
 use Rattle.gw_run.specs.Slots.{SetsSlot}
 use Rattle.gw_run.specs.Worlds.{IsAt, TakesFrom, PortChanges, slot_of}
@@ -57,7 +57,7 @@ new_port_set s controller fifo slot old new empty set p = record {
   value = p.value;
   value_is = p.value_is;
   banks_is = set.banks_is ∙ p.banks_is;
-  mail = subst (IsNewMail (routes_at s controller)) (sym set.mail_is) p.mail;
+  mail = subst (IsNewMail (priority_of p.value) (routes_at s controller)) (sym set.mail_is) p.mail;
   first = subst IsEmptySlot (sym set.first_is) (empty_slot (fifo == 0) slot old.first empty p.first);
   second = subst IsEmptySlot (sym set.second_is) (empty_slot (fifo == 0) old.second slot p.second empty);
 }

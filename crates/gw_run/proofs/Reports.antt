@@ -20,9 +20,9 @@ use Rattle.gw_script.specs.Routes.{RouteValue}
 use Rattle.gw_script.specs.Scripts.{ScriptValue}
 use Rattle.gw_run.specs.declared.site.Site.{Site}
 use Rattle.gw_run.specs.Finals.{IsDoneSite, AreDoneSites, IsRecordAt, lines_at}
-use Rattle.gw_run.specs.Headline.{InOrder, NotRefilled, Balances}
+use Rattle.gw_run.specs.Headline.{NotRefilled, Balances}
 use Rattle.gw_run.specs.Pairs.{Pairs}
-use Rattle.gw_run.specs.Reports.{NeverAgain, IsSegmentRun, lines_of, AreToldOf, IsRouteRun, RunsRoutes, AreStartsOf}
+use Rattle.gw_run.specs.Reports.{NeverAgain, IsSegmentRun, lines_of, AreToldOf, IsRouteRun, AreOrdered, RunsRoutes, AreStartsOf}
 use Rattle.gw_run.proofs.Pairs.{pair_at, pairs-map}
 use Rattle.gw_run.proofs.PlacesWhere.{place-once, places-length}
 
@@ -63,8 +63,11 @@ pub each_there : {X : Type 0} (P : X → Type 0) (xs : List X) → ((k : ℕ) (x
 each_there P [] all = tt
 each_there P (x ∷ xs) all = (all 0 x refl, each_there P xs (λ k y e. all (suc k) y e))
 
-pub all_in_order : (s : ScriptValue) (report : Report) → RunsRoutes s report → Each InOrder report.routes.items
-all_in_order s report p = each_there InOrder report.routes.items (λ k r e. (pair_at (λ place route. IsRouteRun s (lines_of report) place route) s.routes report.routes.items k r p e).2.claims.order)
+pub all_ordered : (s : ScriptValue) (report : Report) → RunsRoutes s report → AreOrdered s report
+all_ordered s report p = record {
+  at = λ k route r e f. (let run = p.at k route r e f in record { target = run.to_is.value; target_is = run.to_is.value_is; order = run.claims.order });
+  size = p.size;
+}
 
 pub all_balance : (s : ScriptValue) (report : Report) → RunsRoutes s report → Each Balances report.routes.items
 all_balance s report p = each_there Balances report.routes.items (λ k r e. (pair_at (λ place route. IsRouteRun s (lines_of report) place route) s.routes report.routes.items k r p e).2.claims.sum)

@@ -1,9 +1,9 @@
 -- A run before its first bit.
-use Rattle.std.specs.Prelude.{◌≡◌, ◌≢◌, ◌==◌, ℕ, max, Option, Some, None, List, [], length, slice_get}
+use Rattle.std.specs.Prelude.{◌≡◌, ◌≢◌, ◌==◌, ℕ, max, Option, Some, None, List, [], length, slice_get, Bool}
 use Rattle.bx_core.specs.declared.plain_mail.PlainMail.{PlainMail}
 use Rattle.bx_core.specs.PlainMail.{core_of, sending}
 use Rattle.bx_core.specs.RouteTx.{no_route_past}
-use Rattle.bx_core.specs.States.{opening}
+use Rattle.bx_core.specs.States.{opening_by}
 use Rattle.bx_core.specs.Stands.{BusStands, RouteStands}
 use Rattle.bx_core.specs.TxBus.{no_bus_past}
 use Rattle.can_segment.specs.Segments.{IsOpening}
@@ -23,9 +23,13 @@ use Rattle.gw_run.specs.Pairs.{Pairs}
 use Rattle.gw_run.specs.Plans.{IsPlanOf, aborts_of}
 use Rattle.gw_run.specs.Worlds.{IsAt, TakesFrom}
 
--- mailboxes for so many routes, of which nothing was asked yet
-pub record IsNewMail (routes : ℕ) (mail : PlainMail) : Type 0 where
-  pub core_is : core_of mail ≡ opening routes
+-- Whether a controller sends by order of requests: else by identifier (RM0008, bxCAN, "Transmit priority").
+abbrev pub priority_of : ControllerValue → Bool
+priority_of controller = controller.txfp
+
+-- mailboxes of this priority for so many routes, of which nothing was asked yet
+pub record IsNewMail (txfp : Bool) (routes : ℕ) (mail : PlainMail) : Type 0 where
+  pub core_is : core_of mail ≡ opening_by txfp routes
   pub idle : sending (core_of mail) ≡ None
   pub bus : BusStands (core_of mail) no_bus_past
   pub route : (route : ℕ) → RouteStands (core_of mail) route no_route_past
@@ -44,7 +48,7 @@ pub record IsNewPort (s : ScriptValue) (controller : ℕ) (port : Port) : Type 0
   pub value : ControllerValue
   pub value_is : slice_get s.controllers controller ≡ Some value
   pub banks_is : port.banks ≡ value.banks
-  pub mail : IsNewMail (routes_at s controller) port.mail
+  pub mail : IsNewMail (priority_of value) (routes_at s controller) port.mail
   pub first : IsEmptySlot port.first
   pub second : IsEmptySlot port.second
 

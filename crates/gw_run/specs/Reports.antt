@@ -22,8 +22,9 @@ use Rattle.gw_script.specs.Routes.{RouteValue}
 use Rattle.gw_script.specs.Scripts.{ScriptValue}
 use Rattle.gw_script.specs.Nodes.{controller_at, route_at}
 use Rattle.gw_run.specs.Ends.{TellsFifo}
-use Rattle.gw_run.specs.Headline.{Headline}
+use Rattle.gw_run.specs.Headline.{OrderBy, Headline}
 use Rattle.gw_run.specs.Intakes.{GoTo}
+use Rattle.gw_run.specs.Openings.{priority_of}
 use Rattle.gw_run.specs.Pairs.{Pairs}
 use Rattle.gw_run.specs.Plans.{IsPlanOf, aborts_of}
 
@@ -87,12 +88,22 @@ pub record IsRouteRun (s : ScriptValue) (lines : List (List Event)) (place : ℕ
   -- it completed what its target completed of its requests
   pub completed_is : r.completed.items ≡ entries_of number (all_in sent_in to)
   -- the claims, given what its target started of its requests
-  pub claims : Headline r (entries_of number (all_in start_in to))
+  pub claims : Headline (priority_of to_is.value) r (entries_of number (all_in start_in to))
   -- the aborted numbers differ, and an abort of the script names each
   pub apart : AllPairs (λ number later. number ≢ later) r.aborted.items
   pub named : Each (Has (aborted_in s place)) r.aborted.items
 
+-- What is claimed of the order of a route's completed frames: by the priority of the controller that it leads into.
+pub record OrderInto (s : ScriptValue) (route : RouteValue) (r : RouteReport) : Type 0 where
+  pub target : ControllerValue
+  pub target_is : slice_get s.controllers route.target ≡ Some target
+  pub order : OrderBy (priority_of target) r
+
 -- so it is for each route
+abbrev pub AreOrdered : ScriptValue → Report → Type 0
+AreOrdered s report = Pairs (λ place route. OrderInto s route) s.routes report.routes.items
+
+-- what became of the frames of each route
 abbrev pub RunsRoutes : ScriptValue → Report → Type 0
 RunsRoutes s report = Pairs (λ place route. IsRouteRun s (lines_of report) place route) s.routes report.routes.items
 

@@ -9,8 +9,8 @@ ghost use Rattle.gw_script.specs.declared.route_report.RouteReport.{RouteReport}
 ghost use Rattle.gw_run.specs.Finals.{AreDoneSites, IsOver, lines_at};
 ghost use Rattle.gw_run.specs.Openings.{AreNewSites, Opens};
 ghost use Rattle.gw_run.specs.Pairs.{Pairs};
-ghost use Rattle.gw_run.specs.Headline.{InOrder, NotRefilled, Balances};
-ghost use Rattle.gw_run.specs.Reports.{IsRouteRun, RunsSegments, RunsRoutes, AreStartsOf, lines_of};
+ghost use Rattle.gw_run.specs.Headline.{NotRefilled, Balances};
+ghost use Rattle.gw_run.specs.Reports.{IsRouteRun, AreOrdered, RunsSegments, RunsRoutes, AreStartsOf, lines_of};
 ghost use Rattle.gw_run.specs.declared.run_fault.RunFault.TheVariants.{Memory as WantOfMemory};
 
 use crate::closing::{end_lanes, records_of};
@@ -81,8 +81,10 @@ fn run<R: Wait>(rt: &R, alloc: Global, script: &Script, turn: u32) -> Result<Rep
 /// then makes one turn. Each controller has three transmit mailboxes and two receive FIFOs of three
 /// frames (RM0008, bxCAN, "Transmission handling" and "Reception handling").
 ///
-/// Of each route, the completed frames are, in order and each once, a prefix of the frames released from
-/// its source FIFO with the aborted ones left out; no mailbox was refilled while its bus held it, as each
+/// Of each route into a controller that sends by order of requests (TXFP set), the completed frames are, in
+/// order and each once, a prefix of the frames released from its source FIFO with the aborted ones left out.
+/// Of each route into one that sends by identifier (TXFP clear), they are, each once, among the released
+/// frames, and none of them is an aborted one. Of each route, no mailbox was refilled while its bus held it, as each
 /// line `started` shows; and accepted equals completed, aborted, overrun and held. `Memory` where a
 /// growth was refused: then there is no report.
 pub fn run_inline<R: Wait>(
@@ -93,7 +95,7 @@ pub fn run_inline<R: Wait>(
 ) -> Result<Report, RunFault>
     requires sound { IsSound script.now }
     requires turn { 0 < turn }
-    ensures order { IfOk result (λ report. Each InOrder report.routes.items) }
+    ensures order { IfOk result (AreOrdered script.now) }
     ensures no_refill { IfOk result (λ report. (place : ℕ) (r : RouteReport) (started : List Entry)
         → slice_get report.routes.items place ≡ Some r → AreStartsOf script.now (lines_of report) place started
         → NotRefilled r started) }

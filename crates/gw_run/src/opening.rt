@@ -30,7 +30,8 @@ fn routes_at(script: &Script, controller: usize) -> u8
     count_into(script, controller).max(1) as u8
 }
 
-/// The port of a controller, with the banks of the script and FIFOs that nobody takes from.
+/// The port of a controller, with the priority and the banks of the script and FIFOs that nobody takes
+/// from.
 fn port_of(alloc: Global, script: &Script, controller: usize) -> Port
     requires sound { IsSound script.now }
     requires there { controller < length script.now.controllers }
@@ -38,7 +39,11 @@ fn port_of(alloc: Global, script: &Script, controller: usize) -> Port
 {
     let banks = *script.controllers()[controller].banks();
     Port {
-        mail: PlainMail::new(alloc, routes_at(script, controller)),
+        mail: PlainMail::with_txfp(
+            alloc,
+            routes_at(script, controller),
+            script.controllers()[controller].txfp(),
+        ),
         banks,
         first: None,
         second: None,

@@ -13,7 +13,7 @@ use Rattle.gw_script.specs.declared.node_place.NodePlace.{NodePlace}
 use Rattle.gw_script.specs.declared.planned_fault.PlannedFault.{PlannedFault}
 use Rattle.gw_script.specs.declared.planned_fault.PlannedFault.TheVariants.{AtNode, OnLine}
 use Rattle.gw_script.specs.Faults.{Fault, too_many, fifo_twice, unknown_name}
-use Rattle.gw_script.specs.Fields.{or_fault, object_of, whole, text_of, list, optional_list}
+use Rattle.gw_script.specs.Fields.{or_fault, object_of, whole, optional_truth, text_of, list, optional_list}
 use Rattle.gw_script.specs.Names.{is_among, new_name, place_named}
 use Rattle.gw_script.specs.Talkers.{talker_names, most_nodes}
 use Rattle.gw_script.specs.Segments.{SegmentValue, segment_names, all_talker_names, segments_of}
@@ -77,11 +77,12 @@ controller_room : (bits : ℕ) (segments : List SegmentValue) (front : List Cont
 unfolding controller_with
 controller_room bits segments front name segment from c e =
     from_bind (whole (codes "on") 0 (bits - 1) from) _ c e (λ on is_on e1.
-    from_bind (banks_of from) _ c e1 (λ banks are_banks e2.
-    let read : ControllerValue = record { name = name; segment = segment; on = on; banks = banks } in
-    let test = passed_ok (nat_lt (node_count front segment (slice_get segments segment)) most_nodes) read c (too_many (codes "controllers")) e2 in
+    from_bind (optional_truth (codes "txfp") true from) _ c e1 (λ txfp is_txfp e2.
+    from_bind (banks_of from) _ c e2 (λ banks are_banks e3.
+    let read : ControllerValue = record { name = name; segment = segment; on = on; txfp = txfp; banks = banks } in
+    let test = passed_ok (nat_lt (node_count front segment (slice_get segments segment)) most_nodes) read c (too_many (codes "controllers")) e3 in
     let P : ControllerValue → Type 0 = λ one. (name ≡ one.name) × (node_count front one.segment (slice_get segments one.segment) < 16) in
-    subst P test.1 (refl, ltb-true (node_count front segment (slice_get segments segment)) 16 test.0)))
+    subst P test.1 (refl, ltb-true (node_count front segment (slice_get segments segment)) 16 test.0))))
 
 controller_ok : (bits : ℕ) (segments : List SegmentValue) (front : List ControllerValue) (value : Data) (c : ControllerValue) → controller_of bits segments front value ≡ Ok c → IsNewController segments front c
 unfolding controller_of

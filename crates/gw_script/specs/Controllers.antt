@@ -1,19 +1,21 @@
 -- A controller: a node that routes send and receive through.
-use Rattle.std.specs.Prelude.{ℕ, ◌-◌, ◌+◌, ◌==◌, nat_lt, List, [], ◌++◌, length, map, filter, count_by, codes, Option, Some, None, slice_get, Result, Ok, Err, if◌then◌else◌}
+use Rattle.std.specs.Prelude.{ℕ, ◌-◌, ◌+◌, ◌==◌, nat_lt, Bool, true, List, [], ◌++◌, length, map, filter, count_by, codes, Option, Some, None, slice_get, Result, Ok, Err, if◌then◌else◌}
 use Rattle.serde_json.specs.Data.{Data}
 use Rattle.bx_rx.specs.Bank.{BankValue}
 use Rattle.gw_script.specs.Faults.{Fault, too_many}
-use Rattle.gw_script.specs.Fields.{◌>>=◌, object_of, whole, list, each_after}
+use Rattle.gw_script.specs.Fields.{◌>>=◌, object_of, whole, optional_truth, list, each_after}
 use Rattle.gw_script.specs.Names.{new_name, place_named}
 use Rattle.gw_script.specs.Talkers.{talker_names, most_nodes}
 use Rattle.gw_script.specs.Segments.{SegmentValue, segment_names, all_talker_names}
 use Rattle.gw_script.specs.BankLists.{banks_of}
 
--- its name, the place of its segment, the bit at which it is switched on, and its filter banks
+-- its name, the place of its segment, the bit at which it is switched on, whether it sends by order of requests
+-- (RM0008, bxCAN, TXFP), and its filter banks
 pub record ControllerValue : Type 0 where
   pub name : List ℕ
   pub segment : ℕ
   pub on : ℕ
+  pub txfp : Bool
   pub banks : List BankValue
 
 abbrev pub controller_names : List ControllerValue → List (List ℕ)
@@ -37,12 +39,13 @@ abbrev pub with_room : List SegmentValue → List ControllerValue → Controller
 with_room segments front c =
     if nat_lt (node_count front c.segment (slice_get segments c.segment)) most_nodes then Ok c else Err (too_many (codes "controllers"))
 
--- `on` and `banks` of a controller with this name and segment, and the room for it
+-- `on`, `txfp` and `banks` of a controller with this name and segment, and the room for it
 unfoldable pub controller_with : ℕ → List SegmentValue → List ControllerValue → List ℕ → ℕ → Data → Result ControllerValue Fault
 controller_with bits segments front name segment from = do
   on ← whole (codes "on") 0 (bits - 1) from
+  txfp ← optional_truth (codes "txfp") true from
   banks ← banks_of from
-  with_room segments front (record { name = name; segment = segment; on = on; banks = banks })
+  with_room segments front (record { name = name; segment = segment; on = on; txfp = txfp; banks = banks })
 
 -- A controller in a run of so many bits, behind those in front of it. Its name is none of a talker either.
 unfoldable pub controller_of : ℕ → List SegmentValue → List ControllerValue → Data → Result ControllerValue Fault

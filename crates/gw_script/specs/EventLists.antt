@@ -1,5 +1,5 @@
--- An event list as a JSON object: a count of routes, and mailbox events in order.
-use Rattle.std.specs.Prelude.{ℕ, ◌-◌, List, codes, Result, Ok, Err, if◌then◌else◌}
+-- An event list as a JSON object: a count of routes, the priority of the mailboxes, and mailbox events in order.
+use Rattle.std.specs.Prelude.{ℕ, ◌-◌, Bool, true, List, codes, Result, Ok, Err, if◌then◌else◌}
 use Rattle.std.specs.Str.{bytes_eq}
 use Rattle.serde_json.specs.Data.{Data}
 use Rattle.bx_core.specs.declared.event.Event.{Event}
@@ -8,15 +8,16 @@ use Rattle.gw_script.specs.declared.event_list.EventList.{EventList}
 use Rattle.gw_script.specs.declared.event_list.EventName.{EventName}
 use Rattle.gw_script.specs.declared.event_list.EventName.TheVariants as name
 use Rattle.gw_script.specs.Faults.{Fault, out_of_range}
-use Rattle.gw_script.specs.Fields.{◌>>=◌, object_of, field, whole, text, list, each}
+use Rattle.gw_script.specs.Fields.{◌>>=◌, object_of, field, whole, optional_truth, text, list, each}
 use Rattle.gw_script.specs.Frames.{frame_of}
 
 pub record EventListValue : Type 0 where
   pub routes : ℕ
+  pub txfp : Bool
   pub events : List Event
 
 abbrev pub list_view : EventList → EventListValue
-list_view l = record { routes = l.routes; events = l.events.items }
+list_view l = record { routes = l.routes; txfp = l.txfp; events = l.events.items }
 
 abbrev pub name_of : List ℕ → Result EventName Fault
 name_of word =
@@ -97,6 +98,7 @@ unfoldable pub event_list_of : Data → Result EventListValue Fault
 event_list_of value = do
   from ← object_of (codes "script") value
   routes ← whole (codes "routes") 1 8 from
+  txfp ← optional_truth (codes "txfp") true from
   items ← list (codes "events") 100000 from
   events ← each (event_of routes) items
-  Ok (record { routes = routes; events = events })
+  Ok (record { routes = routes; txfp = txfp; events = events })

@@ -49,6 +49,14 @@ truth name from = do
   value ← field name from
   or_fault (wrong_kind name) (as_bool value)
 
+-- a truth value, and this one where the field is not there
+abbrev pub given_truth : List ℕ → Bool → Option Data → Result Bool Fault
+given_truth name absent None = Ok absent
+given_truth name absent (Some value) = or_fault (wrong_kind name) (as_bool value)
+
+unfoldable pub optional_truth : List ℕ → Bool → Data → Result Bool Fault
+optional_truth name absent from = given_truth name absent (get name from)
+
 unfoldable pub text_of : List ℕ → Data → Result (List ℕ) Fault
 text_of name value = or_fault (wrong_kind name) (as_str value)
 

@@ -10,7 +10,7 @@ ghost use Rattle.gw_script.specs.Controllers.{node_count, controller_with, contr
 ghost use Rattle.gw_script.specs.SoundScripts.{IsControllerIn};
 
 use crate::bank_list::banks_of;
-use crate::fields::{list, object_of, whole};
+use crate::fields::{list, object_of, optional_truth, whole};
 use crate::name::{Named, owned, place_named};
 use crate::script_fault::ScriptFault;
 use crate::segment::{Segment, node_name};
@@ -24,12 +24,13 @@ use std::marker::Model;
 const MOST_CONTROLLERS: usize = 16;
 
 /// A node that routes send and receive through. Contracts see its name, the place of its segment, the
-/// bit at which it is switched on, and its filter banks.
+/// bit at which it is switched on, its transmit priority, and its filter banks.
 #[derive(Drop)]
 pub struct Controller {
     name: String,
     segment: usize,
     on: u32,
+    txfp: bool,
     banks: Banks,
 }
 
@@ -63,6 +64,13 @@ impl Controller {
         ensures { result ≡ self.now.on }
     {
         self.on
+    }
+
+    /// Whether it sends by order of requests (TXFP set), and not by identifier.
+    pub fn txfp(&self) -> bool
+        ensures { result ≡ self.now.txfp }
+    {
+        self.txfp
     }
 
     /// Its filter banks, also those that the script doesn't list.
@@ -121,6 +129,7 @@ fn controller_with(
     ensures range { IfOk result (IsControllerIn bits segments.now) }
 {
     let on = whole(from, "on", 0, u64::from(bits - 1))? as u32;
+    let txfp = optional_truth(from, "txfp", true)?;
     let banks = match banks_of(alloc, from) {
         Ok(banks) => banks,
         Err(fault) => return Err(fault),
@@ -131,6 +140,7 @@ fn controller_with(
             name,
             segment,
             on,
+            txfp,
             banks,
         })
     } else {

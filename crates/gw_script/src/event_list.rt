@@ -10,7 +10,7 @@ ghost use Rattle.gw_script.specs.EventLists.{list_view, name_of, mailbox_of, rou
 ghost use Rattle.gw_script.specs.Documents.{IsTextOf, FirstFault};
 
 use crate::document::document;
-use crate::fields::{field, list, object_of, text, whole};
+use crate::fields::{field, list, object_of, optional_truth, text, whole};
 use crate::frames::frame_of;
 use crate::script_fault::ScriptFault;
 use bx_core::Event;
@@ -20,10 +20,12 @@ use std::alloc::Global;
 /// The greatest number of events in a list.
 const MOST_EVENTS: usize = 100_000;
 
-/// Mailbox events in order, over this many routes (1 to 8).
+/// Mailbox events in order, over this many routes (1 to 8), of mailboxes with this priority.
 #[derive(Drop)]
 pub struct EventList {
     pub routes: u8,
+    /// Whether requests are sent in their order (TXFP set), and not by identifier.
+    pub txfp: bool,
     pub events: Vec<Event>,
 }
 
@@ -203,9 +205,14 @@ fn event_list_of(alloc: Global, value: &Value) -> Result<EventList, ScriptFault>
 {
     let from = object_of(value, "script")?;
     let routes = whole(from, "routes", 1, 8)? as u8;
+    let txfp = optional_truth(from, "txfp", true)?;
     let items = list(from, "events", MOST_EVENTS)?;
     let events = events_of(alloc, items, routes)?;
-    Ok(EventList { routes, events })
+    Ok(EventList {
+        routes,
+        txfp,
+        events,
+    })
 }
 
 /// Reads an event list of at most `LIMIT` bytes, or tells its first fault.

@@ -1,9 +1,9 @@
 //! Fields of a JSON object.
 
-ghost use Rattle.std.specs.Prelude.{◌≡◌, ◌≤◌, IfOk, length};
+ghost use Rattle.std.specs.Prelude.{◌≡◌, ◌≤◌, Bool, IfOk, length};
 ghost use Rattle.serde_json.specs.View.{view, items_view};
 ghost use Rattle.gw_script.specs.Faults.{Reads};
-ghost use Rattle.gw_script.specs.Fields.{object_of, field, natural_of, whole_of, natural, whole, truth, text_of, text, list_of, list, some_list, filled_list, optional_list};
+ghost use Rattle.gw_script.specs.Fields.{object_of, field, natural_of, whole_of, natural, whole, truth, optional_truth, text_of, text, list_of, list, some_list, filled_list, optional_list};
 
 use crate::script_fault::ScriptFault;
 use serde_json::Value;
@@ -83,6 +83,24 @@ pub fn truth(object: &Value, name: &'static str) -> Result<bool, ScriptFault>
     match value.as_bool() {
         Some(truth) => Ok(truth),
         None => Err(ScriptFault::Kind(name)),
+    }
+}
+
+/// A field that is true or false, and `absent` where it is not there.
+#[tactic(auto, unfolding(crate::specs::Fields::optional_truth))]
+pub fn optional_truth(
+    object: &Value,
+    name: &'static str,
+    absent: bool,
+) -> Result<bool, ScriptFault>
+    ensures { Reads (λ b. b) result (optional_truth name.entry.now absent (view object.now)) }
+{
+    match object.get(name) {
+        None => Ok(absent),
+        Some(value) => match value.as_bool() {
+            Some(truth) => Ok(truth),
+            None => Err(ScriptFault::Kind(name)),
+        },
     }
 }
 

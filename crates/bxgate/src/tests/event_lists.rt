@@ -12,6 +12,10 @@ pub const SENDS_ONE_FRAME: &str =
 const REFUSES_MUCH: &str =
     r#"{"routes":1,"events":[{"event":"request","route":0,"mailbox":0,"number":1,"frame":{"id":0,"ext":false,"data":[]}},{"event":"claim","route":0,"mailbox":0},{"event":"claim","route":0,"mailbox":0},{"event":"request","route":0,"mailbox":0,"number":16777216,"frame":{"id":0,"ext":false,"data":[]}},{"event":"request","route":0,"mailbox":0,"number":5,"frame":{"id":0,"ext":false,"data":[]}},{"event":"claim","route":0,"mailbox":1},{"event":"request","route":0,"mailbox":1,"number":5,"frame":{"id":0,"ext":false,"data":[]}},{"event":"request","route":0,"mailbox":1,"number":6,"frame":{"id":0,"ext":false,"data":[]}},{"event":"schedule","mailbox":1},{"event":"schedule","mailbox":2},{"event":"schedule","mailbox":0},{"event":"abort","route":0,"mailbox":0},{"event":"abort","route":0,"mailbox":0},{"event":"schedule","mailbox":1},{"event":"start","mailbox":1},{"event":"abort","route":0,"mailbox":1},{"event":"abort","route":0,"mailbox":1},{"event":"reap","mailbox":1},{"event":"fail","mailbox":1},{"event":"start","mailbox":1},{"event":"reap","mailbox":1},{"event":"complete","mailbox":1},{"event":"withdraw","route":0,"mailbox":2}]}"#;
 
+/// Two requests of one route with the priority by identifier: the second has the lower one.
+const SENDS_BY_IDENTIFIER: &str =
+    r#"{"routes":1,"txfp":false,"events":[{"event":"claim","route":0,"mailbox":0},{"event":"request","route":0,"mailbox":0,"number":1,"frame":{"id":1,"ext":false,"data":[]}},{"event":"claim","route":0,"mailbox":1},{"event":"request","route":0,"mailbox":1,"number":2,"frame":{"id":0,"ext":false,"data":[]}},{"event":"schedule","mailbox":0},{"event":"schedule","mailbox":1},{"event":"start","mailbox":1},{"event":"complete","mailbox":1},{"event":"schedule","mailbox":0},{"event":"start","mailbox":0},{"event":"complete","mailbox":0}]}"#;
+
 #[test]
 fn reports_on_event_lists(rt: HostRuntime) -> Result<(), Fail> {
     for (script, report) in [
@@ -28,6 +32,13 @@ fn reports_on_event_lists(rt: HostRuntime) -> Result<(), Fail> {
              event 8 refused C3\nevent 9 refused C4\nevent 12 refused C2\nevent 16 refused C4\n\
              event 17 refused C4\nevent 19 refused C4\nevent 21 refused C4\nevent 22 refused C2\n\
              route 0 requested 2 done 0 aborted 1 reaped 1 waiting 0\n",
+        ),
+        (
+            SENDS_BY_IDENTIFIER,
+            "event 4 refused C3\n\
+             done 0 2 000 data - 00000100000100000100000100000100000100001111111111\n\
+             done 0 1 001 data - 00000100000101000001000100010000100111111111111\n\
+             route 0 requested 2 done 2 aborted 0 reaped 0 waiting 0\n",
         ),
     ] {
         let run = run_of(&rt, ["bxgate", "core"].as_slice(), script.as_bytes());
@@ -119,6 +130,8 @@ fn tells_the_first_fault_of_a_list(rt: HostRuntime) -> Result<(), Fail> {
         ("{\"routes\":0}", "J4 Range routes"),
         ("{\"routes\":9}", "J4 Range routes"),
         ("{\"routes\":1}", "J2 Missing events"),
+        ("{\"routes\":1,\"txfp\":0,\"events\":0}", "J3 Kind txfp"),
+        ("{\"routes\":9,\"txfp\":0}", "J4 Range routes"),
         ("{\"routes\":1,\"events\":{}}", "J3 Kind events"),
         ("{\"routes\":1,\"events\":[7]}", "J3 Kind events"),
         (

@@ -226,6 +226,61 @@ fn reports_on_a_gateway_that_makes_one_turn(rt: HostRuntime) -> Result<(), Fail>
     Ok(())
 }
 
+/// Two frames that wait when their controller is switched on: by identifier the second goes first, by order of requests
+/// the first.
+#[test]
+fn reports_on_a_gateway_by_either_priority(rt: HostRuntime) -> Result<(), Fail> {
+    let alloc = rt.alloc();
+    let longer = changed(alloc, THREE_FRAMES, r#""bits":300"#, r#""bits":320"#)?;
+    let other = changed(
+        alloc,
+        longer.as_str(),
+        r#"[{"id":0,"ext":false,"data":[]},{"id":0,"ext":false,"data":[]},{"id":0,"ext":false,"data":[]}]"#,
+        r#"[{"id":1,"ext":false,"data":[]},{"id":0,"ext":false,"data":[]}]"#,
+    )?;
+    for (setting, sent) in [
+        (
+            r#""segment":"b","on":200,"txfp":false"#,
+            "b 211 d started 000 data - r 2\n\
+             b 259 l took 211 000 data -\n\
+             b 260 d completed 211 000 data - r 2\n\
+             b 264 d started 001 data - r 1\n\
+             b 309 l took 264 001 data -\n\
+             b 310 d completed 264 001 data - r 1\n",
+        ),
+        (
+            r#""segment":"b","on":200"#,
+            "b 211 d started 001 data - r 1\n\
+             b 256 l took 211 001 data -\n\
+             b 257 d completed 211 001 data - r 1\n\
+             b 261 d started 000 data - r 2\n\
+             b 309 l took 261 000 data -\n\
+             b 310 d completed 261 000 data - r 2\n",
+        ),
+    ] {
+        let script = changed(alloc, other.as_str(), r#""segment":"b","on":0"#, setting)?;
+        let report = format!(in alloc;
+            "a 11 t started 001 data -\n\
+             a 56 c took 11 001 data -\n\
+             a 57 t completed 11 001 data -\n\
+             a 61 t started 000 data -\n\
+             a 109 c took 61 000 data -\n\
+             a 110 t completed 61 000 data -\n\
+             a node t tec 0 rec 0 active\n\
+             a node c tec 0 rec 0 active\n\
+             a end 320\n\
+             {sent}\
+             b node l tec 0 rec 0 active\n\
+             b node d tec 0 rec 0 active\n\
+             b end 320\n\
+             route r accepted 2 overrun 0 released 2 completed 2 aborted 0 held 0\n"
+        )?;
+        let words = ["bxgate", "run"];
+        assert!(rt; is_reported(&rt, words.as_slice(), script.as_str(), report.as_str()));
+    }
+    Ok(())
+}
+
 #[test]
 fn reports_on_an_abort(rt: HostRuntime) -> Result<(), Fail> {
     let alloc = rt.alloc();

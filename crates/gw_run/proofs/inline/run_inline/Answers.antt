@@ -1,8 +1,8 @@
-use Rattle.gw_run.proofs.Reports.{all_in_order, all_balance, none_refilled}
+use Rattle.gw_run.proofs.Reports.{all_ordered, all_balance, none_refilled}
 use Rattle.gw_run.proofs.inline.run_inline.Goals as goal
 
 pub returns-in-Ok-clause-order : goal.returns-in-Ok-clause-order
-returns-in-Ok-clause-order g c = all_in_order c.args.script.now c.in-Ok.report c.in-Ok.ensures.routes
+returns-in-Ok-clause-order g c = all_ordered c.args.script.now c.in-Ok.report c.in-Ok.ensures.routes
 
 pub returns-in-Ok-clause-sum : goal.returns-in-Ok-clause-sum
 returns-in-Ok-clause-sum g c = all_balance c.args.script.now c.in-Ok.report c.in-Ok.ensures.routes
