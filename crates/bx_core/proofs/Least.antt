@@ -34,10 +34,10 @@ least w (v ∷ vs) =
     elim (cases_Bool (goes_before x v)) [
       | inl before ↦ (x, ⊎_elim (λ is. inl is) (λ has. inr (inr has)) of_rest.1, (of_rest.2.0, (before, of_rest.2.1)))
       | inr behind ↦ (let before = goes_before-other x v behind in (
-          v,
-          inr (inl refl),
-          (goes_before-on v x w before of_rest.2.0, (goes_before-self v, each_more (GoesBefore x) (GoesBefore v) vs (λ y. goes_before-on v x y before) of_rest.2.1)),
-        ))
+        v,
+        inr (inl refl),
+        (goes_before-on v x w before of_rest.2.0, (goes_before-self v, each_more (GoesBefore x) (GoesBefore v) vs (λ y. goes_before-on v x y before) of_rest.2.1)),
+      ))
     ]
 
 -- where all are pending, that one may be scheduled

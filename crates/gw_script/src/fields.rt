@@ -88,11 +88,7 @@ pub fn truth(object: &Value, name: &'static str) -> Result<bool, ScriptFault>
 
 /// A field that is true or false, and `absent` where it is not there.
 #[tactic(auto, unfolding(crate::specs::Fields::optional_truth))]
-pub fn optional_truth(
-    object: &Value,
-    name: &'static str,
-    absent: bool,
-) -> Result<bool, ScriptFault>
+pub fn optional_truth(object: &Value, name: &'static str, absent: bool) -> Result<bool, ScriptFault>
     ensures { Reads (λ b. b) result (optional_truth name.entry.now absent (view object.now)) }
 {
     match object.get(name) {

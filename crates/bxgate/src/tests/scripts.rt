@@ -197,7 +197,11 @@ fn tells_what_is_wrong_with_controllers(rt: HostRuntime) -> Result<(), Fail> {
         (r#""on":7"#, r#""on":7,"txfp":1"#, "J3 Kind txfp"),
         (r#""on":7"#, r#""on":7,"txfp":null"#, "J3 Kind txfp"),
         // before the banks, and behind the bit at which it is switched on
-        (r#""on":7,"banks":[{"#, r#""on":7,"txfp":"","x":[{"#, "J3 Kind txfp"),
+        (
+            r#""on":7,"banks":[{"#,
+            r#""on":7,"txfp":"","x":[{"#,
+            "J3 Kind txfp",
+        ),
         (r#""on":7"#, r#""on":10,"txfp":0"#, "J4 Range on"),
         (r#""banks":[{"#, r#""x":[{"#, "J2 Missing banks"),
         (r#""banks":[{"#, r#""banks":0,"x":[{"#, "J3 Kind banks"),
