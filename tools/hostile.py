@@ -22,8 +22,8 @@ def with_gateway(draw, script, frames):
     """A second segment, to which a gateway carries over what it takes on the first one."""
     script["segments"].append({"name": "s1", "talkers": [{"name": "u0", "on": 0, "frames": frames},
                                                          {"name": "u1", "on": 0, "frames": []}]})
-    script["controllers"] = [{"name": f"c{place}", "segment": f"s{place}", "on": 0, "banks": [OPEN]}
-                             for place in (0, 1)]
+    script["controllers"] = [{"name": f"c{place}", "segment": f"s{place}", "on": 0, "txfp": draw.random() < 0.7,
+                              "banks": [OPEN]} for place in (0, 1)]
     script["routes"] = [{"name": "r0", "from": "c0", "fifo": 0, "to": "c1"}]
     if draw.random() < 0.3:
         script["routes"].append({"name": "r1", "from": "c1", "fifo": 0, "to": "c0"})
@@ -32,11 +32,6 @@ def with_gateway(draw, script, frames):
 
 def some_frames(draw, least, most):
     return [draws.frame(draw, 0.5, 0.5) for _ in range(draw.randint(least, most))]
-
-
-def short_frame(draw):
-    frame = draws.frame(draw, 0.5, 0.5)
-    return frame | {"data": []} if "data" in frame else frame
 
 
 def climb(bus, tec):
@@ -62,17 +57,15 @@ def some_strikes(draw, whose):
     return {place: draw.choice(whose) for place in places}
 
 
-def frame_ends(draw, kind):
+def frame_ends(draw, kind, extended, remote):
     """The sender is error active, perhaps for just one error more; or error passive, since its line was recessive, or
     since it was alone and nobody acknowledged sixteen attempts."""
-    script = nodes(3000, some_frames(draw, 9, 9), some_frames(draw, 0, 1), [])
+    first = draws.frame(draw, extended, remote)
+    script = nodes(5000, [first, *some_frames(draw, 8, 8)], some_frames(draw, 0, 1), [])
     if kind == "alone":
-        first = short_frame(draw)
-        talkers = script["segments"][0]["talkers"]
-        talkers[0]["frames"].insert(0, first)
         # an attempt without acknowledgement ends in the ACK slot; flag, delimiter and intermission follow
         attempt = len(wire(first)) + 9
-        for talker in talkers[1:]:
+        for talker in script["segments"][0]["talkers"][1:]:
             talker["on"] = 16 * attempt + draw.randrange(attempt)
 
     def plot(bus):
@@ -152,11 +145,11 @@ def overload(draw, bus):
 
 def broken_flags(draw, cause, name):
     """Flags are broken by a recessive sample, and dominant ones follow: as many as count, or one less."""
-    script = nodes(700, some_frames(draw, 1, 3), [])
+    script = nodes(900, some_frames(draw, 2, 4), [])
 
     def plot(bus):
         node = bus.nodes[name]
-        for _ in range(2):
+        for _ in range(3):
             count = draw.randrange(6)
             yield from cause(draw, bus)
             yield from until(lambda: node.state == "active flag" and node.count == count)
@@ -329,7 +322,8 @@ def perturb(draw, script, turn):
 
 # what a run draws in turn
 KINDS = [
-    *[(frame_ends, kind) for kind in ("active", "passive", "alone")] * 5,
+    *[(frame_ends, kind, extended, remote)
+      for kind in ("active", "passive", "alone") for extended in (0, 1) for remote in (0, 1)],
     *[(joins, kind) for kind in ("remote", "formats", "remote", "lower", "remote", "equal", "remote")],
     *[(started_together, kind) for kind in ("equal", "bytes", "formats", "remote")],
     *[(broken_flags, cause, name) for cause in (meet_error, overload) for name in ("t0", "t1")] * 2,
