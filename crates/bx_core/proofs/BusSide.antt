@@ -201,11 +201,11 @@ completes-keeps a b l h short =
 
 -- fail
 
--- after a failure that reaped, as if the request had left at once
 remove-here : (xs ys : List Waiting) (x : Waiting) → remove (xs ++ x ∷ ys) (length xs) ≡ xs ++ ys
 remove-here [] ys x = refl
 remove-here (z ∷ zs) ys x = ap (λ (l : List Waiting). z ∷ l) (remove-here zs ys x)
 
+-- after a failure that reaped, as if the request had left at once
 failed_reaped : (s u t : State) (w : Waiting) → IsAlone s w → failed s w.mailbox ≡ Ok u → reaped u w.mailbox ≡ Ok t →
     without s (at_of s w) w.route (reaped_lists (lists_of s w.route) w) ≡ t
 failed_reaped s u t w a f g =

@@ -81,11 +81,6 @@ pub record Law (s : State) : Type 0 where
   -- and each route keeps its own law
   pub route : (r : ℕ) → IsRouteLawful s.txfp (lists_of s r) (waits_of r s.queue)
 
--- where requests wait and none is scheduled or transmitting, the next one may be scheduled
-abbrev pub NextGoes : Type 0
-NextGoes = (s : State) → Law s → count_busy s.queue ≡ 0 → 0 < length s.queue →
-    (w : Waiting) × (t : State) × (next s ≡ Some w) × (after s (Schedule w.mailbox) ≡ Ok t)
-
 -- the states that events lead to, from empty mailboxes and one to eight routes
 pub data Reached : State → Type 0 where
   opened : (txfp : Bool) (routes : ℕ) → 1 ≤ routes → routes ≤ 8 → Reached (opening_by txfp routes)
@@ -101,6 +96,12 @@ abbrev pub run : State → List Event → State
 run s [] = s
 run s (event ∷ events) = run (left_by s (after s event)) events
 
--- the core law holds after every list of events, whichever of them are refused
+-- the core law holds after every list of events, by either priority, whichever of the events are refused
 abbrev pub LawAfterAll : Type 0
-LawAfterAll = (txfp : Bool) (routes : ℕ) (events : List Event) → routes ≤ 8 → Each (InRoutes routes) events → Law (run (opening_by txfp routes) events)
+LawAfterAll = (txfp : Bool) (routes : ℕ) (events : List Event) → routes ≤ 8 → Each (InRoutes routes) events →
+    Law (run (opening_by txfp routes) events)
+
+-- where requests wait and none is scheduled or transmitting, the next one may be scheduled
+abbrev pub NextGoes : Type 0
+NextGoes = (s : State) → Law s → count_busy s.queue ≡ 0 → 0 < length s.queue →
+    (w : Waiting) × (t : State) × (next s ≡ Some w) × (after s (Schedule w.mailbox) ≡ Ok t)

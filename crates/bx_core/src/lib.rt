@@ -35,4 +35,6 @@ pub use crate::tx_bus::TxBus;
 pub use crate::waiting::Waiting;
 
 #[cfg(test)]
+mod priority_tests;
+#[cfg(test)]
 mod tests;

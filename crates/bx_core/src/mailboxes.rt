@@ -214,7 +214,7 @@ impl Core {
         self.queue.as_slice().first().copied()
     }
 
-    /// The request that is transmitting. No other is scheduled or transmitting.
+    /// The request that is transmitting, if one is. No other is scheduled or transmitting.
     pub fn on_bus(&self) -> Option<Waiting>
         ensures value { result ≡ on_bus self.now }
         ensures in_place { IfSome result (IsInPlace (length self.now.routes)) }
@@ -223,7 +223,7 @@ impl Core {
         queue::on_bus(self.queue.as_slice())
     }
 
-    /// The request that is scheduled. No other is scheduled or transmitting.
+    /// The request that is scheduled, if one is. No other is scheduled or transmitting.
     pub fn in_turn(&self) -> Option<Waiting>
         ensures value { result ≡ in_turn self.now }
         ensures in_place { IfSome result (IsInPlace (length self.now.routes)) }

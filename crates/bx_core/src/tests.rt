@@ -16,11 +16,11 @@ fn empty_frame() -> Result<Frame, Fail> {
     Ok(Frame::with_bytes(Id::standard(0)?, &[])?)
 }
 
-fn claim(mailbox: u8) -> Event {
+pub(crate) fn claim(mailbox: u8) -> Event {
     Event::Claim { route: 0, mailbox }
 }
 
-fn request(mailbox: u8, number: u32, frame: Frame) -> Event {
+pub(crate) fn request(mailbox: u8, number: u32, frame: Frame) -> Event {
     Event::Request {
         route: 0,
         mailbox,
@@ -33,15 +33,15 @@ fn withdraw(mailbox: u8) -> Event {
     Event::Withdraw { route: 0, mailbox }
 }
 
-fn schedule(mailbox: u8) -> Event {
+pub(crate) fn schedule(mailbox: u8) -> Event {
     Event::Schedule { mailbox }
 }
 
-fn start(mailbox: u8) -> Event {
+pub(crate) fn start(mailbox: u8) -> Event {
     Event::Start { mailbox }
 }
 
-fn complete(mailbox: u8) -> Event {
+pub(crate) fn complete(mailbox: u8) -> Event {
     Event::Complete { mailbox }
 }
 
@@ -58,7 +58,7 @@ fn reap(mailbox: u8) -> Event {
 }
 
 /// The code's number of what an event answers, 0 where it is taken, and 99 out of range.
-fn answer(core: &mut Core, event: Event) -> u8 {
+pub(crate) fn answer(core: &mut Core, event: Event) -> u8 {
     if !core.is_in_range(&event) {
         return 99;
     }
@@ -217,7 +217,7 @@ fn ask<R, T: RouteTx<R>, G: Gate>(
 }
 
 /// A request of a route, where it may be made: what the bus side may have done stays.
-fn asks<G: Gate>(
+pub(crate) fn asks<G: Gate>(
     rt: &HostRuntime,
     mail: &mut PlainMail,
     route: u8,
@@ -238,7 +238,12 @@ fn asks<G: Gate>(
 }
 
 /// An abort of a route, where it may be made.
-fn aborts(rt: &HostRuntime, mail: &mut PlainMail, route: u8, number: u32) -> Option<AbortAnswer> {
+pub(crate) fn aborts(
+    rt: &HostRuntime,
+    mail: &mut PlainMail,
+    route: u8,
+    number: u32,
+) -> Option<AbortAnswer> {
     if route >= mail.core().routes() {
         return None;
     }
@@ -253,7 +258,7 @@ fn aborts(rt: &HostRuntime, mail: &mut PlainMail, route: u8, number: u32) -> Opt
 }
 
 /// A failure, where a request is transmitting.
-fn fails<R, B: TxBus<R>>(rt: &R, bus: &mut B) -> Option<(u8, u32)>
+pub(crate) fn fails<R, B: TxBus<R>>(rt: &R, bus: &mut B) -> Option<(u8, u32)>
     requires { IsSome (B.transmitting bus.old) }
     ensures past { (past : BusPast) → B.bus_after bus.old past
         → B.bus_after bus.new (after_fail past result) }
@@ -297,7 +302,7 @@ fn serves_two_routes(rt: HostRuntime) -> Result<(), Fail> {
 }
 
 /// A completion, where a request is transmitting.
-fn completes<R, B: TxBus<R>>(rt: &R, bus: &mut B)
+pub(crate) fn completes<R, B: TxBus<R>>(rt: &R, bus: &mut B)
     requires { IsSome (B.transmitting bus.old) }
     ensures past { (past : BusPast) → B.bus_after bus.old past
         → B.bus_after bus.new (after_complete past (B.transmitting bus.old)) }
@@ -365,76 +370,5 @@ fn is_short_where_memory_is_refused(rt: HostRuntime) -> Result<(), Fail> {
     }
     assert!(rt; mail.core().routes() == 1);
     assert!(rt; mail.core().done(0) == mail.core().requested(0));
-    Ok(())
-}
-
-/// A standard data frame with no bytes.
-fn standard_frame(number: u16) -> Result<Frame, Fail> {
-    Ok(Frame::with_bytes(Id::standard(number)?, &[])?)
-}
-
-#[test]
-fn schedules_by_identifier(rt: HostRuntime) -> Result<(), Fail> {
-    let mut core = Core::with_txfp(rt.alloc(), 1, false);
-    let late = standard_frame(1)?;
-    let early = standard_frame(0)?;
-    for (event, want) in [
-        (claim(0), 0),
-        (request(0, 1, late), 0),
-        (claim(1), 0),
-        (request(1, 2, early), 0),
-        (schedule(0), 3),
-        (schedule(1), 0),
-        (start(1), 0),
-        (complete(1), 0),
-        (schedule(0), 0),
-        (start(0), 0),
-        (complete(0), 0),
-    ] {
-        assert_eq!(rt; answer(&mut core, event), want);
-    }
-    assert!(rt; core.routes() == 1);
-    let first = Entry {
-        number: 2,
-        frame: early,
-    };
-    let second = Entry {
-        number: 1,
-        frame: late,
-    };
-    assert!(rt; core.done(0) == [first, second].as_slice());
-    assert!(rt; core.waiting(0).is_empty() && !core.txfp());
-    Ok(())
-}
-
-/// What is scheduled stays so, whatever is requested later; of one identifier the lower mailbox goes first.
-#[test]
-fn stays_scheduled(rt: HostRuntime) -> Result<(), Fail> {
-    let mut mail = PlainMail::with_txfp(rt.alloc(), 1, false);
-    let late = standard_frame(1)?;
-    let early = standard_frame(0)?;
-    for (number, frame) in [(1, late), (2, late)] {
-        let sent = asks(&rt, &mut mail, 0, number, frame, &mut NoGate);
-        assert_eq!(rt; sent, Some(Ok(Sent::Yes)));
-    }
-    assert!(rt; mail.ready(&rt));
-    let sent = asks(&rt, &mut mail, 0, 3, early, &mut NoGate);
-    assert_eq!(rt; sent, Some(Ok(Sent::Yes)));
-    assert!(rt; mail.ready(&rt));
-    assert_eq!(rt; mail.start(&rt), Some((0, 1, late)));
-    assert!(rt; !mail.ready(&rt));
-    assert!(rt; mail.is_transmitting());
-    assert_eq!(rt; fails(&rt, &mut mail), None);
-    assert!(rt; mail.ready(&rt));
-    assert_eq!(rt; mail.start(&rt), Some((0, 1, late)));
-    assert!(rt; mail.is_transmitting());
-    completes(&rt, &mut mail);
-    assert!(rt; mail.ready(&rt));
-    assert_eq!(rt; mail.start(&rt), Some((0, 3, early)));
-    assert_eq!(rt; aborts(&rt, &mut mail, 0, 3), Some(AbortAnswer::Asked));
-    assert!(rt; mail.is_transmitting());
-    assert_eq!(rt; fails(&rt, &mut mail), Some((0, 3)));
-    assert!(rt; mail.ready(&rt));
-    assert_eq!(rt; mail.start(&rt), Some((0, 2, late)));
     Ok(())
 }

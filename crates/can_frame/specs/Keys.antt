@@ -1,6 +1,6 @@
 -- What decides which of two frames wins on the bus: Bosch CAN Specification 2.0, part B, 2 BASIC CONCEPTS, Arbitration, and
 -- 3.2.1 DATA FRAME, ARBITRATION FIELD.
-use Rattle.std.specs.Prelude.{ℕ, ◌+◌, ◌*◌, ◌/◌, ◌%◌, ◌^◌, Bool, true, false, if◌then◌else◌}
+use Rattle.std.specs.Prelude.{ℕ, ◌+◌, ◌*◌, ◌/◌, ◌%◌, ◌^◌, Bool, if◌then◌else◌}
 use Rattle.can_frame.specs.Frames.{Identifier, standard, extended, FrameValue}
 use Rattle.can_frame.specs.Fields.{is_remote}
 
