@@ -45,7 +45,8 @@ def fields(frame):
 
 
 def key(frame):
-    """What decides in arbitration, as a number of 32 bits: the field from the identifier to RTR and IDE. The lower wins."""
+    """What decides in arbitration, as a number of 32 bits: the field from the identifier to RTR and IDE. The lower
+    wins."""
     field = [level for level, _ in fields(frame)][1:33 if frame["ext"] else 14]
     return number(field + [0] * (32 - len(field)))
 

@@ -36,7 +36,8 @@ def banks(draw):
 
 
 def controller(draw, name, segments, bits):
-    result = {"name": name, "segment": draw.choice(segments)["name"], "on": draw.choice([0, 0, 0, draw.randrange(bits)])}
+    result = {"name": name, "segment": draw.choice(segments)["name"],
+              "on": draw.choice([0, 0, 0, draw.randrange(bits)])}
     if draw.random() < 0.6:
         result["txfp"] = draw.random() < 0.3
     return result | {"banks": banks(draw)}

@@ -38,6 +38,7 @@ class Watched(Node):
         self.note_end(bit)
         if before == "take" and self.is_passive() and self.drive() == DOMINANT and level == RECESSIVE:
             self.own_slots.append(bit)
+        # one method for some of the states
         look = getattr(self, "look_at_" + before.replace(" ", "_"), None)
         if look:
             look(level)
