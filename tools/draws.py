@@ -5,11 +5,15 @@ def some(draw, most, make):
     return [make(place) for place in range(draw.randint(0, most))]
 
 
-def frame(draw, extended_share=0.3, remote_share=0.2):
+def identifier(draw, extended_share=0.3):
     extended = draw.random() < extended_share
     # few identifiers, so that frames meet in arbitration
-    identifier = draw.choice([0, 1, 0x123, 0x7FF, draw.randrange(2048)])
-    result = {"id": identifier << 18 | draw.choice([0, 0x3FFFF]) if extended else identifier, "ext": extended}
+    number = draw.choice([0, 1, 0x123, 0x7FF, draw.randrange(2048)])
+    return {"id": number << 18 | draw.choice([0, 0x3FFFF]) if extended else number, "ext": extended}
+
+
+def frame(draw, extended_share=0.3, remote_share=0.2):
+    result = identifier(draw, extended_share)
     if draw.random() < remote_share:
         return result | {"remote": draw.randint(0, 8)}
     return result | {"data": [draw.choice([0, 255, draw.randrange(256)]) for _ in range(draw.choice([0, 0, 1, 2, 8]))]}
@@ -28,25 +32,38 @@ def talker(draw, name, bits):
             "frames": some(draw, 8, lambda _: frame(draw))}
 
 
-def banks(draw):
+def banks(draw, version):
     if draw.random() < 0.6:
         return [{"bank": 0, "scale": 32, "mode": "mask", "fifo": draw.randint(0, 1), "active": True,
                  "r1": 0, "r2": 0}]
-    return [bank(draw, place) for place in draw.sample(range(14), draw.randint(0, 4))]
+    return [bank(draw, place) for place in draw.sample(range(14 if version == 1 else 28), draw.randint(0, 4))]
 
 
-def controller(draw, name, segments, bits):
+def controller(draw, name, segments, bits, version=1):
     result = {"name": name, "segment": draw.choice(segments)["name"],
               "on": draw.choice([0, 0, 0, draw.randrange(bits)])}
     if draw.random() < 0.6:
         result["txfp"] = draw.random() < 0.3
-    return result | {"banks": banks(draw)}
+    return result | {"banks": banks(draw, version)}
+
+
+def rewrite(draw):
+    new = identifier(draw)
+    return identifier(draw) | {"new_id": new["id"], "new_ext": new["ext"]}
+
+
+def route(draw, place, source, fifo, names):
+    result = {"name": f"r{place}", "from": source, "fifo": fifo, "to": draw.choice(names)}
+    # in version 1 the field says nothing
+    if draw.random() < 0.5:
+        result["rewrite"] = some(draw, draw.choice([1, 4, 32]), lambda _: rewrite(draw))
+    return result
 
 
 def routes(draw, controllers):
     names = [c["name"] for c in controllers]
     fifos = [(name, fifo) for name in names for fifo in (0, 1)]
-    return [{"name": f"r{place}", "from": name, "fifo": fifo, "to": draw.choice(names)}
+    return [route(draw, place, name, fifo, names)
             for place, (name, fifo) in enumerate(draw.sample(fifos, draw.randint(0, min(8, len(fifos)))))]
 
 

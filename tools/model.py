@@ -102,9 +102,18 @@ class Controller:
         return request
 
 
+def rewritten(entries, frame):
+    """The frame under the new identifier of the first entry that is for its own."""
+    for entry in entries:
+        if (entry["id"], entry["ext"]) == (frame["id"], frame["ext"]):
+            return frame | {"id": entry["new_id"], "ext": entry["new_ext"]}
+    return frame
+
+
 class Route:
     def __init__(self, script, place, controllers):
         route = script["routes"][place]
+        self.rewrites = route.get("rewrite", []) if script["version"] == 2 else []
         self.name, self.fifo = route["name"], route["fifo"]
         self.source, self.target = controllers[route["from"]], controllers[route["to"]]
         self.aborts = [(a["number"], a["turn"]) for a in script.get("aborts", []) if a["route"] == self.name]
@@ -119,7 +128,7 @@ class Route:
         fifo = self.source.fifos[self.fifo]
         if self.hand is None and fifo:
             self.released += 1
-            self.hand = Request(self, self.released, fifo.pop(0))
+            self.hand = Request(self, self.released, rewritten(self.rewrites, fifo.pop(0)))
         if self.hand is not None and len(self.target.requests) < 3:
             self.requested = self.hand.number
             self.target.put(self.hand)

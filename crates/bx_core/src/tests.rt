@@ -142,18 +142,22 @@ fn refuses_in_order(rt: HostRuntime) -> Result<(), Fail> {
     Ok(())
 }
 
-/// A request that is refused memory leaves all as before, its claim too.
+/// A request that is refused memory leaves all as before, its claim too, and the next one is taken: where one
+/// allocation is refused, at most one request is.
 #[test]
 fn goes_on_where_memory_is_refused(rt: HostRuntime) -> Result<(), Fail> {
     let mut core = Core::new(rt.alloc(), 1);
     let frame = empty_frame()?;
     let mut last = 0;
+    let mut refused = 0u32;
     for number in 1..=6 {
         assert_eq!(rt; answer(&mut core, claim(0)), 0);
         let answered = answer(&mut core, request(0, number, frame));
         assert!(rt; answered == 0 || answered == 6);
         if answered == 0 {
             last = number;
+        } else {
+            refused = refused.saturating_add(1);
         }
         assert!(rt; core.routes() == 1);
         assert_eq!(rt; core.last_number(0), last);
@@ -167,6 +171,7 @@ fn goes_on_where_memory_is_refused(rt: HostRuntime) -> Result<(), Fail> {
         assert!(rt; core.done(0) == core.requested(0));
         assert!(rt; core.aborted(0).is_empty() && core.reaped(0).is_empty());
     }
+    assert!(rt; refused <= 1);
     Ok(())
 }
 
@@ -348,16 +353,21 @@ fn sends_in_order_of_requests(rt: HostRuntime) -> Result<(), Fail> {
     Ok(())
 }
 
-/// A request that is refused memory is answered `NotNow`; the mail is short, and else as before.
+/// A request that is refused memory is answered `NotNow`; the mail is short from then on, and else as before,
+/// so the next request is sent.
 #[test]
 fn is_short_where_memory_is_refused(rt: HostRuntime) -> Result<(), Fail> {
     let mut mail = PlainMail::new(rt.alloc(), 1);
     let frame = empty_frame()?;
+    let mut refused = 0u32;
     for number in 1..=6 {
         let short = mail.short();
         let answer = asks(&rt, &mut mail, 0, number, frame, &mut NoGate);
         let sent = answer == Some(Ok(Sent::Yes));
         assert!(rt; sent || answer == Some(Ok(Sent::NotNow)));
+        if !sent {
+            refused = refused.saturating_add(1);
+        }
         assert!(rt; mail.short() == (short || !sent));
         assert!(rt; mail.ready(&rt) == sent);
         let started = if sent { Some((0, number, frame)) } else { None };
@@ -368,6 +378,7 @@ fn is_short_where_memory_is_refused(rt: HostRuntime) -> Result<(), Fail> {
         }
         assert!(rt; mail.core().waiting(0).is_empty());
     }
+    assert!(rt; refused <= 1);
     assert!(rt; mail.core().routes() == 1);
     assert!(rt; mail.core().done(0) == mail.core().requested(0));
     Ok(())

@@ -4,9 +4,9 @@ use Rattle.std.specs.Prelude.{◌≡◌, ℕ, ◌+◌, ◌<◌, ◌==◌, ◌⊎
 use Rattle.can_frame.specs.Frames.{FrameValue}
 use Rattle.bx_rx.specs.Bank.{BankValue, filters_of, MatchesAt, Outranks}
 
--- how many banks a controller has
+-- how many banks a controller has: those of a device with two bxCAN, of which one controller may have all
 abbrev pub bank_count : ℕ
-bank_count = 14
+bank_count = 28
 
 -- a filter where it stands: the number of its bank, the bank, and its place in the bank
 pub record Placed : Type 0 where

@@ -1,14 +1,15 @@
 -- The rule of a FIFO's queue: what was stored is what was released and then what the queue holds, three
 -- frames at most. One side alone may offer, and it has the list of what was stored; one side alone may
 -- release, and it has the list of what was released.
-use Rattle.std.specs.Prelude.{◌≡◌, ℕ, ◌≤◌, Bool, true, List, ◌++◌, length}
+use Rattle.std.specs.Prelude.{◌≡◌, ℕ, ◌≤◌, Bool, true, Option, List, ◌++◌, length}
 use mathlib.Core.Option.{some}
 use lib.ListN.{get_elem?}
 use Rattle.bx_rx.specs.declared.log.Log.{Log}
 use Rattle.bx_rx.specs.declared.rx_frame.RxFrame.{RxFrame}
 
-abbrev pub log : Bool → Bool → List RxFrame → List RxFrame → Log
-log offers releases stored released = record { offers = offers; releases = releases; stored = stored; released = released }
+abbrev pub log : Bool → Bool → List RxFrame → List RxFrame → List (Option RxFrame) → Log
+log offers releases stored released calls =
+    record { offers = offers; releases = releases; stored = stored; released = released; calls = calls }
 
 -- the side with this number knows what it has to
 abbrev pub Knows : ℕ → ℕ → List RxFrame → List RxFrame → ℕ → Log → Type 0

@@ -7,8 +7,8 @@ use Rattle.bx_rx.specs.RxOut.{Outlet}
 use Rattle.bx_rx.specs.declared.rx_out.RxOut.TheInside.{Inside}
 
 abbrev pub out_view : Inside → Outlet
-out_view s = record { queue = s.pass.table_id; released = (view s.pass).released }
+out_view s = record { queue = s.pass.table_id; released = (view s.pass).released; calls = (view s.pass).calls }
 
 -- it may release and not offer, at a queue of three places
 abbrev pub IsOut : Inside → Type 0
-IsOut s = IsPassOf (arc_value s.line) s.pass × (ruled_capacity (arc_value s.line) ≡ 3) × (view s.pass ≡ log false true [] (view s.pass).released)
+IsOut s = IsPassOf (arc_value s.line) s.pass × (ruled_capacity (arc_value s.line) ≡ 3) × (view s.pass ≡ log false true [] (view s.pass).released (view s.pass).calls)

@@ -9,7 +9,7 @@ use can_frame::Frame;
 use std::marker::Model;
 
 /// How many filter banks a controller has.
-const BANKS: usize = 14;
+const BANKS: usize = 28;
 
 /// The filter banks of a controller (RM0008, bxCAN, "Identifier filtering"). Contracts see the list
 /// of the banks, bank 0 first.

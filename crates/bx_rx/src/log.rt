@@ -10,4 +10,6 @@ pub(crate) struct Log {
     pub(crate) releases: bool,
     pub(crate) stored: LinkedList<RxFrame>,
     pub(crate) released: LinkedList<RxFrame>,
+    /// What its calls gave or stored, in order; `None` where they gave or stored nothing.
+    pub(crate) calls: LinkedList<Option<RxFrame>>,
 }

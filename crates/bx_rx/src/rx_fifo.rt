@@ -23,8 +23,8 @@ impl RxFifo {
     /// answers `Memory` where that was refused, and nothing else is refused.
     pub fn pair(alloc: Global) -> Result<(RxIn, RxOut), Memory>
         ensures queue { IfOk result (λ sides. sides.0.queue ≡ sides.1.queue) }
-        ensures stored { IfOk result (λ sides. sides.0.stored ≡ []) }
-        ensures released { IfOk result (λ sides. sides.1.released ≡ []) }
+        ensures stored { IfOk result (λ sides. (sides.0.stored ≡ []) × (sides.0.calls ≡ [])) }
+        ensures released { IfOk result (λ sides. (sides.1.released ≡ []) × (sides.1.calls ≡ [])) }
     {
         Ok(sides(alloc)?)
     }
@@ -52,8 +52,8 @@ impl RxFifo {
 /// The two sides of a new queue: the one pass that it has is divided.
 fn sides(alloc: Global) -> Result<(RxIn, RxOut), AllocError>
     ensures queue { IfOk result (λ sides. sides.0.queue ≡ sides.1.queue) }
-    ensures stored { IfOk result (λ sides. sides.0.stored ≡ []) }
-    ensures released { IfOk result (λ sides. sides.1.released ≡ []) }
+    ensures stored { IfOk result (λ sides. (sides.0.stored ≡ []) × (sides.0.calls ≡ [])) }
+    ensures released { IfOk result (λ sides. (sides.1.released ≡ []) × (sides.1.calls ≡ [])) }
 {
     let (line, mut offering) = Line::ruled(alloc, 3)?;
     let line = Arc::new(alloc, line)?;
@@ -73,7 +73,7 @@ fn sides(alloc: Global) -> Result<(RxIn, RxOut), AllocError>
 /// Takes out what the queue holds, three frames at most, by the pass that alone may push and pop.
 fn drain<R: Wait>(rt: &R, line: &Line, pass: &mut Pass<RxFrame, Log>) -> ArrayVec<RxFrame, 3>
     requires pass { IsPassOf line.now pass.old }
-    requires both { view pass.old ≡ log true true (view pass.old).stored (view pass.old).released }
+    requires both { view pass.old ≡ log true true (view pass.old).stored (view pass.old).released (view pass.old).calls }
     ensures kept { (view pass.old).stored ≡ (view pass.old).released ++ result.items }
     ensures few { length result.items ≤ 3 }
 {

@@ -1,17 +1,17 @@
 //! The side of a receive FIFO where frames go out.
 ghost use Rattle.std.specs.Prelude.{◌≡◌};
-ghost use Rattle.bx_rx.specs.RxOut.{IsReleased};
+ghost use Rattle.bx_rx.specs.RxOut.{none_given, IsReleased};
 
 use crate::log::Log;
-use crate::rule::{Line, Releases};
+use crate::rule::{Line, Notes, Releases};
 use crate::rx_frame::RxFrame;
 use crossbeam_queue::Pass;
 use std::alloc::Global;
 use std::marker::Model;
 use std::sync::{Arc, Wait};
 
-/// The releasing side of a receive FIFO. Contracts see which FIFO it belongs to, and all the frames
-/// that it released, the first one first.
+/// The releasing side of a receive FIFO. Contracts see which FIFO it belongs to, all the frames that it
+/// released, and what each of its calls gave, the first one first.
 #[derive(Drop)]
 pub struct RxOut {
     pub(crate) line: Arc<Line, Global>,
@@ -38,9 +38,22 @@ impl RxOut {
     /// released. This side can't know what was stored, so that a frame which is held is released, and
     /// not `None`, is shown by tests alone; that none is lost or changed, `RxFifo::close` proves.
     pub fn release<R: Wait>(&mut self, rt: &R) -> Option<RxFrame>
-        ensures queue { self.new.queue ≡ self.old.queue }
-        ensures released { IsReleased self.old.released result self.new.released }
+        ensures { IsReleased self.old result self.new }
     {
-        self.line.pop_as::<Releases, R>(rt, &mut self.pass)
+        match self.line.pop_as::<Releases, R>(rt, &mut self.pass) {
+            Some(frame) => Some(frame),
+            None => {
+                self.note_none();
+                None
+            }
+        }
+    }
+
+    /// Does nothing but that contracts see one call more, which gave nothing.
+    fn note_none(&mut self)
+        ensures { self.new ≡ none_given self.old }
+    {
+        let aside = self.line.another::<Notes>(&mut self.pass);
+        self.line.absorb::<Notes>(&mut self.pass, aside);
     }
 }

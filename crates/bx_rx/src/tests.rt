@@ -222,6 +222,17 @@ fn filters_are_numbered_as_in_the_manual(rt: HostRuntime) -> Result<(), Fail> {
 }
 
 /// A received frame with this identifier.
+// the 27 unlisted banks below are 16 bit masks of FIFO 0, of two filters each
+#[test]
+fn the_last_bank_counts_all_below(rt: HostRuntime) -> Result<(), Fail> {
+    let mut banks = Banks::new();
+    let last = Bank::new(Scale::Bits32, Mode::List, 0, true, 0x2460_0000, 0);
+    banks.set(27, last);
+    let frame = data(0x123)?;
+    assert_eq!(rt; banks.find(&frame), Some((0, 54)));
+    Ok(())
+}
+
 fn received(number: u32, filter_number: u8) -> Result<RxFrame, Fail> {
     Ok(RxFrame {
         frame: Frame::with_bytes(Id::extended(number)?, &[])?,
@@ -275,6 +286,13 @@ fn a_pair_is_made_or_memory_is_refused(rt: HostRuntime) -> Result<(), Fail> {
         }
         Err(refused) => assert_eq!(rt; refused, Memory),
     }
+    Ok(())
+}
+
+#[test]
+fn prints_that_memory_was_refused(rt: HostRuntime) -> Result<(), Fail> {
+    let text = format!(in rt.alloc(); "{Memory}")?;
+    assert_eq!(rt; text.as_str(), "memory was refused");
     Ok(())
 }
 

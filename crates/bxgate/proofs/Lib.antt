@@ -2,3 +2,4 @@ pub mod ReportLaws
 pub mod Endings
 pub mod Turns
 pub mod CommandLine
+pub mod Outputs

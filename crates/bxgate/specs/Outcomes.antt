@@ -1,5 +1,5 @@
 -- How a run of the program may end, by what it was asked to do.
-use Rattle.std.specs.Prelude.{◌≡◌, ◌⊎◌, ℕ, List, Option, Some, IfSome, Result, Ok, Err, slice_get}
+use Rattle.std.specs.Prelude.{◌≡◌, ◌⊎◌, ℕ, List, Option, Some, IfSome, Result, Ok, Err, slice_get, take}
 use Rattle.std.specs.Io.KnownBytes.{Appends, Keeps}
 use Rattle.bx_core.specs.declared.entry.Entry.{Entry}
 use Rattle.bx_core.specs.Lists.{Each}
@@ -11,6 +11,8 @@ use Rattle.gw_script.specs.ReportTexts.{report_text}
 use Rattle.gw_script.specs.declared.report.Report.{Report}
 use Rattle.gw_script.specs.declared.route_report.RouteReport.{RouteReport}
 use Rattle.gw_script.specs.declared.script_fault.ScriptFault.TheVariants as fault
+use Rattle.gw_script.specs.NamedPlaces.{Names}
+use Rattle.gw_run.specs.declared.run_fault.RunFault.TheVariants as run_fault
 use Rattle.gw_run.specs.Headline.{NotRefilled, Balances}
 use Rattle.gw_run.specs.Reports.{AreOrdered, RunsSegments, RunsRoutes, AreStartsOf, lines_of}
 use Rattle.bxgate.specs.Reports.{IsReport}
@@ -43,9 +45,11 @@ pub record IsRunOf (s : ScriptValue) (report : Report) : Type 0 where
   pub order : AreOrdered s report
   -- no mailbox was refilled while its bus held it
   pub no_refill : (place : ℕ) (r : RouteReport) (started : List Entry) → slice_get report.routes.items place ≡ Some r
-      → AreStartsOf s (lines_of report) place started → NotRefilled r started
+      → (is : AreStartsOf s (lines_of report) place started) → NotRefilled is.route.rewrites r started
   -- accepted equals completed, aborted, overrun and held
   pub sum : Each Balances report.routes.items
+  -- each segment, node and route that it names is one of the script
+  pub names : Names s report
 
 -- the bytes are a script, and the text is that of a report on a run of it
 pub record IsRunAnswer (bytes text : List ℕ) : Type 0 where
@@ -68,7 +72,7 @@ IsRefusal (task.Run turn) bytes f = FirstFault script_of bytes f
 -- the failure that comes of these bytes alone
 abbrev pub IsFailureOn : Task → List ℕ → Failure → Type 0
 IsFailureOn t bytes (failure.Script e) = UnlessMemory e (IsRefusal t bytes)
-IsFailureOn t bytes (failure.Run e) = Unit {0}
+IsFailureOn t bytes (failure.Run e) = e ≡ run_fault.Memory
 IsFailureOn t bytes failure.Read = ⊥
 IsFailureOn t bytes failure.Write = ⊥
 
@@ -76,13 +80,17 @@ IsFailureOn t bytes failure.Write = ⊥
 abbrev pub Answers : Task → Option (List ℕ) → Option (List ℕ) → Option (List ℕ) → Type 0
 Answers t input old new = IfSome input (λ bytes. (text : List ℕ) × IsAnswer t bytes text × Appends old new text)
 
--- by what the code answers; after a write fault nothing is said of the output
+-- the output grows by a front of an answer to the input
+abbrev pub Begins : Task → Option (List ℕ) → Option (List ℕ) → Option (List ℕ) → Type 0
+Begins t input old new = IfSome input (λ bytes. (text : List ℕ) × IsAnswer t bytes text × ((n : ℕ) × Appends old new (take n text)))
+
+-- by what the code answers; no thread is started, so none is missing
 abbrev pub Ends : Task → Option (List ℕ) → Option (List ℕ) → Option (List ℕ) → Result (Unit {0}) Failure → Type 0
 Ends t input old new (Ok done) = Answers t input old new
 Ends t input old new (Err (failure.Script e)) = IfSome input (λ bytes. UnlessMemory e (IsRefusal t bytes)) × Keeps old new
-Ends t input old new (Err (failure.Run e)) = Keeps old new
+Ends t input old new (Err (failure.Run e)) = (e ≡ run_fault.Memory) × Keeps old new
 Ends t input old new (Err failure.Read) = Keeps old new
-Ends t input old new (Err failure.Write) = Unit {0}
+Ends t input old new (Err failure.Write) = Begins t input old new
 
 -- by the status
 abbrev pub EndsWith : Task → Option (List ℕ) → Option (List ℕ) → Option (List ℕ) → ℕ → Type 0
@@ -90,4 +98,4 @@ EndsWith t input old new status =
     ((status ≡ 0) × Answers t input old new)
     ⊎ ((status ≡ 2) × IfSome input (λ bytes. (f : Fault) × IsRefusal t bytes f) × Keeps old new)
     ⊎ ((status ≡ 3) × Keeps old new)
-    ⊎ (status ≡ 74)
+    ⊎ ((status ≡ 74) × (Keeps old new ⊎ Begins t input old new))

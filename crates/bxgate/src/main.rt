@@ -5,6 +5,7 @@ mod command;
 mod core_command;
 mod failure;
 mod input;
+mod output;
 mod program;
 mod report;
 mod run_command;

@@ -13,6 +13,7 @@ use crate::command::task_of;
 use crate::core_command::core_text;
 use crate::failure::Failure;
 use crate::input::{InputFault, read_input};
+use crate::output::{WriteFault, write_output};
 use crate::run_command::run_text;
 use crate::task::Task;
 use clap::error::ErrorKind;
@@ -57,9 +58,9 @@ fn carry_out<H: Wait, R: Read, W: Write>(
         Ok(text) => text,
         Err(failure) => return Err(failure),
     };
-    match output.write_all(text.as_slice()) {
+    match write_output(output, text.as_slice()) {
         Ok(()) => Ok(()),
-        Err(_) => Err(Failure::Write),
+        Err(WriteFault) => Err(Failure::Write),
     }
 }
 
@@ -144,6 +145,9 @@ pub fn refused_arguments<E: Write>(error: &io::Error, faults: &mut E) -> u8
 fn refused_words<W: Write, E: Write>(error: &clap::Error, output: &mut W, faults: &mut E) -> u8
     ensures memory { kind_of error.now ≡ ErrorKind.OutOfMemory
         → (result ≡ 3) × Keeps (W.contents output.old) (W.contents output.new) }
+    ensures refused { kind_of error.now ≢ ErrorKind.OutOfMemory → kind_of error.now ≢ ErrorKind.DisplayHelp
+        → (result ≡ 64) × Keeps (W.contents output.old) (W.contents output.new) }
+    ensures help { kind_of error.now ≡ ErrorKind.DisplayHelp → result ≡ 0 }
     ensures usage { result ≡ 64 → Keeps (W.contents output.old) (W.contents output.new) }
 {
     match error.kind() {

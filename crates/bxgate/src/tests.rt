@@ -10,8 +10,11 @@ use std::sync::Wait;
 
 mod errors;
 mod event_lists;
+mod limits;
 mod runs;
 mod scripts;
+mod texts;
+mod version_two;
 
 /// What a run of the program did.
 #[derive(Drop)]

@@ -17,3 +17,4 @@ pub mod Answers
 pub mod Reading
 pub mod ReaderLaws
 pub mod Runs
+pub mod Rewrites

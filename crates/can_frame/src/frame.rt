@@ -103,6 +103,13 @@ impl Frame {
         self.id
     }
 
+    /// The same frame under another identifier: kind, data length code and bytes stay.
+    pub fn with_id(&self, id: Id) -> Frame
+        ensures { result ≡ record self.now { id = id } }
+    {
+        Frame { id, ..*self }
+    }
+
     /// Whether it is a remote frame, so that RTR is recessive on the bus.
     pub fn is_remote(&self) -> bool
         ensures { result ≡ is_remote self.now.content }

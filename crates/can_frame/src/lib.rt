@@ -11,6 +11,7 @@ mod key;
 pub mod laws;
 mod reader;
 mod reading;
+mod rewrite;
 mod sending;
 mod step;
 mod stuffing;
@@ -20,6 +21,7 @@ pub use crate::error::FrameError;
 pub use crate::frame::Frame;
 pub use crate::identifier::Id;
 pub use crate::reader::Reader;
+pub use crate::rewrite::{Rewrite, rewritten};
 pub use crate::sending::wire;
 pub use crate::step::{FaultKind, Step};
 

@@ -1,6 +1,7 @@
 //! The levels of a frame from SOF to the last bit of EOF, as a sender drives them.
 
-ghost use Rattle.std.specs.Prelude.{◌≡◌, ◌≤◌, ◌+◌, ◌++◌, true, length};
+ghost use Rattle.std.specs.Prelude.{◌≡◌, ◌≤◌, ◌+◌, ◌++◌, true, length, if◌then◌else◌};
+ghost use Rattle.can_frame.specs.Frames.{is_extended_id};
 ghost use Rattle.can_frame.specs.Levels.{levels};
 ghost use Rattle.can_frame.specs.Fields.{senders_choice, fields, head_levels, is_remote};
 ghost use Rattle.can_frame.specs.Spelling.{Spells, tail_levels};
@@ -26,11 +27,13 @@ fn push_levels<const N: usize>(out: &mut ArrayVec<bool, N>, width: u8, number: u
 /// The levels of a frame in the order of the bus, from SOF to the last bit of EOF, one a bit time,
 /// true being recessive (Bosch CAN Specification 2.0, part B, 3.2.1 DATA FRAME, 3.2.2 REMOTE FRAME and
 /// 6 CODING). They are as its sender drives them: SRR recessive, r1 and r0 dominant, the ACK slot
-/// recessive. At most 132 in the standard format and 157 in the extended one.
+/// recessive.
 ///
-/// The contract names the one text that spells this frame so (`laws::spellings_are_unique`).
+/// The contract names the one text that spells this frame so (`laws::spellings_are_unique`), and how long
+/// it may be, stuff bits included.
 pub fn wire(frame: &Frame) -> ArrayVec<bool, 160>
-    ensures { Spells frame.now senders_choice true result.items }
+    ensures spells { Spells frame.now senders_choice true result.items }
+    ensures few { length result.items ≤ (if is_extended_id frame.now.id then 157 else 132) }
 {
     let mut text = fields_of(frame);
     let check = crc15(text.as_slice());
@@ -53,7 +56,7 @@ fn push_tail(out: &mut ArrayVec<bool, 160>)
 /// The fields of a frame from SOF to its last byte.
 fn fields_of(frame: &Frame) -> ArrayVec<bool, 120>
     ensures value { result.items ≡ fields frame.now senders_choice }
-    ensures few { length result.items ≤ 103 }
+    ensures few { length result.items ≤ (if is_extended_id frame.now.id then 103 else 83) }
 {
     let mut out = ArrayVec::new();
     out.push(false);
@@ -70,7 +73,8 @@ fn push_head(out: &mut ArrayVec<bool, 120>, frame: &Frame)
     requires { array_vec_len out.old ≤ 1 }
     ensures value { out.new.items ≡ out.old.items
         ++ head_levels frame.now.id (is_remote frame.now.content) senders_choice }
-    ensures few { array_vec_len out.new ≤ array_vec_len out.old + 34 }
+    ensures few { array_vec_len out.new
+        ≤ array_vec_len out.old + (if is_extended_id frame.now.id then 34 else 14) }
 {
     let id = frame.id();
     let remote = frame.is_remote();

@@ -23,7 +23,8 @@ use Rattle.can_segment.specs.Attempts.{IsPastOf, act_at, begun_at, sending_at, o
 use Rattle.can_segment.specs.Traces.{Act, Bit, act_of, past_of, sending_of, sending_now, sending_after, sending_behind, ends_sending}
 use Rattle.can_segment.specs.Runs.{Run, firsts}
 use Rattle.can_segment.proofs.OneLine.{same_found, first_from}
-use Rattle.can_segment.proofs.ActsNoted.{Does, does_at, prefix_grows, began_at, told_at, has_history}
+use Rattle.can_segment.proofs.ActsNoted.{Does, does_at, prefix_grows, began_at, told_at}
+use Rattle.can_segment.proofs.Pasts.{has_history}
 
 -- what a node sends behind one bit more
 take_next : (trace : List Bit) (k : ℕ) (bit : Bit) → slice_get trace k ≡ Some bit →

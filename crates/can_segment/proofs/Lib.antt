@@ -17,6 +17,7 @@ pub mod Quiet
 pub mod Settles
 pub mod OneLine
 pub mod ActsNoted
+pub mod Pasts
 pub mod Attempts
 pub mod Retries
 pub mod Requests

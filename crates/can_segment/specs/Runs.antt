@@ -1,5 +1,5 @@
 -- A run of a segment: a trace in which every node goes by the rules of a node, and the line by the wired AND.
--- Bosch CAN Specification 2.0, part B, 1 INTRODUCTION, bus values; ISO 11898-1.
+-- Bosch CAN Specification 2.0, part B, 2 BASIC CONCEPTS, Bus values; ISO 11898-1.
 use Rattle.std.specs.Prelude.{◌≡◌, ℕ, ◌+◌, ◌<◌, ◌≤◌, Bool, true, Option, Some, None, List, [], ◌∷◌, ◌++◌, length, map, slice_get, option_map, IsSome, if◌then◌else◌}
 use Rattle.std.specs.List.{list_all}
 use Rattle.can_frame.specs.Frames.{FrameValue}

@@ -1,8 +1,9 @@
 -- A hand that matches what its route's side did, before a turn, once it is filled, and after its call.
-use Rattle.std.proofs.Common.{◌≡◌, ℕ, ◌+◌, ◌<◌, ◌≤◌, ◌↔◌, inl, inr, Bool, true, false, List, [], ◌∷◌, ◌++◌, length, refl, sym, ◌∙◌, ap, subst, arith, Result, Ok, Err}
+use Rattle.std.proofs.Common.{◌≡◌, ℕ, ◌+◌, ◌<◌, ◌≤◌, ◌↔◌, inl, inr, Bool, true, false, List, [], ◌∷◌, ◌++◌, length, map, refl, sym, ◌∙◌, ap, subst, arith, Result, Ok, Err}
 use Rattle.std.specs.Prelude.{IsErr}
-use Rattle.std.proofs.lemmas.List.{append_assoc, append-nil, length-append, map-append}
+use Rattle.std.proofs.lemmas.List.{append_assoc, append-nil, length-append, length-map, map-append}
 use Rattle.can_frame.specs.Frames.{FrameValue}
+use Rattle.can_frame.specs.Rewrites.{rewritten}
 use Rattle.bx_core.specs.declared.entry.Entry.{Entry}
 use Rattle.bx_core.specs.declared.answer.Sent.{Sent}
 use Rattle.bx_core.specs.declared.answer.Sent.TheVariants.{Yes, NotNow}
@@ -15,42 +16,52 @@ use Rattle.bx_core.specs.Steps.{last_number, greatest_number}
 use Rattle.bx_core.specs.RouteTx.{RoutePast, if_asked, after_request, after_abort}
 use Rattle.bx_core.proofs.Words.{has-right, has-left}
 use Rattle.bx_rx.specs.declared.rx_frame.RxFrame.{RxFrame}
-use Rattle.gw_route.specs.RouteHand.{HandValue, LogMatches, numbered}
-use Rattle.gw_route.specs.Turn.{counted, taken, given, Filled, IsDue, IsDueByCount, if_requested, if_aborted}
+use Rattle.gw_route.specs.RouteHand.{HandValue, LogMatches, numbered, as_requested}
+use Rattle.gw_route.specs.Turn.{counted, taken, given, none_given, Filled, IsDue, IsDueByCount, if_requested, if_aborted}
 use Rattle.gw_route.specs.declared.planned_abort.PlannedAbort.{PlannedAbort}
 use Rattle.gw_route.proofs.Lists.{has-either}
 use Rattle.gw_route.proofs.Numbered.{length-numbered, numbered-append, last_of-numbered, last-numbered, has-numbered, numbered-bounds}
 
+-- as many are requested as released
+length-as-requested : (h : HandValue) → length (as_requested h) ≡ length h.released
+length-as-requested h = length-map h.released (rewritten h.rewrites)
+
 -- all numbers that were given out are requested, but the one in the hand
 pub tickets-requested : (h : HandValue) (past : RoutePast) → LogMatches h past → length past.requested + length h.in_hand ≡ h.tickets
-tickets-requested h past l = omega (arith, ap length l.log, length-append past.requested h.in_hand, length-numbered 1 h.released, l.tickets_is)
+tickets-requested h past l = omega (arith, ap length l.log, length-append past.requested h.in_hand, length-numbered 1 (as_requested h), length-as-requested h, l.tickets_is)
 
 -- so the last of them is the number of them
 pub last-requested : (h : HandValue) (past : RoutePast) → LogMatches h past → last_number past.requested ≡ length past.requested
-last-requested h past l = omega (arith, last_of-numbered 0 h.released past.requested h.in_hand l.log)
+last-requested h past l = omega (arith, last_of-numbered 0 (as_requested h) past.requested h.in_hand l.log)
 
 pub due-count : (h : HandValue) (past : RoutePast) (a : PlannedAbort) → LogMatches h past → IsDue h.turns past.requested a → IsDueByCount h a
 due-count h past a l d =
-    let within : (0 < a.number) × (a.number ≤ 0 + length past.requested) = numbered-bounds 0 a.number h.released past.requested h.in_hand l.log d.known in
+    let within : (0 < a.number) × (a.number ≤ 0 + length past.requested) = numbered-bounds 0 a.number (as_requested h) past.requested h.in_hand l.log d.known in
     record { reached = d.reached; positive = within.0; below = omega (arith, within.1, tickets-requested h past l) }
 
 pub count-due : (h : HandValue) (past : RoutePast) (a : PlannedAbort) → LogMatches h past → IsDueByCount h a → IsDue h.turns past.requested a
 count-due h past a l d = record {
   reached = d.reached;
-  known = has-numbered 0 a.number h.released past.requested h.in_hand l.log d.positive (omega (arith, d.below, tickets-requested h past l));
+  known = has-numbered 0 a.number (as_requested h) past.requested h.in_hand l.log d.positive (omega (arith, d.below, tickets-requested h past l));
 }
 
 pub matches-counted : (h : HandValue) (past : RoutePast) → LogMatches h past → LogMatches (counted h) past
 matches-counted h past l = record { log = l.log; one_hand = l.one_hand; tickets_is = l.tickets_is; limit = l.limit; ended = l.ended; asked = l.asked; known = l.known }
 
+-- the FIFO was asked, and gave nothing
+pub matches-asked : (h : HandValue) (past : RoutePast) → LogMatches h past → LogMatches (none_given h) past
+matches-asked h past l = record { log = l.log; one_hand = l.one_hand; tickets_is = l.tickets_is; limit = l.limit; ended = l.ended; asked = l.asked; known = l.known }
+
 matches-taken : (h : HandValue) (past : RoutePast) (x : RxFrame) → h.in_hand ≡ [] → LogMatches h past → LogMatches (taken (given h x) x.frame) past
 matches-taken h past x empty l =
-    let next : h.tickets + 1 ≡ 1 + length h.released = omega (arith, l.tickets_is) in
-    let front : past.requested ≡ numbered 1 h.released = sym (append-nil past.requested) ∙ ap (λ (v : List Entry). past.requested ++ v) (sym empty) ∙ l.log in
+    let new : FrameValue = rewritten h.rewrites x.frame in
+    let next : h.tickets + 1 ≡ 1 + length (as_requested h) = omega (arith, l.tickets_is, length-as-requested h) in
+    let front : past.requested ≡ numbered 1 (as_requested h) = sym (append-nil past.requested) ∙ ap (λ (v : List Entry). past.requested ++ v) (sym empty) ∙ l.log in
     record {
-      log = ap (λ (v : List Entry). v ++ record { number = h.tickets + 1; frame = x.frame } ∷ []) front
-          ∙ ap (λ k. numbered 1 h.released ++ numbered k (x.frame ∷ [])) next
-          ∙ sym (numbered-append 1 h.released (x.frame ∷ []));
+      log = ap (λ (v : List Entry). v ++ record { number = h.tickets + 1; frame = new } ∷ []) front
+          ∙ ap (λ k. numbered 1 (as_requested h) ++ numbered k (new ∷ [])) next
+          ∙ sym (numbered-append 1 (as_requested h) (new ∷ []))
+          ∙ ap (numbered 1) (sym (map-append (rewritten h.rewrites) h.released (x.frame ∷ [])));
       one_hand = omega arith;
       tickets_is = omega (arith, l.tickets_is, length-append h.released (x.frame ∷ []));
       limit = l.limit;
@@ -68,8 +79,8 @@ matches-filled h filled past e f l = elim (f.1) [
 -- the frame in the hand has the next number
 pub number-filled : (h : HandValue) (past : RoutePast) (e : Entry) → h.in_hand ≡ e ∷ [] → LogMatches h past → e.number ≡ length past.requested + 1
 number-filled h past e held l =
-    let joined : past.requested ++ e ∷ [] ≡ numbered 1 h.released = ap (λ (v : List Entry). past.requested ++ v) (sym held) ∙ l.log in
-    let high : e.number ≡ 0 + length past.requested + 1 = last-numbered 0 h.released past.requested e joined in
+    let joined : past.requested ++ e ∷ [] ≡ numbered 1 (as_requested h) = ap (λ (v : List Entry). past.requested ++ v) (sym held) ∙ l.log in
+    let high : e.number ≡ 0 + length past.requested + 1 = last-numbered 0 (as_requested h) past.requested e joined in
     omega (arith, high)
 
 -- a past that requested nothing more

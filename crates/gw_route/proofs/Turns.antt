@@ -10,17 +10,17 @@ use Rattle.bx_core.specs.declared.answer.AbortAnswer.TheVariants.{Ended, Asked, 
 use Rattle.bx_core.specs.declared.answer.NumberTooLarge.{NumberTooLarge}
 use Rattle.bx_core.specs.Steps.{greatest_number, last_number}
 use Rattle.bx_core.specs.RouteTx.{RoutePast, after_request, after_abort}
-use Rattle.bx_rx.specs.RxOut.{IsReleased}
+use Rattle.bx_rx.specs.RxOut.{WasEmpty}
 use Rattle.bx_rx.specs.declared.rx_frame.RxFrame.{RxFrame}
 use Rattle.gw_route.specs.RouteHand.{HandValue, LogMatches, LogsReleased, frames_of}
-use Rattle.gw_route.specs.Turn.{counted, first_abort, IsDueByCount, taken, given, Filled, if_requested, requested_answer, if_aborted, aborted_answer, Turned, idle, by_request, by_abort, Acted}
+use Rattle.gw_route.specs.Turn.{counted, first_abort, IsDueByCount, taken, given, none_given, Filled, if_requested, requested_answer, if_aborted, aborted_answer, Turned, idle, by_request, by_abort, Acted}
 use Rattle.gw_route.specs.declared.planned_abort.PlannedAbort.{PlannedAbort}
 use Rattle.gw_route.specs.declared.turn_answer.TurnAnswer.{TurnAnswer}
 use Rattle.gw_route.specs.declared.turn_answer.TurnAnswer.TheVariants.{Idle}
-use Rattle.gw_route.proofs.Matches.{tickets-requested, due-count, count-due, matches-counted, matches-filled, number-filled, matches-requested, matches-aborted, last-requested}
+use Rattle.gw_route.proofs.Matches.{tickets-requested, due-count, count-due, matches-counted, matches-asked, matches-filled, number-filled, matches-requested, matches-aborted, last-requested}
 
 pub acted-idle : (after : RoutePast → Type 0) (old new : HandValue) → ((abort : PlannedAbort) → first_abort old ≡ Some abort → IsDueByCount old abort → ⊥) →
-    new ≡ old → old.in_hand ≡ [] → IsReleased old.out.released None old.out.released → Acted after after old new Idle
+    new ≡ none_given old → old.in_hand ≡ [] → WasEmpty old.out → Acted after after old new Idle
 acted-idle after old new none same empty dry past a l =
     (past, a, subst (λ (v : HandValue). Turned old v past past Idle) (sym same) (idle (λ abort first d. none abort first (due-count old past abort l d)) empty dry))
 
@@ -48,7 +48,7 @@ pub above-last : (old filled : HandValue) (past : RoutePast) (e : Entry) → Fil
 above-last old filled past e f l = omega (arith, last-requested old past l, number-filled filled past e f.0 (matches-filled old filled past e f l))
 
 pub turned-matches : (old new : HandValue) (past next : RoutePast) (answer : TurnAnswer) → Turned old new past next answer → LogMatches old past → LogMatches new next
-turned-matches _ _ _ _ _ (idle none empty dry) l = l
+turned-matches old _ past _ _ (idle none empty dry) l = matches-asked old past l
 turned-matches old _ past _ _ (by_request {filled = filled} e sent none f limit) l = matches-requested filled past e sent f.0 limit (matches-filled old filled past e f l)
 turned-matches old _ past _ _ (by_abort abort told asks first due) l = matches-aborted old past abort.number told asks due.known l
 

@@ -2,6 +2,8 @@
 -- "Reception handling" and "Transmission handling").
 use Rattle.std.specs.Prelude.{◌≡◌, ℕ, ◌+◌, ◌≤◌, List, [], ◌∷◌, ◌++◌, length, map, option_to_list}
 use Rattle.can_frame.specs.Frames.{FrameValue}
+use Rattle.can_frame.specs.Rewrites.{rewritten}
+use Rattle.can_frame.specs.declared.rewrite.Rewrite.{Rewrite}
 use Rattle.bx_core.specs.declared.entry.Entry.{Entry}
 use Rattle.bx_core.specs.Lists.{Has}
 use Rattle.bx_core.specs.States.{numbers}
@@ -26,6 +28,8 @@ pub record HandValue : Type 0 where
   -- the log: the frames that were released, and the numbers that were aborted
   pub released : List FrameValue
   pub aborted : List ℕ
+  -- the new identifiers under which frames are requested
+  pub rewrites : List Rewrite
 
 abbrev pub hand_value : RouteHand → HandValue
 hand_value h = record {
@@ -36,11 +40,13 @@ hand_value h = record {
   aborts = h.aborts.items;
   released = h.log.released.items;
   aborted = h.log.aborted.items;
+  rewrites = h.rewrites.items;
 }
 
 -- a hand that made no turn
-abbrev pub new_hand : Outlet → List PlannedAbort → HandValue
-new_hand out aborts = record { out = out; in_hand = []; tickets = 0; turns = 0; aborts = aborts; released = []; aborted = [] }
+abbrev pub new_hand : Outlet → List PlannedAbort → List Rewrite → HandValue
+new_hand out aborts rewrites =
+    record { out = out; in_hand = []; tickets = 0; turns = 0; aborts = aborts; released = []; aborted = []; rewrites = rewrites }
 
 -- the frames among what a FIFO released
 abbrev pub frames_of : List RxFrame → List FrameValue
@@ -50,6 +56,10 @@ frames_of = map (λ (x : RxFrame). x.frame)
 abbrev pub LogsReleased : HandValue → Type 0
 LogsReleased h = h.released ≡ frames_of h.out.released
 
+-- the log's frames as they are requested: under their new identifiers
+abbrev pub as_requested : HandValue → List FrameValue
+as_requested h = map (rewritten h.rewrites) h.released
+
 -- frames with their numbers, which go up by one from the first
 abbrev pub numbered : ℕ → List FrameValue → List Entry
 numbered number [] = []
@@ -57,8 +67,8 @@ numbered number (f ∷ fs) = record { number = number; frame = f } ∷ numbered 
 
 -- The link between a hand and what its route's side of the mailboxes did.
 pub record LogMatches (h : HandValue) (past : RoutePast) : Type 0 where
-  -- requested is the log's frames with their numbers, but for the frame in the hand
-  pub log : past.requested ++ h.in_hand ≡ numbered 1 h.released
+  -- requested is the log's frames, under their new identifiers and with their numbers, but for the frame in the hand
+  pub log : past.requested ++ h.in_hand ≡ numbered 1 (as_requested h)
   pub one_hand : length h.in_hand ≤ 1
   pub tickets_is : h.tickets ≡ length h.released
   pub limit : length past.requested ≤ greatest_number

@@ -1,6 +1,7 @@
 -- One turn of a route: an abort that is due, or else a request of the frame in the hand.
 use Rattle.std.specs.Prelude.{◌≡◌, ℕ, ◌+◌, ◌<◌, ◌≤◌, ◌↔◌, ◌⊎◌, nat_lt, if◌then◌else◌, Bool, List, [], ◌∷◌, ◌++◌, length, remove, slice_get, Option, Some, None, Result, Ok, Err, IsErr}
 use Rattle.can_frame.specs.Frames.{FrameValue}
+use Rattle.can_frame.specs.Rewrites.{rewritten}
 use Rattle.bx_core.specs.declared.entry.Entry.{Entry}
 use Rattle.bx_core.specs.declared.answer.Sent.{Sent}
 use Rattle.bx_core.specs.declared.answer.Sent.TheVariants.{Yes, NotNow}
@@ -11,7 +12,8 @@ use Rattle.bx_core.specs.Lists.{Has}
 use Rattle.bx_core.specs.States.{numbers}
 use Rattle.bx_core.specs.Steps.{greatest_number}
 use Rattle.bx_core.specs.RouteTx.{RoutePast, after_request, after_abort}
-use Rattle.bx_rx.specs.RxOut.{IsReleased}
+use Rattle.bx_rx.specs.RxOut as outlet
+use Rattle.bx_rx.specs.RxOut.{WasEmpty}
 use Rattle.bx_rx.specs.declared.rx_frame.RxFrame.{RxFrame}
 use Rattle.gw_route.specs.RouteHand.{HandValue, LogMatches}
 use Rattle.gw_route.specs.declared.planned_abort.PlannedAbort.{PlannedAbort}
@@ -45,17 +47,20 @@ pub record IsDueByCount (h : HandValue) (abort : PlannedAbort) : Type 0 where
 abbrev pub NoneIsDue : HandValue → RoutePast → Type 0
 NoneIsDue h past = (abort : PlannedAbort) → first_abort h ≡ Some abort → IsDue h.turns past.requested abort → ⊥
 
--- a frame comes into the hand under the next number, and into the log
+-- a frame comes into the hand under the next number and its new identifier, and into the log as it was
 abbrev pub taken : HandValue → FrameValue → HandValue
 taken h frame = record h {
-  in_hand = record { number = h.tickets + 1; frame = frame } ∷ [];
+  in_hand = record { number = h.tickets + 1; frame = rewritten h.rewrites frame } ∷ [];
   tickets = h.tickets + 1;
   released = h.released ++ frame ∷ [];
 }
 
--- the FIFO released this
+-- the FIFO was asked, and released this, or nothing
 abbrev pub given : HandValue → RxFrame → HandValue
-given h x = record h { out = record h.out { released = h.out.released ++ x ∷ [] } }
+given h x = record h { out = outlet.given h.out x }
+
+abbrev pub none_given : HandValue → HandValue
+none_given h = record h { out = outlet.none_given h.out }
 
 -- what is in the hand once it is filled: what was there, or else a frame that the FIFO released
 abbrev pub Filled : HandValue → HandValue → Entry → Type 0
@@ -94,11 +99,12 @@ aborted_answer Asked = AbortDone
 aborted_answer Gone = AbortDone
 aborted_answer Later = Waiting
 
--- What a turn does to the hand and on the route's side, by its answer: one call at most. A request is of the frame in the hand,
+-- What a turn does to the hand and on the route's side, by its answer: one call at most. It is idle only where the FIFO was asked and gave
+-- nothing. A request is of the frame in the hand,
 -- unchanged and under its number.
 pub data Turned : HandValue → HandValue → RoutePast → RoutePast → TurnAnswer → Type 0 where
-  idle : {h : HandValue} {past : RoutePast} → NoneIsDue h past → h.in_hand ≡ [] → IsReleased h.out.released None h.out.released →
-      Turned h h past past Idle
+  idle : {h : HandValue} {past : RoutePast} → NoneIsDue h past → h.in_hand ≡ [] → WasEmpty h.out →
+      Turned h (none_given h) past past Idle
   by_request : {h filled : HandValue} {past : RoutePast} (entry : Entry) (answer : Result Sent NumberTooLarge) → NoneIsDue h past →
       Filled h filled entry → IsErr answer ↔ (greatest_number < entry.number) →
       Turned h (if_requested answer filled) past (after_request past entry.number entry.frame answer) (requested_answer answer)

@@ -7,14 +7,15 @@ ghost use Rattle.bx_core.specs.Steps.{greatest_number};
 ghost use Rattle.bx_core.specs.RouteTx.{RoutePast, no_route_past, after_request, after_abort};
 ghost use Rattle.bx_rx.specs.RxOut.{IsReleased};
 ghost use Rattle.gw_route.specs.RouteHand.{hand_value, new_hand, LogMatches, LogsReleased, IsLinked};
-ghost use Rattle.gw_route.specs.Turn.{counted, IsDueByCount, first_abort, taken, Filled, if_requested, requested_answer, logged, if_aborted, aborted_answer, Acted, TurnMade, TurnKeeps};
+ghost use Rattle.gw_route.specs.Turn.{counted, IsDueByCount, first_abort, taken, none_given, Filled, if_requested, requested_answer, logged, if_aborted, aborted_answer, Acted, TurnMade, TurnKeeps};
 
 use crate::log::Log;
 use crate::planned_abort::PlannedAbort;
 use crate::turn_answer::TurnAnswer;
+use arrayvec::ArrayVec;
 use bx_core::{AbortAnswer, Entry, Gate, NumberTooLarge, RouteTx, Sent};
 use bx_rx::{Memory, RxOut};
-use can_frame::Frame;
+use can_frame::{Frame, Rewrite, rewritten};
 use std::alloc::Global;
 use std::sync::Wait;
 
@@ -33,12 +34,19 @@ pub struct RouteHand {
     pub aborts: Vec<PlannedAbort>,
     /// What was done.
     pub log: Log,
+    /// The new identifiers under which frames are requested.
+    pub rewrites: ArrayVec<Rewrite, 32>,
 }
 
 impl RouteHand {
     /// A hand that made no turn. Takes no memory.
-    pub fn new(alloc: Global, out: RxOut, aborts: Vec<PlannedAbort>) -> RouteHand
-        ensures made { hand_value result ≡ new_hand out aborts.items }
+    pub fn new(
+        alloc: Global,
+        out: RxOut,
+        aborts: Vec<PlannedAbort>,
+        rewrites: ArrayVec<Rewrite, 32>,
+    ) -> RouteHand
+        ensures made { hand_value result ≡ new_hand out aborts.items rewrites.items }
         ensures linked { LogMatches (hand_value result) no_route_past }
     {
         RouteHand {
@@ -51,12 +59,14 @@ impl RouteHand {
                 released: Vec::new(alloc),
                 aborted: Vec::new(alloc),
             },
+            rewrites,
         }
     }
 
     /// One turn, which makes one call on `tx` at most. The first abort is made where it is due: the
     /// count of turns, this one included, has reached its `turn`, and its number was requested. Else
-    /// the frame in the hand is requested, or, where the hand is empty, the next one of the FIFO. May
+    /// the frame in the hand is requested, or, where the hand is empty, the next one of the FIFO, under
+    /// its new identifier where the hand has one for it: the log has it as it left the FIFO. May
     /// wait while the other side of the FIFO is in the middle of an offer, or where a call on `tx` may.
     ///
     /// `Memory` comes before the FIFO or the mailboxes are touched, where the log couldn't grow: then
@@ -74,6 +84,7 @@ impl RouteHand {
         ensures linked { IsLinked (T.route_after tx.new) (hand_value self.new) }
         ensures log { LogsReleased (hand_value self.old) → LogsReleased (hand_value self.new) }
         ensures queue { self.new.out.queue ≡ self.old.out.queue }
+        ensures rewrites { self.new.rewrites ≡ self.old.rewrites }
         ensures memory { OnErr result (hand_value self.new ≡ hand_value self.old) }
         ensures untouched { OnErr result (tx.new ≡ tx.old) }
         ensures unheard { OnErr result (gate.new ≡ gate.old) }
@@ -159,8 +170,8 @@ impl RouteHand {
         requires tickets { self.old.tickets < u32.MAX }
         requires room { vec_len self.old.log.released < vec_capacity self.old.log.released }
         ensures { MatchOption result
-            ((hand_value self.new ≡ hand_value self.old) × (self.old.hand ≡ None)
-            × IsReleased self.old.out.released None self.old.out.released)
+            ((hand_value self.new ≡ none_given (hand_value self.old)) × (self.old.hand ≡ None)
+            × IsReleased self.old.out None self.new.out)
             (λ entry. (self.new.hand ≡ Some entry) × Filled (hand_value self.old) (hand_value self.new) entry) }
     {
         if let Some(entry) = self.hand {
@@ -175,7 +186,7 @@ impl RouteHand {
         }
     }
 
-    // A frame that was released comes into the hand.
+    // A frame that was released comes into the hand, under its new identifier.
     fn take(&mut self, frame: Frame)
         requires tickets { self.old.tickets < u32.MAX }
         requires room { vec_len self.old.log.released < vec_capacity self.old.log.released }
@@ -185,7 +196,7 @@ impl RouteHand {
         let _ = self.log.released.push(frame);
         self.hand = Some(Entry {
             number: self.tickets,
-            frame,
+            frame: rewritten(self.rewrites.as_slice(), &frame),
         });
     }
 

@@ -4,9 +4,10 @@ ghost use Rattle.bx_core.specs.Stands.{RouteStands};
 ghost use Rattle.gw_route.specs.RouteHand.{hand_value, IsLinked};
 
 use crate::{PlannedAbort, RouteHand, TurnAnswer};
-use bx_core::{Entry, NoGate, PlainMail, PlainRoute};
+use arrayvec::ArrayVec;
+use bx_core::{Entry, NoGate, PlainMail, PlainRoute, TxBus};
 use bx_rx::{Memory, RxFifo, RxFrame};
-use can_frame::{Frame, Id};
+use can_frame::{Frame, Id, Rewrite};
 use std::sync::Wait;
 use std::test::Fail;
 
@@ -37,7 +38,7 @@ fn turns<R: Wait>(rt: &R, hand: &mut RouteHand, mail: &mut PlainMail) -> Result<
 fn a_frame_is_released_and_requested(rt: HostRuntime) -> Result<(), Fail> {
     let (mut rxin, rxout) = RxFifo::pair(rt.alloc())?;
     let mut mail = PlainMail::new(rt.alloc(), 1);
-    let mut hand = RouteHand::new(rt.alloc(), rxout, Vec::new(rt.alloc()));
+    let mut hand = RouteHand::new(rt.alloc(), rxout, Vec::new(rt.alloc()), ArrayVec::new());
     let frame = data(5)?;
     rxin.offer(&rt, received(frame));
     assert_eq!(rt; turns(&rt, &mut hand, &mut mail), Ok(TurnAnswer::Requested));
@@ -54,7 +55,7 @@ fn a_refused_frame_waits_until_an_abort(rt: HostRuntime) -> Result<(), Fail> {
     let mut aborts = Vec::new(rt.alloc());
     aborts.push(PlannedAbort { number: 2, turn: 5 })?;
     aborts.push(PlannedAbort { number: 2, turn: 1 })?;
-    let mut hand = RouteHand::new(rt.alloc(), rxout, aborts);
+    let mut hand = RouteHand::new(rt.alloc(), rxout, aborts, ArrayVec::new());
     let frame = data(5)?;
     rxin.offer(&rt, received(frame));
     rxin.offer(&rt, received(frame));
@@ -74,6 +75,30 @@ fn a_refused_frame_waits_until_an_abort(rt: HostRuntime) -> Result<(), Fail> {
     Ok(())
 }
 
+/// The first entry for an identifier counts, and once: 5 becomes 6, and not 7.
+#[test]
+fn a_frame_is_requested_under_its_new_identifier(rt: HostRuntime) -> Result<(), Fail> {
+    let (mut rxin, rxout) = RxFifo::pair(rt.alloc())?;
+    let mut mail = PlainMail::new(rt.alloc(), 1);
+    let mut rewrites = ArrayVec::new();
+    for (from, to) in [(5u16, 6u16), (5, 8), (6, 7)] {
+        if !rewrites.is_full() {
+            let from = Id::standard(from)?;
+            let to = Id::standard(to)?;
+            rewrites.push(Rewrite { from, to });
+        }
+    }
+    let mut hand = RouteHand::new(rt.alloc(), rxout, Vec::new(rt.alloc()), rewrites);
+    let frame = data(5)?;
+    rxin.offer(&rt, received(frame));
+    assert_eq!(rt; turns(&rt, &mut hand, &mut mail), Ok(TurnAnswer::Requested));
+    let sent = data(6)?;
+    assert!(rt; mail.ready(&rt));
+    assert!(rt; mail.start(&rt) == Some((0, 1, sent)));
+    assert!(rt; hand.log.released.as_slice() == [frame].as_slice());
+    Ok(())
+}
+
 /// What the FIFO has is released by the first turn that memory isn't refused to.
 #[test]
 fn a_turn_that_is_refused_memory_changes_nothing(rt: HostRuntime) -> Result<(), Fail> {
@@ -81,7 +106,7 @@ fn a_turn_that_is_refused_memory_changes_nothing(rt: HostRuntime) -> Result<(), 
         return Ok(());
     };
     let mut mail = PlainMail::new(rt.alloc(), 1);
-    let mut hand = RouteHand::new(rt.alloc(), rxout, Vec::new(rt.alloc()));
+    let mut hand = RouteHand::new(rt.alloc(), rxout, Vec::new(rt.alloc()), ArrayVec::new());
     let frame = data(5)?;
     rxin.offer(&rt, received(frame));
     let first = turns(&rt, &mut hand, &mut mail);

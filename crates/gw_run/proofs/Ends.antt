@@ -1,8 +1,9 @@
 -- What a route's parts make of its report.
-use Rattle.std.proofs.Common.{◌≡◌, ◌≢◌, AllPairs, ℕ, ◌+◌, ◌≤◌, inl, inr, List, [], ◌∷◌, ◌++◌, length, sym, ap, subst, arith, ◌∙◌}
+use Rattle.std.proofs.Common.{◌≡◌, ℕ, ◌+◌, ◌≤◌, inl, inr, List, [], ◌∷◌, ◌++◌, length, map, sym, ap, subst, arith, ◌∙◌}
 use Rattle.std.proofs.lemmas.List.{map-append, length-map}
 use Rattle.std.proofs.lemmas.Bool.Decides.{eqb_tells}
 use Rattle.can_frame.specs.Frames.{FrameValue}
+use Rattle.can_frame.specs.Rewrites.{rewritten}
 use Rattle.bx_core.specs.declared.entry.Entry.{Entry}
 use Rattle.bx_core.specs.Lists.{Each, Has}
 use Rattle.bx_core.specs.Law.{Law, IsRouteLawful}
@@ -18,7 +19,7 @@ use Rattle.gw_run.specs.Intakes.{LeavesOut, IntakeStands}
 use Rattle.gw_run.specs.declared.intake.Intake.{Intake}
 use Rattle.gw_run.specs.Ends.{IsEndOf}
 use Rattle.gw_run.proofs.Intakes.{left-length}
-use Rattle.gw_run.proofs.Settles.{settled_apart, settled_logged}
+use Rattle.gw_run.proofs.Links.{reaped_aborted}
 
 entries_step : (core : State) (number : ℕ) (x : Item) (xs : List Item) (e : Entry) → Has (lists_of core x.0).requested (entry_on_bus x) →
     (Has (entries_of number xs) e → Has (lists_of core number).requested e) → Has (entries_of number (x ∷ xs)) e → Has (lists_of core number).requested e
@@ -61,7 +62,7 @@ stored_frames r core number intake h waiting left p =
     ap frames_of p.stored_is ∙ map-append (λ (x : RxFrame). x.frame) h.out.released left ∙ ap (λ fs. fs ++ frames_of left) (sym p.log ∙ sym p.released_is)
 
 links : (r : RouteReport) (core : State) (number : ℕ) (intake : Intake) (h : HandValue) (waiting : List ℕ) (left : List RxFrame) → Parts r core number intake h waiting left →
-    (past : BusPast) → BusStands core past → RouteLinked core.txfp r (entries_of number past.started)
+    (past : BusPast) → BusStands core past → RouteLinked core.txfp h.rewrites r (entries_of number past.started)
 links r core number intake h waiting left p past bus =
     let side = p.linked.1 in
     let matches = p.linked.2 in
@@ -73,7 +74,7 @@ links r core number intake h waiting left p past bus =
       logged = h.aborted;
       stored = frames_of intake.rxin.stored;
       left = frames_of left;
-      log = ap (λ es. es ++ h.in_hand) (sym side.requested_is) ∙ matches.log ∙ ap (numbered 1) (sym p.released_is);
+      log = ap (λ es. es ++ h.in_hand) (sym side.requested_is) ∙ matches.log ∙ ap (λ fs. numbered 1 (map (rewritten h.rewrites) fs)) (sym p.released_is);
       one_hand = matches.one_hand;
       law = subst (IsRouteLawful core.txfp (lists_of core number)) (sym p.waiting_is) (p.law.route number);
       completed_is = p.completed_is;
@@ -91,14 +92,19 @@ links r core number intake h waiting left p past bus =
     }
 
 pub ends : (r : RouteReport) (core : State) (number : ℕ) (intake : Intake) (h : HandValue) (waiting : List ℕ) (left : List RxFrame) → Parts r core number intake h waiting left → IsEndOf r core number intake h
+unfolding links
 ends r core number intake h waiting left p =
     let stored = stored_frames r core number intake h waiting left p in
     record {
       linked = links r core number intake h waiting left p;
       completed_is = λ past bus. p.completed_is ∙ sym (bus.done_is number);
       released_is = p.released_is;
-      aborted_apart = subst (AllPairs (λ number later. number ≢ later)) (sym p.aborted_is) (settled_apart (numbers r.completed.items ++ waiting) h.aborted);
-      aborted_logged = subst (Each (Has h.aborted)) (sym p.aborted_is) (settled_logged (numbers r.completed.items ++ waiting) h.aborted);
+      aborted_is = p.aborted_is ∙ ap (λ ns. settled (numbers r.completed.items ++ ns) h.aborted) p.waiting_is;
+      reaped_too = λ past bus. subst (Each (Has r.aborted.items)) (sym (bus.reaped_is number))
+          (reaped_aborted core.txfp h.rewrites r (entries_of number past.started) (links r core number intake h waiting left p past bus));
+      left = left;
+      left_is = p.stored_is;
+      held_is = p.held_is ∙ ap (λ ns. length left + length h.in_hand + length ns) p.waiting_is;
       fifo = λ offered stands. record {
         left = frames_of left;
         accepted_is = p.accepted_is ∙ stands.accepted_is;

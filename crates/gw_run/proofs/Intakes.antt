@@ -1,11 +1,11 @@
 -- Laws of what comes to a receive FIFO.
-use Rattle.std.proofs.Common.{◌≡◌, ℕ, ◌+◌, ◌≤◌, List, [], ◌∷◌, ◌++◌, length, refl, sym, ap, subst, arith, ◌∙◌, length-append}
+use Rattle.std.proofs.Common.{◌≡◌, ℕ, suc, ◌+◌, ◌≤◌, Option, Some, None, List, [], ◌∷◌, ◌++◌, length, refl, sym, ap, subst, arith, ◌∙◌, length-append}
 use Rattle.std.proofs.lemmas.List.{map-append}
 use Rattle.bx_rx.specs.declared.rx_frame.RxFrame.{RxFrame}
-use Rattle.bx_rx.specs.RxIn.{AreLastOf}
+use Rattle.bx_rx.specs.RxIn.{Inlet, AreLastOf, put_in, none_put}
 use Rattle.can_frame.specs.Frames.{FrameValue}
 use Rattle.gw_route.specs.RouteHand.{frames_of}
-use Rattle.gw_run.specs.Intakes.{LeavesOut, IntakeStands}
+use Rattle.gw_run.specs.Intakes.{LeavesOut, discards_in, IntakeStands}
 use Rattle.gw_run.specs.Intakes.LeavesOut.{nothing, keeps, drops}
 use Rattle.gw_run.specs.declared.intake.Intake.{Intake}
 
@@ -14,16 +14,31 @@ left-length nothing = refl
 left-length (keeps {xs = xs} {ys = ys} x h) = omega (arith, length-append xs (x ∷ []), length-append ys (x ∷ []), left-length h)
 left-length (drops {xs = xs} x h) = omega (arith, length-append xs (x ∷ []), left-length h)
 
-pub opens : (intake : Intake) → intake.accepted ≡ 0 → intake.overrun ≡ 0 → intake.rxin.stored ≡ [] → IntakeStands intake []
-opens intake a o s = record {
+-- one call more, at the back
+stored_once : (calls : List (Option RxFrame)) (x : RxFrame) → discards_in (calls ++ Some x ∷ []) ≡ discards_in calls
+stored_once [] x = refl
+stored_once (None ∷ calls) x = ap suc (stored_once calls x)
+stored_once (Some y ∷ calls) x = stored_once calls x
+
+discarded_once : (calls : List (Option RxFrame)) → discards_in (calls ++ None ∷ []) ≡ discards_in calls + 1
+discarded_once [] = refl
+discarded_once (None ∷ calls) = omega (arith, discarded_once calls)
+discarded_once (Some y ∷ calls) = discarded_once calls
+
+pub opens : (intake : Intake) → intake.accepted ≡ 0 → intake.overrun ≡ 0 → intake.rxin.stored ≡ [] → intake.rxin.calls ≡ [] → IntakeStands intake []
+opens intake a o s none = record {
   accepted_is = a;
+  asked = ap length none;
+  overrun_is = o ∙ sym (ap discards_in none);
   stored_is = subst (λ n. LeavesOut [] (frames_of intake.rxin.stored) n) (sym o) (subst (λ xs. LeavesOut [] (frames_of xs) 0) (sym s) nothing);
   full = λ ne. absurd (ne o);
 }
 
-pub stores : (old new : Intake) (x : RxFrame) (offered : List FrameValue) → new.accepted ≡ old.accepted + 1 → new.overrun ≡ old.overrun → new.rxin.stored ≡ old.rxin.stored ++ x ∷ [] →
+pub stores : (old new : Intake) (x : RxFrame) (offered : List FrameValue) → new.accepted ≡ old.accepted + 1 → new.overrun ≡ old.overrun → new.rxin ≡ put_in old.rxin x →
     IntakeStands old offered → IntakeStands new (offered ++ x.frame ∷ [])
-stores old new x offered a o s h = record {
+stores old new x offered a o is h = let s : new.rxin.stored ≡ old.rxin.stored ++ x ∷ [] = ap (λ (r : Inlet). r.stored) is in record {
+  asked = ap (λ (r : Inlet). length r.calls) is ∙ omega (arith, h.asked, length-append old.rxin.calls (Some x ∷ []), length-append offered (x.frame ∷ []));
+  overrun_is = o ∙ h.overrun_is ∙ sym (ap (λ (r : Inlet). discards_in r.calls) is ∙ stored_once old.rxin.calls x);
   accepted_is = omega (arith, a, h.accepted_is, length-append offered (x.frame ∷ []));
   stored_is = subst (λ n. LeavesOut (offered ++ x.frame ∷ []) (frames_of new.rxin.stored) n) (sym o)
       (subst (λ ys. LeavesOut (offered ++ x.frame ∷ []) ys old.overrun) (sym (ap frames_of s ∙ map-append (λ (y : RxFrame). y.frame) old.rxin.stored (x ∷ []))) (keeps x.frame h.stored_is));
@@ -33,9 +48,11 @@ stores old new x offered a o s h = record {
 three_of : (stored : List RxFrame) → ((items : List RxFrame) × (length items ≡ 3) × AreLastOf stored items) → 3 ≤ length stored
 three_of stored h = omega (arith, h.1, ap length h.2.1, length-append h.2.0 h.0)
 
-pub discards : (old new : Intake) (x : FrameValue) (offered : List FrameValue) → new.accepted ≡ old.accepted + 1 → new.overrun ≡ old.overrun + 1 → new.rxin.stored ≡ old.rxin.stored →
+pub discards : (old new : Intake) (x : FrameValue) (offered : List FrameValue) → new.accepted ≡ old.accepted + 1 → new.overrun ≡ old.overrun + 1 → new.rxin ≡ none_put old.rxin →
     ((items : List RxFrame) × (length items ≡ 3) × AreLastOf old.rxin.stored items) → IntakeStands old offered → IntakeStands new (offered ++ x ∷ [])
-discards old new x offered a o s held h = record {
+discards old new x offered a o is held h = let s : new.rxin.stored ≡ old.rxin.stored = ap (λ (r : Inlet). r.stored) is in record {
+  asked = ap (λ (r : Inlet). length r.calls) is ∙ omega (arith, h.asked, length-append old.rxin.calls (None ∷ []), length-append offered (x ∷ []));
+  overrun_is = omega (arith, o, h.overrun_is, ap (λ (r : Inlet). discards_in r.calls) is, discarded_once old.rxin.calls);
   accepted_is = omega (arith, a, h.accepted_is, length-append offered (x ∷ []));
   stored_is = subst (λ n. LeavesOut (offered ++ x ∷ []) (frames_of new.rxin.stored) n) (sym o)
       (subst (λ ys. LeavesOut (offered ++ x ∷ []) ys (old.overrun + 1)) (sym (ap frames_of s)) (drops x h.stored_is));

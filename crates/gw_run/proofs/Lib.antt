@@ -4,11 +4,13 @@ pub mod Intakes
 pub mod Ports
 pub mod Lanes
 pub mod Settles
+pub mod Sublists
 pub mod Ends
 pub mod Sites
 pub mod Worlds
 pub mod WorldTurns
 pub mod Passes
+pub mod Counted
 pub mod Pairs
 pub mod PlacesWhere
 pub mod Plans

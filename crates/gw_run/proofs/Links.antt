@@ -1,17 +1,20 @@
 -- The claims follow from the links.
-use Rattle.std.proofs.Common.{◌≡◌, ℕ, zero, suc, ◌+◌, ◌<◌, ◌≤◌, ◌⊎◌, Bool, true, false, not, List, [], ◌∷◌, ◌++◌, length, filter, fold, refl, sym, ◌∙◌, ap, subst, arith, inl, inr}
+use Rattle.std.proofs.Common.{◌≡◌, ℕ, zero, suc, ◌+◌, ◌<◌, ◌≤◌, ◌⊎◌, Bool, true, false, not, List, [], ◌∷◌, ◌++◌, length, filter, map, fold, refl, sym, ◌∙◌, ap, subst, arith, inl, inr}
 use Rattle.std.proofs.lemmas.Bool.Decides.{eqb_tells}
-use Rattle.std.proofs.lemmas.List.{append_assoc, length-append, length-map}
+use Rattle.std.proofs.lemmas.List.{append_assoc, length-append, length-map, map-append}
 use Rattle.std.proofs.lemmas.List.Elements.{filter-append}
+use Rattle.can_frame.specs.Rewrites.{rewritten}
+use Rattle.can_frame.specs.declared.rewrite.Rewrite.{Rewrite}
 use Rattle.bx_core.specs.declared.entry.Entry.{Entry}
 use Rattle.bx_core.specs.Lists.{Each, Has, Rises, times}
 use Rattle.bx_core.specs.Law.{IsRouteLawful}
 use Rattle.bx_core.specs.States.{numbers}
-use Rattle.bx_core.proofs.Words.{has-left, each_of, times-append}
+use Rattle.bx_core.proofs.Words.{has-left, each_of, each_more, times-append}
 use Rattle.gw_route.proofs.Numbered.{length-numbered}
 use Rattle.gw_script.specs.declared.route_report.RouteReport.{RouteReport}
-use Rattle.gw_run.specs.Headline.{is_among, kept, InOrder, EachOnce, OrderBy, NotRefilled, Balances, Headline}
-use Rattle.gw_run.specs.Links.{settle, RouteLinked}
+use Rattle.gw_run.specs.Headline.{is_among, released, kept, InOrder, EachOnce, OrderBy, NotRefilled, Balances, Headline}
+use Rattle.gw_run.specs.Links.{settle, settled, RouteLinked}
+use Rattle.gw_run.proofs.Settles.{each_from, settled_logged}
 use Rattle.bx_core.proofs.Times.{mark, times_self, times_other, has_times, times_has, rises_once}
 use Rattle.gw_run.proofs.Counts.{among_times, not_among_times, bool_cases, same_length, has_number, number_has, above, same_number, rises_left, rises_across, each_from_has}
 
@@ -134,15 +137,15 @@ none_of : (xs : List ℕ) (n : ℕ) → ¬ (Has xs n) → times n xs ≡ 0
 none_of xs n out = elim (times_cases (times n xs)) [ inl e ↦ e | inr h ↦ absurd (out (times_has xs n h)) ]
 
 -- the core law, with what was sent as the report tells it
-lawful : (txfp : Bool) (r : RouteReport) (started : List Entry) (l : RouteLinked txfp r started) →
+lawful : (txfp : Bool) (rewrites : List Rewrite) (r : RouteReport) (started : List Entry) (l : RouteLinked txfp rewrites r started) →
     IsRouteLawful txfp (record { requested = l.lists.requested; done = r.completed.items; aborted = l.lists.aborted; reaped = l.lists.reaped }) l.waiting
-lawful txfp r started l = subst (λ (d : List Entry). IsRouteLawful txfp (record { requested = l.lists.requested; done = d; aborted = l.lists.aborted; reaped = l.lists.reaped }) l.waiting) (sym l.completed_is) l.law
+lawful txfp rewrites r started l = subst (λ (d : List Entry). IsRouteLawful txfp (record { requested = l.lists.requested; done = d; aborted = l.lists.aborted; reaped = l.lists.reaped }) l.waiting) (sym l.completed_is) l.law
 
 -- how often a number stands among the report's aborted ones
-aborted_times : (txfp : Bool) (r : RouteReport) (started : List Entry) (l : RouteLinked txfp r started) (n : ℕ) → times n r.aborted.items ≡ times n l.lists.aborted + times n l.lists.reaped
-aborted_times txfp r started l n =
+aborted_times : (txfp : Bool) (rewrites : List Rewrite) (r : RouteReport) (started : List Entry) (l : RouteLinked txfp rewrites r started) (n : ℕ) → times n r.aborted.items ≡ times n l.lists.aborted + times n l.lists.reaped
+aborted_times txfp rewrites r started l n =
     let ended : List ℕ = numbers r.completed.items ++ l.waiting in
-    let law : times n (numbers l.lists.requested) ≡ times n (numbers r.completed.items) + times n l.lists.aborted + times n l.lists.reaped + times n l.waiting = (lawful txfp r started l).once n in
+    let law : times n (numbers l.lists.requested) ≡ times n (numbers r.completed.items) + times n l.lists.aborted + times n l.lists.reaped + times n l.waiting = (lawful txfp rewrites r started l).once n in
     let most : times n (numbers l.lists.requested) ≤ 1 = rises_once (numbers l.lists.requested) n l.law.rises in
     let both : times n ended ≡ times n (numbers r.completed.items) + times n l.waiting = times-append n (numbers r.completed.items) l.waiting in
     rw l.aborted_is (elim (bool_cases (is_among ended n)) [
@@ -162,32 +165,47 @@ aborted_times txfp r started l n =
     ])
 
 -- what was sent was requested and is not among the aborted ones
-sent_kept : (txfp : Bool) (r : RouteReport) (started : List Entry) (l : RouteLinked txfp r started) (x : Entry) → Has r.completed.items x → Has l.lists.requested x × (is_among r.aborted.items x.number ≡ false)
-sent_kept txfp r started l x h =
-    let law = lawful txfp r started l in
+sent_kept : (txfp : Bool) (rewrites : List Rewrite) (r : RouteReport) (started : List Entry) (l : RouteLinked txfp rewrites r started) (x : Entry) → Has r.completed.items x → Has l.lists.requested x × (is_among r.aborted.items x.number ≡ false)
+sent_kept txfp rewrites r started l x h =
+    let law = lawful txfp rewrites r started l in
     let ds : List Entry = r.completed.items in (
       each_of (Has l.lists.requested) ds x law.done_known h,
       elim (bool_cases (is_among r.aborted.items x.number)) [
         | inl e ↦ absurd (let a : 0 < times x.number r.aborted.items = among_times r.aborted.items x.number e in
             let b : 0 < times x.number (numbers ds) = has_times (numbers ds) x.number (has_number ds x h) in
-            omega (arith, aborted_times txfp r started l x.number, law.once x.number, rises_once (numbers l.lists.requested) x.number law.rises))
+            omega (arith, aborted_times txfp rewrites r started l x.number, law.once x.number, rises_once (numbers l.lists.requested) x.number law.rises))
         | inr e ↦ e
       ],
     )
 
-pub in_order : (txfp : Bool) (r : RouteReport) (started : List Entry) → txfp ≡ true → RouteLinked txfp r started → InOrder r
-in_order txfp r started by_requests l =
-    let law = lawful txfp r started l in
+-- each aborted number is one of the released
+pub aborted_released : (txfp : Bool) (rewrites : List Rewrite) (r : RouteReport) (started : List Entry) → RouteLinked txfp rewrites r started → Each (Has (numbers (released rewrites r))) r.aborted.items
+aborted_released txfp rewrites r started l =
+    let P : List ℕ → Type 0 = λ ns. Each (Has (numbers (released rewrites r))) ns in
+    subst P (sym l.aborted_is) (each_more (Has l.logged) (Has (numbers (released rewrites r))) (settled (numbers r.completed.items ++ l.waiting) l.logged)
+    (λ n has. subst (λ es. Has (numbers es) n) l.log
+    (subst (λ ns. Has ns n) (sym (map-append (λ (e : Entry). e.number) l.lists.requested l.in_hand)) (has-left (numbers l.lists.requested) (numbers l.in_hand) n (l.known n has))))
+    (settled_logged (numbers r.completed.items ++ l.waiting) l.logged))
+
+-- what was reaped is among the aborted
+pub reaped_aborted : (txfp : Bool) (rewrites : List Rewrite) (r : RouteReport) (started : List Entry) → (l : RouteLinked txfp rewrites r started) → Each (Has r.aborted.items) l.lists.reaped
+reaped_aborted txfp rewrites r started l = each_from (Has r.aborted.items) l.lists.reaped (λ n has.
+    let some : 0 < times n l.lists.reaped = has_times l.lists.reaped n has in
+    times_has r.aborted.items n (omega (arith, some, aborted_times txfp rewrites r started l n)))
+
+pub in_order : (txfp : Bool) (rewrites : List Rewrite) (r : RouteReport) (started : List Entry) → txfp ≡ true → RouteLinked txfp rewrites r started → InOrder rewrites r
+in_order txfp rewrites r started by_requests l =
+    let law = lawful txfp rewrites r started l in
     let ds : List Entry = r.completed.items in
     let out : ℕ → Bool = is_among r.aborted.items in
     let t : (rest : List Entry) × (filter (λ x. not (out x.number)) l.lists.requested ≡ ds ++ rest) = front out l.lists.requested ds law.rises (rises_left (numbers ds) l.waiting (law.ordered by_requests))
-    (sent_kept txfp r started l)
+    (sent_kept txfp rewrites r started l)
     (λ x h o.
     let z : times x.number r.aborted.items ≡ 0 = not_among_times r.aborted.items x.number o in
     let one : 0 < times x.number (numbers l.lists.requested) = has_times (numbers l.lists.requested) x.number (has_number l.lists.requested x h) in
     elim (times_cases (times x.number (numbers ds))) [
       | inl nowhere ↦ inr (λ y k. rises_across (numbers ds) l.waiting y.number x.number (law.ordered by_requests) (has_number ds y k)
-          (times_has l.waiting x.number (omega (arith, aborted_times txfp r started l x.number, law.once x.number))))
+          (times_has l.waiting x.number (omega (arith, aborted_times txfp rewrites r started l x.number, law.once x.number))))
       | inr there ↦ inl (let u : (y : Entry) × Has ds y × (y.number ≡ x.number) = number_has ds x.number (times_has (numbers ds) x.number there) in
           let P : Entry → Type 0 = λ v. Has ds v in
           subst P (same_number l.lists.requested u.0 x law.rises (each_of (Has l.lists.requested) ds u.0 law.done_known u.1) h u.2) u.1)
@@ -208,33 +226,33 @@ has-filter keep (y ∷ ys) x kept_x h = elim (bool_cases (keep y)) [
 ]
 
 -- by any priority, each once
-pub each_once : (txfp : Bool) (r : RouteReport) (started : List Entry) → RouteLinked txfp r started → EachOnce r
-each_once txfp r started l =
-    let law = lawful txfp r started l in
+pub each_once : (txfp : Bool) (rewrites : List Rewrite) (r : RouteReport) (started : List Entry) → RouteLinked txfp rewrites r started → EachOnce rewrites r
+each_once txfp rewrites r started l =
+    let law = lawful txfp rewrites r started l in
     let keep : Entry → Bool = λ (e : Entry). not (is_among r.aborted.items e.number) in
     record {
       once = λ n. omega (arith, law.once n, rises_once (numbers l.lists.requested) n law.rises);
-      among = each_from_has (Has (kept r)) r.completed.items (λ x h. let k = sent_kept txfp r started l x h in
+      among = each_from_has (Has (kept rewrites r)) r.completed.items (λ x h. let k = sent_kept txfp rewrites r started l x h in
           let P : List Entry → Type 0 = λ es. Has (filter keep es) x in
           subst P l.log (has-filter keep (l.lists.requested ++ l.in_hand) x (ap not k.1) (has-left l.lists.requested l.in_hand x k.0)));
     }
 
-pub ordered_by : (txfp : Bool) (r : RouteReport) (started : List Entry) → RouteLinked txfp r started → OrderBy txfp r
-ordered_by true r started l = in_order true r started refl l
-ordered_by false r started l = each_once false r started l
+pub ordered_by : (txfp : Bool) (rewrites : List Rewrite) (r : RouteReport) (started : List Entry) → RouteLinked txfp rewrites r started → OrderBy txfp rewrites r
+ordered_by true rewrites r started l = in_order true rewrites r started refl l
+ordered_by false rewrites r started l = each_once false rewrites r started l
 
-pub not_refilled : (txfp : Bool) (r : RouteReport) (started : List Entry) → RouteLinked txfp r started → NotRefilled r started
-not_refilled txfp r started l =
+pub not_refilled : (txfp : Bool) (rewrites : List Rewrite) (r : RouteReport) (started : List Entry) → RouteLinked txfp rewrites r started → NotRefilled rewrites r started
+not_refilled txfp rewrites r started l =
     let P : List Entry → Type 0 = λ v. Each (Has v) started in
     subst P l.log (each_from_has (Has (l.lists.requested ++ l.in_hand)) started (λ x h. has-left l.lists.requested l.in_hand x (l.starts x h)))
 
-pub balances : (txfp : Bool) (r : RouteReport) (started : List Entry) → RouteLinked txfp r started → Balances r
-balances txfp r started l =
-    let law = lawful txfp r started l in
+pub balances : (txfp : Bool) (rewrites : List Rewrite) (r : RouteReport) (started : List Entry) → RouteLinked txfp rewrites r started → Balances r
+balances txfp rewrites r started l =
+    let law = lawful txfp rewrites r started l in
     let ds : List Entry = r.completed.items in
     let four : List ℕ = numbers ds ++ r.aborted.items ++ l.waiting in
     let size : length (numbers l.lists.requested) ≡ length four = same_length (numbers l.lists.requested) four (λ n.
-    omega (arith, law.once n, aborted_times txfp r started l n, times-append n (numbers ds ++ r.aborted.items) l.waiting, times-append n (numbers ds) r.aborted.items)) in
+    omega (arith, law.once n, aborted_times txfp rewrites r started l n, times-append n (numbers ds ++ r.aborted.items) l.waiting, times-append n (numbers ds) r.aborted.items)) in
     omega (
       arith,
       size,
@@ -244,17 +262,18 @@ balances txfp r started l =
       length-append (numbers ds) r.aborted.items,
       ap length l.log,
       length-append l.lists.requested l.in_hand,
-      length-numbered 1 r.released.items,
+      length-numbered 1 (map (rewritten rewrites) r.released.items),
+      length-map r.released.items (rewritten rewrites),
       ap length l.stored_is,
       length-append r.released.items l.left,
       l.accepted_is,
       l.held_is,
     )
 
-pub linked : (txfp : Bool) (r : RouteReport) (started : List Entry) → RouteLinked txfp r started → Headline txfp r started
-linked txfp r started l = record {
-  order = ordered_by txfp r started l;
-  no_refill = not_refilled txfp r started l;
-  sum = balances txfp r started l;
+pub linked : (txfp : Bool) (rewrites : List Rewrite) (r : RouteReport) (started : List Entry) → RouteLinked txfp rewrites r started → Headline txfp rewrites r started
+linked txfp rewrites r started l = record {
+  order = ordered_by txfp rewrites r started l;
+  no_refill = not_refilled txfp rewrites r started l;
+  sum = balances txfp rewrites r started l;
   few_held = omega (arith, l.held_is, l.one_hand, l.few_left, l.few_waiting);
 }

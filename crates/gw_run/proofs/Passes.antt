@@ -44,7 +44,7 @@ made_bits bits made old new m h = record {
 }
 
 keeps_self : (lane : Lane) → LaneKeeps lane lane
-keeps_self lane = record { source_is = refl; fifo_is = refl; target_is = refl; number_is = refl; queue_is = refl; plan = λ planned h. h }
+keeps_self lane = record { source_is = refl; fifo_is = refl; target_is = refl; number_is = refl; queue_is = refl; rewrites_is = refl; plan = λ planned h. h }
 
 keeps_on : (a b c : Lane) → LaneKeeps a b → LaneKeeps b c → LaneKeeps a c
 keeps_on a b c p q = record {
@@ -53,6 +53,7 @@ keeps_on a b c p q = record {
   target_is = q.target_is ∙ p.target_is;
   number_is = q.number_is ∙ p.number_is;
   queue_is = q.queue_is ∙ p.queue_is;
+  rewrites_is = q.rewrites_is ∙ p.rewrites_is;
   plan = λ planned h. q.plan planned (p.plan planned h);
 }
 

@@ -99,11 +99,11 @@ told_once s lines controller a b p q =
 one_number : (s : ScriptValue) (target a b place : ℕ) → route_at s target a ≡ Some place → route_at s target b ≡ Some place → a ≡ b
 one_number s target a b place e f = place-once (λ (r : RouteValue). r.target == target) 0 s.routes place a b e f
 
-pub none_refilled : (s : ScriptValue) (report : Report) (place : ℕ) (r : RouteReport) (started : List Entry) → RunsRoutes s report → slice_get report.routes.items place ≡ Some r → AreStartsOf s (lines_of report) place started → NotRefilled r started
+pub none_refilled : (s : ScriptValue) (report : Report) (place : ℕ) (r : RouteReport) (started : List Entry) → RunsRoutes s report → slice_get report.routes.items place ≡ Some r → (is : AreStartsOf s (lines_of report) place started) → NotRefilled is.route.rewrites r started
 none_refilled s report place r started p e starts =
     let run = pair_at (λ k route. IsRouteRun s (lines_of report) k route) s.routes report.routes.items place r p e in
     let route : starts.route ≡ run.0 = same_some starts.route run.0 (sym starts.route_is ∙ run.1) in
     let target : starts.route.target ≡ run.0.target = ap (λ (q : RouteValue). q.target) route in
     let told : starts.to ≡ run.2.to = told_once s (lines_of report) run.0.target starts.to run.2.to (subst (λ c. AreToldOf s (lines_of report) c starts.to) target starts.to_is) run.2.to_is in
     let number : starts.number ≡ run.2.number = one_number s run.0.target starts.number run.2.number place (ap (λ c. route_at s c starts.number) (sym target) ∙ starts.number_is) run.2.number_is in
-    subst (NotRefilled r) (sym (starts.started_is ∙ ap (λ n. entries_of n (all_in start_in starts.to)) number ∙ ap (λ tells. entries_of run.2.number (all_in start_in tells)) told)) run.2.claims.no_refill
+    subst (λ (q : RouteValue). NotRefilled q.rewrites r started) (sym route) (subst (NotRefilled run.0.rewrites r) (sym (starts.started_is ∙ ap (λ n. entries_of n (all_in start_in starts.to)) number ∙ ap (λ tells. entries_of run.2.number (all_in start_in tells)) told)) run.2.claims.no_refill)

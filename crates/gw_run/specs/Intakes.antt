@@ -1,8 +1,9 @@
 -- What comes to the receive FIFOs of a controller (RM0008, bxCAN, "Identifier filtering" and "Reception handling").
-use Rattle.std.specs.Prelude.{◌≡◌, ◌≢◌, ℕ, ◌+◌, ◌≤◌, Option, Some, None, List, [], ◌∷◌, ◌++◌, length}
+use Rattle.std.specs.Prelude.{◌≡◌, ◌≢◌, ℕ, suc, ◌+◌, ◌≤◌, Option, Some, None, List, [], ◌∷◌, ◌++◌, length}
 use Rattle.can_frame.specs.Frames.{FrameValue}
 use Rattle.bx_rx.specs.Bank.{BankValue}
 use Rattle.bx_rx.specs.Banks.{IsFound}
+use Rattle.bx_rx.specs.declared.rx_frame.RxFrame.{RxFrame}
 use Rattle.gw_route.specs.RouteHand.{frames_of}
 use Rattle.gw_run.specs.declared.intake.Intake.{Intake}
 
@@ -25,8 +26,17 @@ pub data GoTo (banks : List BankValue) (fifo : ℕ) : List FrameValue → List F
   elsewhere : {taken offered : List FrameValue} (frame : FrameValue) (found : Option (ℕ × ℕ)) → IsFound banks frame found → fifo_of found ≢ Some fifo →
       GoTo banks fifo taken offered → GoTo banks fifo (taken ++ frame ∷ []) offered
 
--- it was offered these frames: what it stored is all of them but those it discarded, and it discards only when full
+-- how many calls on a FIFO stored nothing
+abbrev pub discards_in : List (Option RxFrame) → ℕ
+discards_in [] = 0
+discards_in (None ∷ calls) = suc (discards_in calls)
+discards_in (Some x ∷ calls) = discards_in calls
+
+-- it was offered these frames, each by a call of its own: what it stored is all of them but those it discarded, and it discards only
+-- when full
 pub record IntakeStands (intake : Intake) (offered : List FrameValue) : Type 0 where
   pub accepted_is : intake.accepted ≡ length offered
+  pub asked : length intake.rxin.calls ≡ length offered
+  pub overrun_is : intake.overrun ≡ discards_in intake.rxin.calls
   pub stored_is : LeavesOut offered (frames_of intake.rxin.stored) intake.overrun
   pub full : intake.overrun ≢ 0 → 3 ≤ length intake.rxin.stored

@@ -4,6 +4,7 @@ pub mod Links
 pub mod Intakes
 pub mod Slots
 pub mod Ports
+pub mod Sublists
 pub mod Lanes
 pub mod Ends
 pub mod Sites

@@ -1,7 +1,7 @@
 -- A run before its first bit.
-use Rattle.std.specs.Prelude.{◌≡◌, ◌≢◌, ◌==◌, ℕ, max, Option, Some, None, List, [], length, slice_get, Bool}
+use Rattle.std.specs.Prelude.{◌≡◌, ◌≢◌, ◌==◌, ℕ, max, Option, Some, None, List, [], length, slice_get, Bool, false}
 use Rattle.bx_core.specs.declared.plain_mail.PlainMail.{PlainMail}
-use Rattle.bx_core.specs.PlainMail.{core_of, sending}
+use Rattle.bx_core.specs.PlainMail.{core_of, short_of, sending}
 use Rattle.bx_core.specs.RouteTx.{no_route_past}
 use Rattle.bx_core.specs.States.{opening_by}
 use Rattle.bx_core.specs.Stands.{BusStands, RouteStands}
@@ -30,6 +30,7 @@ priority_of controller = controller.txfp
 -- mailboxes of this priority for so many routes, of which nothing was asked yet
 pub record IsNewMail (txfp : Bool) (routes : ℕ) (mail : PlainMail) : Type 0 where
   pub core_is : core_of mail ≡ opening_by txfp routes
+  pub unshort : short_of mail ≡ false
   pub idle : sending (core_of mail) ≡ None
   pub bus : BusStands (core_of mail) no_bus_past
   pub route : (route : ℕ) → RouteStands (core_of mail) route no_route_past
@@ -71,11 +72,14 @@ pub record IsLaneOf (s : ScriptValue) (k : ℕ) (route : RouteValue) (lane : Lan
   pub fifo_is : lane.fifo ≡ route.fifo
   pub target_is : IsPlaceOf s route.target lane.target
   pub number_is : route_at s route.target lane.number ≡ Some k
+  pub rewrites_is : lane.hand.rewrites.items ≡ route.rewrites
   pub plan : FromPlan (aborts_of s k) (hand_value lane.hand)
 
 -- one that made no turn
 pub record IsNewLane (s : ScriptValue) (k : ℕ) (route : RouteValue) (lane : Lane) : Type 0 where
   pub lane_is : IsLaneOf s k route lane
+  pub aborts_is : (hand_value lane.hand).aborts ≡ aborts_of s k
+  pub turns_is : lane.hand.turns ≡ 0
   pub linked : LogMatches (hand_value lane.hand) no_route_past
   pub log : LogsReleased (hand_value lane.hand)
 

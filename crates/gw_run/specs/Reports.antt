@@ -4,17 +4,17 @@ use Rattle.can_frame.specs.Frames.{FrameValue}
 use Rattle.bx_core.specs.declared.entry.Entry.{Entry}
 use Rattle.bx_core.specs.Lists.{Each, Has}
 use Rattle.bx_core.specs.TxBus.{no_bus_past}
-use Rattle.bx_core.specs.Stands.{entries_of}
+use Rattle.bx_core.specs.States.{numbers}
+use Rattle.bx_core.specs.Stands.{entries_of, numbers_of}
 use Rattle.can_segment.specs.declared.event.Event.{Event}
 use Rattle.can_segment.specs.declared.event.Told.{Told}
 use Rattle.can_segment.specs.declared.plan.SegmentPlan.{SegmentPlan}
 use Rattle.can_segment.specs.declared.record.Record.{Record}
-use Rattle.can_segment.specs.Brought.{StartsUndone, told_of, all_in, start_in, sent_in, taken_in}
+use Rattle.can_segment.specs.Brought.{StartsUndone, told_of, all_in, start_in, sent_in, reaped_in, taken_in}
 use Rattle.can_segment.specs.Attempts.{RequestsTryFailures}
 use Rattle.can_segment.specs.Copies.{Copies}
 use Rattle.can_segment.specs.Runs.{IsRun, Run}
 use Rattle.can_segment.specs.Traces.{Bit}
-use Rattle.gw_route.specs.declared.planned_abort.PlannedAbort.{PlannedAbort}
 use Rattle.gw_script.specs.declared.report.Report.{Report}
 use Rattle.gw_script.specs.declared.route_report.RouteReport.{RouteReport}
 use Rattle.gw_script.specs.Controllers.{ControllerValue}
@@ -22,11 +22,13 @@ use Rattle.gw_script.specs.Routes.{RouteValue}
 use Rattle.gw_script.specs.Scripts.{ScriptValue}
 use Rattle.gw_script.specs.Nodes.{controller_at, route_at}
 use Rattle.gw_run.specs.Ends.{TellsFifo}
-use Rattle.gw_run.specs.Headline.{OrderBy, Headline}
+use Rattle.gw_run.specs.Headline.{OrderBy, Headline, released}
 use Rattle.gw_run.specs.Intakes.{GoTo}
+use Rattle.gw_run.specs.Lanes.{numbers_in}
 use Rattle.gw_run.specs.Openings.{priority_of}
 use Rattle.gw_run.specs.Pairs.{Pairs}
 use Rattle.gw_run.specs.Plans.{IsPlanOf, aborts_of}
+use Rattle.gw_run.specs.Sublists.{IsSublist}
 
 -- no controller of a segment begins a request that is over: one that it had completed, or that was reaped
 abbrev pub NeverAgain : SegmentPlan → List Event → Type 0
@@ -69,7 +71,7 @@ pub record AreToldOf (s : ScriptValue) (lines : List (List Event)) (controller :
 
 -- the numbers that the script's aborts of a route name
 abbrev pub aborted_in : ScriptValue → ℕ → List ℕ
-aborted_in s route = map (λ (abort : PlannedAbort). abort.number) (aborts_of s route)
+aborted_in s route = numbers_in (aborts_of s route)
 
 -- What became of the frames of a route, by what the lines of the segments tell of its two controllers.
 pub record IsRouteRun (s : ScriptValue) (lines : List (List Event)) (place : ℕ) (route : RouteValue) (r : RouteReport) : Type 0 where
@@ -88,16 +90,19 @@ pub record IsRouteRun (s : ScriptValue) (lines : List (List Event)) (place : ℕ
   -- it completed what its target completed of its requests
   pub completed_is : r.completed.items ≡ entries_of number (all_in sent_in to)
   -- the claims, given what its target started of its requests
-  pub claims : Headline (priority_of to_is.value) r (entries_of number (all_in start_in to))
-  -- the aborted numbers differ, and an abort of the script names each
+  pub claims : Headline (priority_of to_is.value) route.rewrites r (entries_of number (all_in start_in to))
+  -- the aborted numbers differ; aborts of the script name them, in this order; each is one of the released frames; and each
+  -- request that a line calls reaped is among them
   pub apart : AllPairs (λ number later. number ≢ later) r.aborted.items
-  pub named : Each (Has (aborted_in s place)) r.aborted.items
+  pub named : IsSublist r.aborted.items (aborted_in s place)
+  pub released_too : Each (Has (numbers (released route.rewrites r))) r.aborted.items
+  pub reaped_too : Each (Has r.aborted.items) (numbers_of number (all_in reaped_in to))
 
 -- What is claimed of the order of a route's completed frames: by the priority of the controller that it leads into.
 pub record OrderInto (s : ScriptValue) (route : RouteValue) (r : RouteReport) : Type 0 where
   pub target : ControllerValue
   pub target_is : slice_get s.controllers route.target ≡ Some target
-  pub order : OrderBy (priority_of target) r
+  pub order : OrderBy (priority_of target) route.rewrites r
 
 -- so it is for each route
 abbrev pub AreOrdered : ScriptValue → Report → Type 0

@@ -11,6 +11,7 @@ ghost use Rattle.gw_run.specs.Openings.{AreNewSites, Opens};
 ghost use Rattle.gw_run.specs.Pairs.{Pairs};
 ghost use Rattle.gw_run.specs.Headline.{NotRefilled, Balances};
 ghost use Rattle.gw_run.specs.Reports.{IsRouteRun, AreOrdered, RunsSegments, RunsRoutes, AreStartsOf, lines_of};
+ghost use Rattle.gw_run.specs.Worlds.{HaveTurned, NoneShort};
 ghost use Rattle.gw_run.specs.declared.run_fault.RunFault.TheVariants.{Memory as WantOfMemory};
 
 use crate::closing::{end_lanes, records_of};
@@ -36,7 +37,9 @@ fn make_bits_and_turns<R: Wait>(
     requires sound { IsSound script.now }
     requires turn { 0 < turn }
     requires opens { Opens script.now sites.old lanes.old }
-    ensures { OnOk result (IsOver script.now sites.new lanes.new) }
+    ensures over { OnOk result (IsOver script.now sites.new lanes.new) }
+    ensures turned { OnOk result (HaveTurned turn script.now.bits lanes.new) }
+    ensures short { OnOk result (NoneShort sites.new) }
 {
     make_all(rt, sites, lanes, u64::from(script.bits()), u64::from(turn))?;
     Ok(())
@@ -83,6 +86,7 @@ fn run<R: Wait>(rt: &R, alloc: Global, script: &Script, turn: u32) -> Result<Rep
 ///
 /// Of each route into a controller that sends by order of requests (TXFP set), the completed frames are, in
 /// order and each once, a prefix of the frames released from its source FIFO with the aborted ones left out.
+/// The released frames are read here under the new identifiers that the route gives to them.
 /// Of each route into one that sends by identifier (TXFP clear), they are, each once, among the released
 /// frames, and none of them is an aborted one. Of each route, no mailbox was refilled while its bus held it, as each
 /// line `started` shows; and accepted equals completed, aborted, overrun and held. `Memory` where a
@@ -97,8 +101,8 @@ pub fn run_inline<R: Wait>(
     requires turn { 0 < turn }
     ensures order { IfOk result (AreOrdered script.now) }
     ensures no_refill { IfOk result (λ report. (place : ℕ) (r : RouteReport) (started : List Entry)
-        → slice_get report.routes.items place ≡ Some r → AreStartsOf script.now (lines_of report) place started
-        → NotRefilled r started) }
+        → slice_get report.routes.items place ≡ Some r → (is : AreStartsOf script.now (lines_of report) place started)
+        → NotRefilled is.route.rewrites r started) }
     ensures sum { IfOk result (λ report. Each Balances report.routes.items) }
     ensures segments { IfOk result (RunsSegments script.now) }
     ensures routes { IfOk result (RunsRoutes script.now) }

@@ -18,7 +18,7 @@ pub(crate) struct Intake {
 impl Intake {
     /// Nothing was offered yet to this FIFO.
     pub(crate) fn new(rxin: RxIn) -> Intake
-        requires { rxin.stored ≡ [] }
+        requires { (rxin.stored ≡ []) × (rxin.calls ≡ []) }
         ensures stands { IntakeStands result [] }
         ensures queue { result.rxin.queue ≡ rxin.queue }
     {

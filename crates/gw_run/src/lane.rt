@@ -1,9 +1,10 @@
 //! A route's turn in a run.
 
-ghost use Rattle.std.specs.Prelude.{◌≡◌, ◌<◌, List, length};
-ghost use Rattle.bx_core.specs.PlainMail.{core_of};
+ghost use Rattle.std.specs.Prelude.{◌≡◌, ◌<◌, List, OnOk, false, length};
+ghost use Rattle.bx_core.specs.PlainMail.{core_of, short_of};
 ghost use Rattle.bx_core.specs.Stands.{RouteStands};
 ghost use Rattle.gw_route.specs.RouteHand.{hand_value, IsLinked, LogsReleased};
+ghost use Rattle.gw_route.specs.Turn.{next_turn};
 ghost use Rattle.gw_route.specs.declared.planned_abort.PlannedAbort.{PlannedAbort};
 ghost use Rattle.gw_run.specs.Lanes.{FromPlan, TurnLeaves};
 
@@ -38,6 +39,9 @@ pub(crate) fn turn_on<R: Wait>(
     ensures linked { IsLinked (RouteStands (core_of port.new.mail) number) (hand_value hand.new) }
     ensures log { LogsReleased (hand_value hand.old) → LogsReleased (hand_value hand.new) }
     ensures queue { hand.new.out.queue ≡ hand.old.out.queue }
+    ensures rewrites { hand.new.rewrites ≡ hand.old.rewrites }
+    ensures counted { OnOk result (hand.new.turns ≡ next_turn hand.old.turns) }
+    ensures short { OnOk result (short_of port.new.mail ≡ false) }
     ensures plan { (planned : List PlannedAbort) → FromPlan planned (hand_value hand.old) → FromPlan planned (hand_value hand.new) }
     ensures port { TurnLeaves number port.old port.new }
 {

@@ -50,6 +50,7 @@ pub(crate) fn report_of<R: Wait>(
         turns: _,
         aborts: _,
         log,
+        rewrites: _,
     } = hand;
     let Log {
         released,

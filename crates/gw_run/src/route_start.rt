@@ -15,9 +15,11 @@ use crate::place::Place;
 use crate::places::number_of;
 use crate::site::Site;
 use crate::slots::put;
+use arrayvec::ArrayVec;
 use bx_rx::{Memory, RxFifo, RxOut};
+use can_frame::Rewrite;
 use gw_route::{PlannedAbort, RouteHand};
-use gw_script::Script;
+use gw_script::{Route, Script};
 use std::alloc::{AllocError, Global};
 
 fn abort_in(route: usize, abort: &gw_script::PlannedAbort) -> Option<PlannedAbort>
@@ -41,6 +43,16 @@ fn aborts_of(alloc: Global, script: &Script, route: usize) -> Result<Vec<Planned
         push_some(&mut aborts, abort_in(route, abort))?;
     }
     Ok(aborts)
+}
+
+/// The new identifiers of a route.
+fn rewrites_of(route: &Route) -> ArrayVec<Rewrite, 32>
+    ensures { result.items ≡ route.now.rewrites }
+{
+    let mut rewrites = ArrayVec::new();
+    // a route has no more than 32
+    let _ = rewrites.try_extend_from_slice(route.rewrites());
+    rewrites
 }
 
 /// The two sides of a FIFO that was offered nothing.
@@ -70,7 +82,7 @@ fn lane_of(alloc: Global, script: &Script, route: usize, out: RxOut) -> Result<L
     let target = Place::of(script, said.target());
     let number = number_of(script, route, said.target());
     Ok(Lane {
-        hand: RouteHand::new(alloc, out, aborts),
+        hand: RouteHand::new(alloc, out, aborts, rewrites_of(said)),
         source,
         fifo: said.fifo(),
         target,

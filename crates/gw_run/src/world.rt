@@ -1,11 +1,11 @@
 //! All segments and routes of a run.
 
-ghost use Rattle.std.specs.Prelude.{◌≡◌, ◌<◌, ◌+◌, ℕ, List, OnOk, Some, length, slice_get};
+ghost use Rattle.std.specs.Prelude.{◌≡◌, ◌<◌, ◌≤◌, ◌+◌, ℕ, List, OnOk, Some, length, slice_get};
 ghost use Rattle.can_segment.specs.Places.{AtPlaces};
 ghost use Rattle.gw_run.specs.declared.site.Site.{Site};
 ghost use Rattle.gw_run.specs.declared.lane.Lane.{Lane};
 ghost use Rattle.gw_run.specs.Sites.{SiteHolds, SiteMoves};
-ghost use Rattle.gw_run.specs.Worlds.{Leads, LaneTurns, LanesKeep, SitesKeep, WorldHolds, SameSegments, HaveMade};
+ghost use Rattle.gw_run.specs.Worlds.{Leads, LaneTurns, LanesKeep, SitesKeep, WorldHolds, SameSegments, HaveMade, CountsTurn, HaveTurned, NoneShort};
 
 use crate::lane::{Lane, turn_on};
 use crate::site::Site;
@@ -30,7 +30,9 @@ pub(crate) fn make_bits<R: Wait>(rt: &R, sites: &mut [Site]) -> Result<(), Memor
 /// One turn of a route. `Memory` where it was refused to the hand, or to the mailboxes at any time before.
 fn turn_of<R: Wait>(rt: &R, sites: &mut [Site], lane: &mut Lane) -> Result<(), Memory>
     requires { Leads sites.old lane.old }
-    ensures { LaneTurns sites.old sites.new lane.old lane.new }
+    ensures turns { LaneTurns sites.old sites.new lane.old lane.new }
+    ensures counted { OnOk result (CountsTurn lane.old lane.new) }
+    ensures short { OnOk result (NoneShort sites.old → NoneShort sites.new) }
 {
     let place = lane.target;
     turn_on(
@@ -49,6 +51,8 @@ pub(crate) fn make_turns<R: Wait>(
 ) -> Result<(), Memory>
     requires { WorldHolds sites.old lanes.old }
     ensures world { OnOk result (WorldHolds sites.new lanes.new) }
+    ensures counted { OnOk result (AtPlaces (λ k. CountsTurn) lanes.old lanes.new) }
+    ensures short { OnOk result (NoneShort sites.old → NoneShort sites.new) }
     ensures segments { OnOk result (SameSegments sites.old sites.new) }
     ensures lanes { OnOk result (LanesKeep lanes.old lanes.new) }
     ensures keeps { OnOk result (SitesKeep lanes.old sites.old sites.new) }
@@ -70,10 +74,14 @@ fn step<R: Wait>(
 ) -> Result<(), Memory>
     requires world { WorldHolds sites.old lanes.old }
     requires made { HaveMade bits bit sites.old }
+    requires turned { HaveTurned turn bit lanes.old }
+    requires few { bits ≤ 1000000 }
     requires still { bit < bits }
     requires turn { 0 < turn }
     ensures world { OnOk result (WorldHolds sites.new lanes.new) }
     ensures made { OnOk result (HaveMade bits (bit + 1) sites.new) }
+    ensures turned { OnOk result (HaveTurned turn (bit + 1) lanes.new) }
+    ensures short { OnOk result (NoneShort sites.old → NoneShort sites.new) }
     ensures lanes { OnOk result (LanesKeep lanes.old lanes.new) }
     ensures keeps { OnOk result (SitesKeep lanes.old sites.old sites.new) }
 {
@@ -95,9 +103,13 @@ pub(crate) fn make_all<R: Wait>(
 ) -> Result<(), Memory>
     requires world { WorldHolds sites.old lanes.old }
     requires made { HaveMade bits 0 sites.old }
+    requires turned { HaveTurned turn 0 lanes.old }
+    requires few { bits ≤ 1000000 }
     requires turn { 0 < turn }
     ensures world { OnOk result (WorldHolds sites.new lanes.new) }
     ensures made { OnOk result (HaveMade bits bits sites.new) }
+    ensures turned { OnOk result (HaveTurned turn bits lanes.new) }
+    ensures short { OnOk result (NoneShort sites.old → NoneShort sites.new) }
     ensures lanes { OnOk result (LanesKeep lanes.old lanes.new) }
     ensures keeps { OnOk result (SitesKeep lanes.old sites.old sites.new) }
 {

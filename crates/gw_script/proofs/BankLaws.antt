@@ -3,6 +3,7 @@ use Rattle.std.proofs.Common.{◌≡◌, ◌∙◌, ap, sym, refl, List, [], ◌
 use Rattle.serde_json.specs.Data.{Items}
 use Rattle.bx_rx.specs.Bank.{BankValue, unlisted}
 use Rattle.bx_rx.specs.Banks.{bank_count}
+use Rattle.gw_script.specs.declared.version.Version.{Version}
 use Rattle.gw_script.specs.declared.bank_list.ListedBank.{ListedBank}
 use Rattle.gw_script.specs.Faults.{Fault}
 use Rattle.gw_script.specs.Fields.{each_after, ◌>>=◌}
@@ -12,11 +13,11 @@ pub set_all-snoc : (banks : List BankValue) (listed : List ListedBank) (b : List
 set_all-snoc banks [] b = refl
 set_all-snoc banks (l ∷ ls) b = set_all-snoc (slice_set banks l.number l.settings) ls b
 
-pub banks_are_read : (items : Items) (listed : List ListedBank) (banks : List BankValue) → each_after listed_bank [] items ≡ Ok listed → banks ≡ set_all (replicate bank_count unlisted) listed →
-    banks_with items ≡ Ok banks
+pub banks_are_read : (version : Version) (items : Items) (listed : List ListedBank) (banks : List BankValue) → each_after (listed_bank version) [] items ≡ Ok listed → banks ≡ set_all (replicate bank_count unlisted) listed →
+    banks_with version items ≡ Ok banks
 unfolding banks_with
-banks_are_read items listed banks e is = ap (λ r. r >>= λ bs. Ok (set_all (replicate bank_count unlisted) bs)) e ∙ ap Ok (sym is)
+banks_are_read version items listed banks e is = ap (λ r. r >>= λ bs. Ok (set_all (replicate bank_count unlisted) bs)) e ∙ ap Ok (sym is)
 
-pub banks_are_refused : (items : Items) (f : Fault) → each_after listed_bank [] items ≡ Err f → banks_with items ≡ Err f
+pub banks_are_refused : (version : Version) (items : Items) (f : Fault) → each_after (listed_bank version) [] items ≡ Err f → banks_with version items ≡ Err f
 unfolding banks_with
-banks_are_refused items f e = ap (λ r. r >>= λ bs. Ok (set_all (replicate bank_count unlisted) bs)) e
+banks_are_refused version items f e = ap (λ r. r >>= λ bs. Ok (set_all (replicate bank_count unlisted) bs)) e

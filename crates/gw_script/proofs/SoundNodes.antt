@@ -9,6 +9,7 @@ use Rattle.std.specs.Str.{bytes_eq}
 use Rattle.serde_json.specs.Data.{Data}
 use Rattle.serde_json.specs.Find.{get}
 use Rattle.bx_core.specs.Lists.{Each}
+use Rattle.gw_script.specs.declared.version.Version.{Version}
 use Rattle.gw_script.specs.declared.node_place.NodePlace.{NodePlace}
 use Rattle.gw_script.specs.declared.planned_fault.PlannedFault.{PlannedFault}
 use Rattle.gw_script.specs.declared.planned_fault.PlannedFault.TheVariants.{AtNode, OnLine}
@@ -18,6 +19,7 @@ use Rattle.gw_script.specs.Names.{is_among, new_name, place_named}
 use Rattle.gw_script.specs.Talkers.{talker_names, most_nodes}
 use Rattle.gw_script.specs.Segments.{SegmentValue, segment_names, all_talker_names, segments_of}
 use Rattle.gw_script.specs.BankLists.{banks_of}
+use Rattle.gw_script.specs.Rewrites.{rewrites_of}
 use Rattle.gw_script.specs.Controllers.{ControllerValue, controller_names, controllers_on, node_names, node_count, controller_with, controller_of, controllers_of}
 use Rattle.gw_script.specs.Routes.{RouteValue, route_names, takes_from, routes_into, placed, route_with, route_of, routes_of}
 use Rattle.gw_script.specs.PlannedFaults.{or_later, node_from, node_fault, line_fault, fault_with, planned_fault_of, planned_faults_of}
@@ -72,25 +74,25 @@ controllers_more segments front c before here = record {
   few = nodes_more segments front c before.few here.room;
 }
 
-controller_room : (bits : ℕ) (segments : List SegmentValue) (front : List ControllerValue) (name : List ℕ) (segment : ℕ) (from : Data) (c : ControllerValue) →
-    controller_with bits segments front name segment from ≡ Ok c → (name ≡ c.name) × (node_count front c.segment (slice_get segments c.segment) < 16)
+controller_room : (version : Version) (bits : ℕ) (segments : List SegmentValue) (front : List ControllerValue) (name : List ℕ) (segment : ℕ) (from : Data) (c : ControllerValue) →
+    controller_with version bits segments front name segment from ≡ Ok c → (name ≡ c.name) × (node_count front c.segment (slice_get segments c.segment) < 16)
 unfolding controller_with
-controller_room bits segments front name segment from c e =
+controller_room version bits segments front name segment from c e =
     from_bind (whole (codes "on") 0 (bits - 1) from) _ c e (λ on is_on e1.
     from_bind (optional_truth (codes "txfp") true from) _ c e1 (λ txfp is_txfp e2.
-    from_bind (banks_of from) _ c e2 (λ banks are_banks e3.
+    from_bind (banks_of version from) _ c e2 (λ banks are_banks e3.
     let read : ControllerValue = record { name = name; segment = segment; on = on; txfp = txfp; banks = banks } in
     let test = passed_ok (nat_lt (node_count front segment (slice_get segments segment)) most_nodes) read c (too_many (codes "controllers")) e3 in
     let P : ControllerValue → Type 0 = λ one. (name ≡ one.name) × (node_count front one.segment (slice_get segments one.segment) < 16) in
     subst P test.1 (refl, ltb-true (node_count front segment (slice_get segments segment)) 16 test.0))))
 
-controller_ok : (bits : ℕ) (segments : List SegmentValue) (front : List ControllerValue) (value : Data) (c : ControllerValue) → controller_of bits segments front value ≡ Ok c → IsNewController segments front c
+controller_ok : (version : Version) (bits : ℕ) (segments : List SegmentValue) (front : List ControllerValue) (value : Data) (c : ControllerValue) → controller_of version bits segments front value ≡ Ok c → IsNewController segments front c
 unfolding controller_of
-controller_ok bits segments front value c e =
+controller_ok version bits segments front value c e =
     from_bind (object_of (codes "controllers") value) _ c e (λ from is_object e1.
     from_bind (new_name (codes "controllers") (all_talker_names segments ++ controller_names front) from) _ c e1 (λ name is_name e2.
     from_bind (place_named (codes "segment") (segment_names segments) from) _ c e2 (λ segment is_segment e3.
-    let room = controller_room bits segments front name segment from c e3 in
+    let room = controller_room version bits segments front name segment from c e3 in
     record {
       name = ap (λ n. is_among n (all_talker_names segments ++ controller_names front)) (sym room.0)
           ∙ new_name_ok (codes "controllers") (all_talker_names segments ++ controller_names front) from name is_name;
@@ -103,12 +105,12 @@ few_at [] k place few = omega arith
 few_at (s ∷ ss) zero place few = omega (arith, few.0)
 few_at (s ∷ ss) (suc k) place few = few_at ss k place few.1
 
-pub controllers_ok : (bits : ℕ) (segments : List SegmentValue) (from : Data) (cs : List ControllerValue) → AreApart (all_talker_names segments) → Each HasFewTalkers segments →
-    controllers_of bits segments from ≡ Ok cs → AreNewControllers segments cs
+pub controllers_ok : (version : Version) (bits : ℕ) (segments : List SegmentValue) (from : Data) (cs : List ControllerValue) → AreApart (all_talker_names segments) → Each HasFewTalkers segments →
+    controllers_of version bits segments from ≡ Ok cs → AreNewControllers segments cs
 unfolding controllers_of
-controllers_ok bits segments from cs apart few e =
+controllers_ok version bits segments from cs apart few e =
     from_bind (list (codes "controllers") 16 from) _ cs e (λ items is_list e1.
-    each_after_keeps (controller_of bits segments) (AreNewControllers segments) (λ front d c before is. controllers_more segments front c before (controller_ok bits segments front d c is)) [] cs items
+    each_after_keeps (controller_of version bits segments) (AreNewControllers segments) (λ front d c before is. controllers_more segments front c before (controller_ok version bits segments front d c is)) [] cs items
     (record { names = subst AreApart (sym (append-nil (all_talker_names segments))) apart; few = λ place. few_at segments place place few }) e1)
 
 -- routes that are read have names and FIFOs of their own, and at most eight lead into one controller
@@ -158,26 +160,27 @@ placed_ok front read r e =
       let P : RouteValue → Type 0 = λ one. routes_into one.target front < 8 in subst P h.0 (ltb-true (routes_into read.target front) 8 h.2),
     )
 
-route_ok : (controllers : List ControllerValue) (front : List RouteValue) (value : Data) (r : RouteValue) → route_of controllers front value ≡ Ok r → IsNewRoute front r
+route_ok : (version : Version) (controllers : List ControllerValue) (front : List RouteValue) (value : Data) (r : RouteValue) → route_of version controllers front value ≡ Ok r → IsNewRoute front r
 unfolding route_of route_with
-route_ok controllers front value r e =
+route_ok version controllers front value r e =
     from_bind (object_of (codes "routes") value) _ r e (λ from is_object e1.
     from_bind (new_name (codes "routes") (route_names front) from) _ r e1 (λ name is_name e2.
     from_bind (place_named (codes "from") (controller_names controllers) from) _ r e2 (λ source is_source e3.
     from_bind (whole (codes "fifo") 0 1 from) _ r e3 (λ fifo is_fifo e4.
     from_bind (place_named (codes "to") (controller_names controllers) from) _ r e4 (λ target is_target e5.
-    let h = placed_ok front (record { name = name; source = source; fifo = fifo; target = target }) r e5 in
+    from_bind (rewrites_of version from) _ r e5 (λ rewrites are_rewrites e6.
+    let h = placed_ok front (record { name = name; source = source; fifo = fifo; target = target; rewrites = rewrites }) r e6 in
     record {
       name = ap (λ (one : RouteValue). is_among one.name (route_names front)) (sym h.0) ∙ new_name_ok (codes "routes") (route_names front) from name is_name;
       fifo = h.1;
       room = h.2;
-    })))))
+    }))))))
 
-pub routes_ok : (controllers : List ControllerValue) (from : Data) (rs : List RouteValue) → routes_of controllers from ≡ Ok rs → AreNewRoutes rs
+pub routes_ok : (version : Version) (controllers : List ControllerValue) (from : Data) (rs : List RouteValue) → routes_of version controllers from ≡ Ok rs → AreNewRoutes rs
 unfolding routes_of
-routes_ok controllers from rs e =
+routes_ok version controllers from rs e =
     from_bind (list (codes "routes") 16 from) _ rs e (λ items is_list e1.
-    each_after_keeps (route_of controllers) AreNewRoutes (λ front d r before is. routes_more front r before (route_ok controllers front d r is)) [] rs items
+    each_after_keeps (route_of version controllers) AreNewRoutes (λ front d r before is. routes_more front r before (route_ok version controllers front d r is)) [] rs items
     (record { names = λ i j d below within. absurd (omega arith); fifos = λ i j d below within. absurd (omega arith); few = λ controller. omega arith }) e1)
 
 -- a planned fault is at a node of its segment, by the names of the nodes there
@@ -294,12 +297,12 @@ each_weaker P Q goes [] h = tt
 each_weaker P Q goes (x ∷ xs) h = (goes x h.0, each_weaker P Q goes xs h.1)
 
 -- a script whose lists are read is orderly
-pub script_orderly : (s : ScriptValue) (bits : ℕ) (from : Data) → segments_of bits from ≡ Ok s.segments → controllers_of bits s.segments from ≡ Ok s.controllers →
-    routes_of s.controllers from ≡ Ok s.routes → planned_faults_of bits s.segments s.controllers from ≡ Ok s.faults → IsOrderly s
-script_orderly s bits from segments controllers routes faults =
+pub script_orderly : (version : Version) (s : ScriptValue) (bits : ℕ) (from : Data) → segments_of bits from ≡ Ok s.segments → controllers_of version bits s.segments from ≡ Ok s.controllers →
+    routes_of version s.controllers from ≡ Ok s.routes → planned_faults_of bits s.segments s.controllers from ≡ Ok s.faults → IsOrderly s
+script_orderly version s bits from segments controllers routes faults =
     let a = segments_ok bits from s.segments segments in
-    let b = controllers_ok bits s.segments from s.controllers a.talkers a.few controllers in
-    let d = routes_ok s.controllers from s.routes routes in
+    let b = controllers_ok version bits s.segments from s.controllers a.talkers a.few controllers in
+    let d = routes_ok version s.controllers from s.routes routes in
     record {
       few_nodes = λ segment lt. let h = within s.segments segment lt in few_on s segment h.0 h.1 b.few;
       few_into = d.few;

@@ -1,5 +1,5 @@
 -- The filter banks that a script lists for a controller.
-use Rattle.std.specs.Prelude.{ℕ, ◌==◌, List, [], ◌∷◌, replicate, slice_set, codes, Result, Ok, Err, if◌then◌else◌}
+use Rattle.std.specs.Prelude.{ℕ, ◌-◌, ◌==◌, List, [], ◌∷◌, replicate, slice_set, codes, Result, Ok, Err, if◌then◌else◌}
 use Rattle.std.specs.List.{list_any}
 use Rattle.std.specs.Str.{bytes_eq}
 use Rattle.serde_json.specs.Data.{Data, Items}
@@ -9,7 +9,9 @@ use Rattle.bx_rx.specs.declared.mode.Mode.{Mode}
 use Rattle.bx_rx.specs.declared.mode.Mode.TheVariants as mode
 use Rattle.bx_rx.specs.Bank.{BankValue, unlisted}
 use Rattle.bx_rx.specs.Banks.{bank_count}
+use Rattle.gw_script.specs.declared.version.Version.{Version}
 use Rattle.gw_script.specs.declared.bank_list.ListedBank.{ListedBank}
+use Rattle.gw_script.specs.Versions.{listed_banks}
 use Rattle.gw_script.specs.Faults.{Fault, out_of_range, double_name}
 use Rattle.gw_script.specs.Fields.{◌>>=◌, object_of, natural, whole, truth, text, list, each_after}
 
@@ -43,16 +45,16 @@ settings_of from = do
   Ok (record { scale = scale; mode = mode; fifo = fifo; active = active; r1 = r1; r2 = r2 })
 
 -- a bank's number, which those in front of it don't have
-unfoldable pub number_of : List ListedBank → Data → Result ℕ Fault
-number_of front from = do
-  number ← whole (codes "bank") 0 13 from
+unfoldable pub number_of : Version → List ListedBank → Data → Result ℕ Fault
+number_of version front from = do
+  number ← whole (codes "bank") 0 (listed_banks version - 1) from
   if list_any (λ (b : ListedBank). b.number == number) front then Err (double_name (codes "bank")) else Ok number
 
 -- an element of the list, behind those in front of it
-unfoldable pub listed_bank : List ListedBank → Data → Result ListedBank Fault
-listed_bank front value = do
+unfoldable pub listed_bank : Version → List ListedBank → Data → Result ListedBank Fault
+listed_bank version front value = do
   from ← object_of (codes "banks") value
-  number ← number_of front from
+  number ← number_of version front from
   settings ← settings_of from
   Ok (record { number = number; settings = settings })
 
@@ -62,13 +64,13 @@ set_all banks [] = banks
 set_all banks (b ∷ bs) = set_all (slice_set banks b.number b.settings) bs
 
 -- All banks of a controller. One that is not listed is 16 bit, mask, FIFO 0, inactive, both registers 0.
-unfoldable pub banks_with : Items → Result (List BankValue) Fault
-banks_with items = do
-  listed ← each_after listed_bank [] items
+unfoldable pub banks_with : Version → Items → Result (List BankValue) Fault
+banks_with version items = do
+  listed ← each_after (listed_bank version) [] items
   Ok (set_all (replicate bank_count unlisted) listed)
 
 -- at most one listing a bank
-unfoldable pub banks_of : Data → Result (List BankValue) Fault
-banks_of from = do
-  items ← list (codes "banks") bank_count from
-  banks_with items
+unfoldable pub banks_of : Version → Data → Result (List BankValue) Fault
+banks_of version from = do
+  items ← list (codes "banks") (listed_banks version) from
+  banks_with version items

@@ -2,6 +2,7 @@
 use Rattle.std.specs.Prelude.{ℕ, ◌-◌, ◌+◌, ◌==◌, nat_lt, Bool, true, List, [], ◌++◌, length, map, filter, count_by, codes, Option, Some, None, slice_get, Result, Ok, Err, if◌then◌else◌}
 use Rattle.serde_json.specs.Data.{Data}
 use Rattle.bx_rx.specs.Bank.{BankValue}
+use Rattle.gw_script.specs.declared.version.Version.{Version}
 use Rattle.gw_script.specs.Faults.{Fault, too_many}
 use Rattle.gw_script.specs.Fields.{◌>>=◌, object_of, whole, optional_truth, list, each_after}
 use Rattle.gw_script.specs.Names.{new_name, place_named}
@@ -40,23 +41,23 @@ with_room segments front c =
     if nat_lt (node_count front c.segment (slice_get segments c.segment)) most_nodes then Ok c else Err (too_many (codes "controllers"))
 
 -- `on`, `txfp` and `banks` of a controller with this name and segment, and the room for it
-unfoldable pub controller_with : ℕ → List SegmentValue → List ControllerValue → List ℕ → ℕ → Data → Result ControllerValue Fault
-controller_with bits segments front name segment from = do
+unfoldable pub controller_with : Version → ℕ → List SegmentValue → List ControllerValue → List ℕ → ℕ → Data → Result ControllerValue Fault
+controller_with version bits segments front name segment from = do
   on ← whole (codes "on") 0 (bits - 1) from
   txfp ← optional_truth (codes "txfp") true from
-  banks ← banks_of from
+  banks ← banks_of version from
   with_room segments front (record { name = name; segment = segment; on = on; txfp = txfp; banks = banks })
 
 -- A controller in a run of so many bits, behind those in front of it. Its name is none of a talker either.
-unfoldable pub controller_of : ℕ → List SegmentValue → List ControllerValue → Data → Result ControllerValue Fault
-controller_of bits segments front value = do
+unfoldable pub controller_of : Version → ℕ → List SegmentValue → List ControllerValue → Data → Result ControllerValue Fault
+controller_of version bits segments front value = do
   from ← object_of (codes "controllers") value
   name ← new_name (codes "controllers") (all_talker_names segments ++ controller_names front) from
   segment ← place_named (codes "segment") (segment_names segments) from
-  controller_with bits segments front name segment from
+  controller_with version bits segments front name segment from
 
 -- at most 16 of them
-unfoldable pub controllers_of : ℕ → List SegmentValue → Data → Result (List ControllerValue) Fault
-controllers_of bits segments from = do
+unfoldable pub controllers_of : Version → ℕ → List SegmentValue → Data → Result (List ControllerValue) Fault
+controllers_of version bits segments from = do
   items ← list (codes "controllers") 16 from
-  each_after (controller_of bits segments) [] items
+  each_after (controller_of version bits segments) [] items

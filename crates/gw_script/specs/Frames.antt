@@ -1,5 +1,5 @@
 -- A frame as a JSON object.
-use Rattle.std.specs.Prelude.{ℕ, ◌^◌, nat_lt, Bool, true, false, codes, Option, Some, None, Result, Ok, Err, if◌then◌else◌}
+use Rattle.std.specs.Prelude.{ℕ, ◌^◌, nat_lt, Bool, true, false, List, codes, Option, Some, None, Result, Ok, Err, if◌then◌else◌}
 use Rattle.serde_json.specs.Data.{Data}
 use Rattle.serde_json.specs.Find.{get}
 use Rattle.can_frame.specs.Frames.{Identifier, standard, extended, data_bytes, remote_code, FrameValue}
@@ -7,16 +7,16 @@ use Rattle.gw_script.specs.Faults.{Fault, missing, out_of_range}
 use Rattle.gw_script.specs.Fields.{◌>>=◌, natural, truth, whole_of, list_of, each}
 
 -- a number as an identifier of 29 bits, or of 11
-abbrev pub identifier_with : Bool → ℕ → Result Identifier Fault
-identifier_with true n = if nat_lt n (2 ^ 29) then Ok (extended n) else Err (out_of_range (codes "id"))
-identifier_with false n = if nat_lt n (2 ^ 11) then Ok (standard n) else Err (out_of_range (codes "id"))
+abbrev pub identifier_with : List ℕ → Bool → ℕ → Result Identifier Fault
+identifier_with name true n = if nat_lt n (2 ^ 29) then Ok (extended n) else Err (out_of_range name)
+identifier_with name false n = if nat_lt n (2 ^ 11) then Ok (standard n) else Err (out_of_range name)
 
 -- `id`, then `ext`, then the identifier's range
 unfoldable pub identifier_of : Data → Result Identifier Fault
 identifier_of from = do
   n ← natural (codes "id") from
   is_extended ← truth (codes "ext") from
-  identifier_with is_extended n
+  identifier_with (codes "id") is_extended n
 
 -- a data frame of at most eight bytes
 unfoldable pub data_frame : Identifier → Data → Result FrameValue Fault

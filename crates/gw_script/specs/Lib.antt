@@ -1,6 +1,8 @@
 pub mod Faults
 pub mod Fields
+pub mod Versions
 pub mod Frames
+pub mod Rewrites
 pub mod EventLists
 pub mod Documents
 pub mod Names

@@ -6,7 +6,6 @@ use Rattle.can_node.specs.declared.confinement.ErrorState.{ErrorState}
 use Rattle.can_node.specs.declared.confinement.ErrorState.TheVariants.{Active, Passive, Off}
 use Rattle.can_node.specs.declared.outcome.ErrorKind.{ErrorKind}
 use Rattle.can_node.specs.declared.outcome.ErrorKind.TheVariants.{Bit, Stuff, Form, Ack, Crc}
-use Rattle.can_node.specs.declared.counters.Counters.{Counters}
 use Rattle.can_node.specs.Confinement.{Counts, state_of}
 use Rattle.can_node.specs.Counters.{counts_of}
 use Rattle.can_segment.specs.declared.event.Event.{Event}

@@ -2,17 +2,21 @@
 use Rattle.std.specs.Prelude.{ℕ, ◌&&◌, ◌==◌, nat_lt, Bool, List, [], length, map, count_by, codes, Result, Ok, Err, if◌then◌else◌}
 use Rattle.std.specs.List.{list_any}
 use Rattle.serde_json.specs.Data.{Data}
+use Rattle.can_frame.specs.declared.rewrite.Rewrite.{Rewrite}
+use Rattle.gw_script.specs.declared.version.Version.{Version}
 use Rattle.gw_script.specs.Faults.{Fault, fifo_twice, too_many}
 use Rattle.gw_script.specs.Fields.{◌>>=◌, object_of, whole, list, each_after}
 use Rattle.gw_script.specs.Names.{new_name, place_named}
 use Rattle.gw_script.specs.Controllers.{ControllerValue, controller_names}
+use Rattle.gw_script.specs.Rewrites.{rewrites_of}
 
--- its name, the places of its controllers, and the FIFO that it takes from
+-- its name, the places of its controllers, the FIFO that it takes from, and the new identifiers under which it sends frames on
 pub record RouteValue : Type 0 where
   pub name : List ℕ
   pub source : ℕ
   pub fifo : ℕ
   pub target : ℕ
+  pub rewrites : List Rewrite
 
 abbrev pub route_names : List RouteValue → List (List ℕ)
 route_names routes = map (λ (r : RouteValue). r.name) routes
@@ -32,22 +36,23 @@ placed front r =
     else (if nat_lt (routes_into r.target front) 8 then Ok r else Err (too_many (codes "routes")))
 
 -- the fields behind the name
-unfoldable pub route_with : List ControllerValue → List RouteValue → List ℕ → Data → Result RouteValue Fault
-route_with controllers front name from = do
+unfoldable pub route_with : Version → List ControllerValue → List RouteValue → List ℕ → Data → Result RouteValue Fault
+route_with version controllers front name from = do
   source ← place_named (codes "from") (controller_names controllers) from
   fifo ← whole (codes "fifo") 0 1 from
   target ← place_named (codes "to") (controller_names controllers) from
-  placed front (record { name = name; source = source; fifo = fifo; target = target })
+  rewrites ← rewrites_of version from
+  placed front (record { name = name; source = source; fifo = fifo; target = target; rewrites = rewrites })
 
 -- a route behind those in front of it
-unfoldable pub route_of : List ControllerValue → List RouteValue → Data → Result RouteValue Fault
-route_of controllers front value = do
+unfoldable pub route_of : Version → List ControllerValue → List RouteValue → Data → Result RouteValue Fault
+route_of version controllers front value = do
   from ← object_of (codes "routes") value
   name ← new_name (codes "routes") (route_names front) from
-  route_with controllers front name from
+  route_with version controllers front name from
 
 -- at most 16 of them
-unfoldable pub routes_of : List ControllerValue → Data → Result (List RouteValue) Fault
-routes_of controllers from = do
+unfoldable pub routes_of : Version → List ControllerValue → Data → Result (List RouteValue) Fault
+routes_of version controllers from = do
   items ← list (codes "routes") 16 from
-  each_after (route_of controllers) [] items
+  each_after (route_of version controllers) [] items

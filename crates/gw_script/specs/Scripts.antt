@@ -1,10 +1,12 @@
 -- A script: segments with talkers, controllers with filter banks, routes between them, and planned faults and aborts.
-use Rattle.std.specs.Prelude.{ℕ, ◌==◌, List, codes, Result, Ok, Err, if◌then◌else◌}
+use Rattle.std.specs.Prelude.{ℕ, List, codes, Result, Ok}
 use Rattle.serde_json.specs.Data.{Data}
 use Rattle.gw_script.specs.declared.planned_fault.PlannedFault.{PlannedFault}
 use Rattle.gw_script.specs.declared.planned_abort.PlannedAbort.{PlannedAbort}
-use Rattle.gw_script.specs.Faults.{Fault, wrong_version}
-use Rattle.gw_script.specs.Fields.{◌>>=◌, object_of, natural, whole}
+use Rattle.gw_script.specs.declared.version.Version.{Version}
+use Rattle.gw_script.specs.Versions.{version_of}
+use Rattle.gw_script.specs.Faults.{Fault}
+use Rattle.gw_script.specs.Fields.{◌>>=◌, object_of, whole}
 use Rattle.gw_script.specs.Segments.{SegmentValue, segments_of}
 use Rattle.gw_script.specs.Controllers.{ControllerValue, controllers_of}
 use Rattle.gw_script.specs.Routes.{RouteValue, routes_of}
@@ -20,18 +22,12 @@ pub record ScriptValue : Type 0 where
   pub faults : List PlannedFault
   pub aborts : List PlannedAbort
 
--- the version is 1
-unfoldable pub version_of : Data → Result ℕ Fault
-version_of from = do
-  version ← natural (codes "version") from
-  if version == 1 then Ok version else Err wrong_version
-
--- the lists of a script that runs for so many bits
-unfoldable pub lists_of : ℕ → Data → Result ScriptValue Fault
-lists_of bits from = do
+-- the lists of a script of this version that runs for so many bits
+unfoldable pub lists_of : Version → ℕ → Data → Result ScriptValue Fault
+lists_of version bits from = do
   segments ← segments_of bits from
-  controllers ← controllers_of bits segments from
-  routes ← routes_of controllers from
+  controllers ← controllers_of version bits segments from
+  routes ← routes_of version controllers from
   faults ← planned_faults_of bits segments controllers from
   aborts ← planned_aborts_of routes from
   Ok (record { bits = bits; segments = segments; controllers = controllers; routes = routes; faults = faults; aborts = aborts })
@@ -42,4 +38,4 @@ script_of value = do
   from ← object_of (codes "script") value
   version ← version_of from
   bits ← whole (codes "bits") 1 1000000 from
-  lists_of bits from
+  lists_of version bits from

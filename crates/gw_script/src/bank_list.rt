@@ -9,12 +9,10 @@ ghost use Rattle.gw_script.specs.BankLists.{scale_with, scale_of, mode_with, mod
 
 use crate::fields::{list, natural, object_of, text, truth, whole};
 use crate::script_fault::ScriptFault;
+use crate::version::Version;
 use bx_rx::{Bank, Banks, Mode, Scale};
 use serde_json::Value;
 use std::alloc::Global;
-
-/// How many banks a controller has.
-const BANKS: usize = 14;
 
 /// A bank's number, and what is set of it.
 #[derive(Clone, Copy)]
@@ -81,11 +79,12 @@ fn is_listed(banks: &[ListedBank], number: u8) -> bool
 
 /// A bank's number, where none in front of it has it.
 #[tactic(auto, unfolding(crate::specs::BankLists::number_of))]
-fn number_of(from: &Value, front: &[ListedBank]) -> Result<u8, ScriptFault>
-    ensures value { Reads (λ n. n) result (number_of front.now (view from.now)) }
+fn number_of(from: &Value, version: Version, front: &[ListedBank]) -> Result<u8, ScriptFault>
+    ensures value { Reads (λ n. n) result (number_of version front.now (view from.now)) }
     ensures range { IfOk result (λ n. n < bank_count) }
 {
-    let number = whole(from, "bank", 0, 13)? as u8;
+    let last = version.listed_banks() - 1;
+    let number = whole(from, "bank", 0, last as u64)? as u8;
     if is_listed(front, number) {
         Err(ScriptFault::DoubleName("bank"))
     } else {
@@ -95,12 +94,16 @@ fn number_of(from: &Value, front: &[ListedBank]) -> Result<u8, ScriptFault>
 
 /// An element of the list, behind those in front of it.
 #[tactic(auto, unfolding(crate::specs::BankLists::listed_bank))]
-fn listed_bank(value: &Value, front: &[ListedBank]) -> Result<ListedBank, ScriptFault>
-    ensures value { Reads (λ b. b) result (listed_bank front.now (view value.now)) }
+fn listed_bank(
+    value: &Value,
+    version: Version,
+    front: &[ListedBank],
+) -> Result<ListedBank, ScriptFault>
+    ensures value { Reads (λ b. b) result (listed_bank version front.now (view value.now)) }
     ensures range { IfOk result (λ b. b.number < bank_count) }
 {
     let from = object_of(value, "banks")?;
-    let number = number_of(from, front)?;
+    let number = number_of(from, version, front)?;
     match settings_of(from) {
         Ok(settings) => Ok(ListedBank { number, settings }),
         Err(fault) => Err(fault),
@@ -108,13 +111,13 @@ fn listed_bank(value: &Value, front: &[ListedBank]) -> Result<ListedBank, Script
 }
 
 /// All banks of a controller, after these are set.
-fn banks_with(alloc: Global, items: &[Value]) -> Result<Banks, ScriptFault>
-    ensures { ReadsUnlessMemory (λ banks. banks) result (banks_with (items_view items.now)) }
+fn banks_with(alloc: Global, items: &[Value], version: Version) -> Result<Banks, ScriptFault>
+    ensures { ReadsUnlessMemory (λ banks. banks) result (banks_with version (items_view items.now)) }
 {
     let mut banks = Banks::new();
     let mut front = Vec::new(alloc);
     for item in items {
-        let bank = match listed_bank(item, front.as_slice()) {
+        let bank = match listed_bank(item, version, front.as_slice()) {
             Ok(bank) => bank,
             Err(fault) => return Err(fault),
         };
@@ -126,11 +129,11 @@ fn banks_with(alloc: Global, items: &[Value]) -> Result<Banks, ScriptFault>
     Ok(banks)
 }
 
-/// All banks of a controller, by its list of at most 14.
+/// All banks of a controller, by its list of as many as the version allows.
 #[tactic(auto, unfolding(crate::specs::BankLists::banks_of))]
-pub fn banks_of(alloc: Global, from: &Value) -> Result<Banks, ScriptFault>
-    ensures { ReadsUnlessMemory (λ banks. banks) result (banks_of (view from.now)) }
+pub fn banks_of(alloc: Global, from: &Value, version: Version) -> Result<Banks, ScriptFault>
+    ensures { ReadsUnlessMemory (λ banks. banks) result (banks_of version (view from.now)) }
 {
-    let items = list(from, "banks", BANKS)?;
-    banks_with(alloc, items)
+    let items = list(from, "banks", version.listed_banks())?;
+    banks_with(alloc, items, version)
 }

@@ -15,6 +15,7 @@ use crate::name::{Named, owned, place_named};
 use crate::script_fault::ScriptFault;
 use crate::segment::{Segment, node_name};
 use crate::talker::MOST_NODES;
+use crate::version::Version;
 use bx_rx::Banks;
 use serde_json::Value;
 use std::alloc::Global;
@@ -116,6 +117,7 @@ fn has_room(segments: &[Segment], place: usize, controllers: &[Controller]) -> b
 fn controller_with(
     alloc: Global,
     from: &Value,
+    version: Version,
     bits: u32,
     segments: &[Segment],
     front: &[Controller],
@@ -125,12 +127,12 @@ fn controller_with(
     requires some { 1 ≤ bits }
     requires placed { segment < length segments.now }
     ensures value { ReadsUnlessMemory (λ c. c) result
-        (controller_with bits segments.now front.now name.now segment (view from.now)) }
+        (controller_with version bits segments.now front.now name.now segment (view from.now)) }
     ensures range { IfOk result (IsControllerIn bits segments.now) }
 {
     let on = whole(from, "on", 0, u64::from(bits - 1))? as u32;
     let txfp = optional_truth(from, "txfp", true)?;
-    let banks = match banks_of(alloc, from) {
+    let banks = match banks_of(alloc, from, version) {
         Ok(banks) => banks,
         Err(fault) => return Err(fault),
     };
@@ -153,37 +155,46 @@ fn controller_with(
 fn controller_of(
     alloc: Global,
     value: &Value,
+    version: Version,
     bits: u32,
     segments: &[Segment],
     front: &[Controller],
 ) -> Result<Controller, ScriptFault>
     requires { 1 ≤ bits }
     ensures value { ReadsUnlessMemory (λ c. c) result
-        (controller_of bits segments.now front.now (view value.now)) }
+        (controller_of version bits segments.now front.now (view value.now)) }
     ensures range { IfOk result (IsControllerIn bits segments.now) }
 {
     let from = object_of(value, "controllers")?;
     let name = node_name(from, "controllers", segments, front)?;
     let segment = place_named(from, "segment", segments)?;
-    controller_with(alloc, from, bits, segments, front, name, segment)
+    controller_with(alloc, from, version, bits, segments, front, name, segment)
 }
 
 /// The elements of the list of controllers, front to back.
 fn listed_controllers(
     alloc: Global,
     items: &[Value],
+    version: Version,
     bits: u32,
     segments: &[Segment],
 ) -> Result<Vec<Controller>, ScriptFault>
     requires { 1 ≤ bits }
     ensures value { ReadsUnlessMemory (λ v. v.items) result
-        (each_after (controller_of bits segments.now) [] (items_view items.now)) }
+        (each_after (controller_of version bits segments.now) [] (items_view items.now)) }
     ensures range { IfOk result (λ v. Each (IsControllerIn bits segments.now) v.items) }
     ensures count { IfOk result (λ v. length v.items ≡ length items.now) }
 {
     let mut controllers = Vec::new(alloc);
     for item in items {
-        let controller = match controller_of(alloc, item, bits, segments, controllers.as_slice()) {
+        let controller = match controller_of(
+            alloc,
+            item,
+            version,
+            bits,
+            segments,
+            controllers.as_slice(),
+        ) {
             Ok(controller) => controller,
             Err(fault) => return Err(fault),
         };
@@ -199,14 +210,15 @@ fn listed_controllers(
 pub fn controllers_of(
     alloc: Global,
     from: &Value,
+    version: Version,
     bits: u32,
     segments: &[Segment],
 ) -> Result<Vec<Controller>, ScriptFault>
     requires { 1 ≤ bits }
-    ensures value { ReadsUnlessMemory (λ v. v.items) result (controllers_of bits segments.now (view from.now)) }
+    ensures value { ReadsUnlessMemory (λ v. v.items) result (controllers_of version bits segments.now (view from.now)) }
     ensures range { IfOk result (λ v. Each (IsControllerIn bits segments.now) v.items) }
     ensures few { IfOk result (λ v. length v.items ≤ 16) }
 {
     let items = list(from, "controllers", MOST_CONTROLLERS)?;
-    listed_controllers(alloc, items, bits, segments)
+    listed_controllers(alloc, items, version, bits, segments)
 }

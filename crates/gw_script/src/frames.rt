@@ -32,8 +32,12 @@ fn standard_id(number: u64) -> Option<Id>
 }
 
 /// A number as an identifier of 29 bits, or of 11.
-fn identifier_with(is_extended: bool, number: u64) -> Result<Id, ScriptFault>
-    ensures { Reads (λ id. id) result (identifier_with is_extended number) }
+pub fn identifier_with(
+    is_extended: bool,
+    number: u64,
+    name: &'static str,
+) -> Result<Id, ScriptFault>
+    ensures { Reads (λ id. id) result (identifier_with name.entry.now is_extended number) }
 {
     let id = if is_extended {
         extended_id(number)
@@ -42,7 +46,7 @@ fn identifier_with(is_extended: bool, number: u64) -> Result<Id, ScriptFault>
     };
     match id {
         Some(id) => Ok(id),
-        None => Err(ScriptFault::Range("id")),
+        None => Err(ScriptFault::Range(name)),
     }
 }
 
@@ -53,7 +57,7 @@ fn identifier_of(from: &Value) -> Result<Id, ScriptFault>
 {
     let number = natural(from, "id")?;
     let is_extended = truth(from, "ext")?;
-    identifier_with(is_extended, number)
+    identifier_with(is_extended, number, "id")
 }
 
 /// The bytes in a list of at most eight.

@@ -18,6 +18,7 @@ mod printer;
 mod report;
 mod report_names;
 mod report_text;
+mod rewrites;
 mod route;
 mod route_report;
 mod script;
@@ -26,6 +27,7 @@ mod script_places;
 mod segment;
 mod standing;
 mod talker;
+mod version;
 
 pub use crate::controller::Controller;
 pub use crate::document::LIMIT;

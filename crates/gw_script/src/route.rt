@@ -7,12 +7,17 @@ ghost use Rattle.serde_json.specs.View.{view, items_view};
 ghost use Rattle.gw_script.specs.Faults.{ReadsUnlessMemory};
 ghost use Rattle.gw_script.specs.Fields.{each_after};
 ghost use Rattle.gw_script.specs.Routes.{takes_from, routes_into, route_with, route_of, routes_of};
+ghost use Rattle.gw_script.specs.Rewrites.{most_rewrites};
 ghost use Rattle.gw_script.specs.SoundScripts.{IsRouteIn};
 
 use crate::controller::Controller;
 use crate::fields::{list, object_of, whole};
 use crate::name::{Named, new_name, owned, place_named};
+use crate::rewrites::{MOST_REWRITES, rewrites_of};
 use crate::script_fault::ScriptFault;
+use crate::version::Version;
+use arrayvec::ArrayVec;
+use can_frame::Rewrite;
 use serde_json::Value;
 use std::alloc::Global;
 use std::marker::Model;
@@ -24,13 +29,14 @@ const MOST_ROUTES: usize = 16;
 const MOST_INTO_ONE: usize = 8;
 
 /// A way from a FIFO of one controller into another controller, or into the same. Contracts see its
-/// name, the places of the two controllers, and the FIFO.
+/// name, the places of the two controllers, the FIFO, and the new identifiers of frames.
 #[derive(Drop)]
 pub struct Route {
     name: String,
     source: usize,
     fifo: u8,
     target: usize,
+    rewrites: ArrayVec<Rewrite, MOST_REWRITES>,
 }
 
 impl Model for Route {
@@ -72,6 +78,14 @@ impl Route {
         self.target
     }
 
+    /// The new identifiers under which it sends frames on, at most 32 entries; none in version 1.
+    pub fn rewrites(&self) -> &[Rewrite]
+        ensures value { result.now ≡ self.now.rewrites }
+        ensures few { length result.now ≤ most_rewrites }
+    {
+        self.rewrites.as_slice()
+    }
+
     fn takes_from(&self, source: usize, fifo: u8) -> bool
         ensures { result ≡ takes_from source fifo self.now }
     {
@@ -107,17 +121,22 @@ fn count_into(routes: &[Route], target: usize) -> usize
 fn route_with(
     alloc: Global,
     from: &Value,
+    version: Version,
     controllers: &[Controller],
     front: &[Route],
     name: &str,
 ) -> Result<Route, ScriptFault>
     ensures value { ReadsUnlessMemory (λ r. r) result
-        (route_with controllers.now front.now name.now (view from.now)) }
+        (route_with version controllers.now front.now name.now (view from.now)) }
     ensures range { IfOk result (IsRouteIn controllers.now) }
 {
     let source = place_named(from, "from", controllers)?;
     let fifo = whole(from, "fifo", 0, 1)? as u8;
     let target = place_named(from, "to", controllers)?;
+    let rewrites = match rewrites_of(from, version) {
+        Ok(rewrites) => rewrites,
+        Err(fault) => return Err(fault),
+    };
     if is_taken(front, source, fifo) {
         return Err(ScriptFault::FifoTwice(front.len()));
     }
@@ -128,6 +147,7 @@ fn route_with(
             source,
             fifo,
             target,
+            rewrites,
         })
     } else {
         Err(ScriptFault::TooMany("routes"))
@@ -139,31 +159,33 @@ fn route_with(
 fn route_of(
     alloc: Global,
     value: &Value,
+    version: Version,
     controllers: &[Controller],
     front: &[Route],
 ) -> Result<Route, ScriptFault>
-    ensures value { ReadsUnlessMemory (λ r. r) result (route_of controllers.now front.now (view value.now)) }
+    ensures value { ReadsUnlessMemory (λ r. r) result (route_of version controllers.now front.now (view value.now)) }
     ensures range { IfOk result (IsRouteIn controllers.now) }
 {
     let from = object_of(value, "routes")?;
     let name = new_name(from, "routes", front)?;
-    route_with(alloc, from, controllers, front, name)
+    route_with(alloc, from, version, controllers, front, name)
 }
 
 /// The elements of the list of routes, front to back.
 fn listed_routes(
     alloc: Global,
     items: &[Value],
+    version: Version,
     controllers: &[Controller],
 ) -> Result<Vec<Route>, ScriptFault>
     ensures value { ReadsUnlessMemory (λ v. v.items) result
-        (each_after (route_of controllers.now) [] (items_view items.now)) }
+        (each_after (route_of version controllers.now) [] (items_view items.now)) }
     ensures range { IfOk result (λ v. Each (IsRouteIn controllers.now) v.items) }
     ensures count { IfOk result (λ v. length v.items ≡ length items.now) }
 {
     let mut routes = Vec::new(alloc);
     for item in items {
-        let route = match route_of(alloc, item, controllers, routes.as_slice()) {
+        let route = match route_of(alloc, item, version, controllers, routes.as_slice()) {
             Ok(route) => route,
             Err(fault) => return Err(fault),
         };
@@ -179,12 +201,13 @@ fn listed_routes(
 pub fn routes_of(
     alloc: Global,
     from: &Value,
+    version: Version,
     controllers: &[Controller],
 ) -> Result<Vec<Route>, ScriptFault>
-    ensures value { ReadsUnlessMemory (λ v. v.items) result (routes_of controllers.now (view from.now)) }
+    ensures value { ReadsUnlessMemory (λ v. v.items) result (routes_of version controllers.now (view from.now)) }
     ensures range { IfOk result (λ v. Each (IsRouteIn controllers.now) v.items) }
     ensures few { IfOk result (λ v. length v.items ≤ 16) }
 {
     let items = list(from, "routes", MOST_ROUTES)?;
-    listed_routes(alloc, items, controllers)
+    listed_routes(alloc, items, version, controllers)
 }

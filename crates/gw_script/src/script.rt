@@ -3,16 +3,16 @@
 ghost use Rattle.std.specs.Prelude.{◌≡◌, ◌<◌, ◌≤◌, length, slice_get, option_and_then, IfOk, IfErr, IfSome};
 ghost use Rattle.std.specs.Option.{option_map};
 ghost use Rattle.serde_json.specs.View.{view};
-ghost use Rattle.gw_script.specs.Faults.{Reads, ReadsUnlessMemory, UnlessMemory};
+ghost use Rattle.gw_script.specs.Faults.{ReadsUnlessMemory, UnlessMemory};
 ghost use Rattle.gw_script.specs.Documents.{IsTextOf, FirstFault};
 ghost use Rattle.gw_script.specs.Controllers.{controllers_on};
-ghost use Rattle.gw_script.specs.Scripts.{version_of, lists_of, script_of};
+ghost use Rattle.gw_script.specs.Scripts.{lists_of, script_of};
 ghost use Rattle.gw_script.specs.SoundScripts.{IsSound};
 ghost use Rattle.gw_script.specs.Nodes.{controller_places, controller_at, names_of_nodes, route_at, talkers_on};
 
 use crate::controller::{Controller, controllers_of, count_on};
 use crate::document::document;
-use crate::fields::{natural, object_of, whole};
+use crate::fields::{object_of, whole};
 use crate::planned_abort::{PlannedAbort, planned_aborts_of};
 use crate::planned_fault::{PlannedFault, planned_faults_of};
 use crate::route::{Route, routes_of};
@@ -20,6 +20,7 @@ use crate::script_fault::ScriptFault;
 use crate::script_places::{nth_into, nth_on};
 use crate::segment::{Segment, segments_of};
 use crate::talker::Talker;
+use crate::version::{Version, version_of};
 use serde_json::Value;
 use std::alloc::Global;
 use std::marker::Model;
@@ -156,30 +157,17 @@ impl Script {
     }
 }
 
-/// The version, which is 1.
-#[tactic(auto, unfolding(crate::specs::Scripts::version_of))]
-fn version_of(from: &Value) -> Result<u64, ScriptFault>
-    ensures { Reads (λ n. n) result (version_of (view from.now)) }
-{
-    let version = natural(from, "version")?;
-    if version == 1 {
-        Ok(version)
-    } else {
-        Err(ScriptFault::Version)
-    }
-}
-
-/// The lists of a script that runs for so many bits.
+/// The lists of a script of this version that runs for so many bits.
 #[tactic(auto, unfolding(crate::specs::Scripts::lists_of))]
-fn lists_of(alloc: Global, from: &Value, bits: u32) -> Result<Script, ScriptFault>
+fn lists_of(alloc: Global, from: &Value, version: Version, bits: u32) -> Result<Script, ScriptFault>
     requires some { 1 ≤ bits }
     requires few { bits ≤ 1000000 }
-    ensures value { ReadsUnlessMemory (λ s. s) result (lists_of bits (view from.now)) }
+    ensures value { ReadsUnlessMemory (λ s. s) result (lists_of version bits (view from.now)) }
     ensures sound { IfOk result IsSound }
 {
     let segments = segments_of(alloc, from, bits)?;
-    let controllers = controllers_of(alloc, from, bits, segments.as_slice())?;
-    let routes = routes_of(alloc, from, controllers.as_slice())?;
+    let controllers = controllers_of(alloc, from, version, bits, segments.as_slice())?;
+    let routes = routes_of(alloc, from, version, controllers.as_slice())?;
     let faults = planned_faults_of(
         alloc,
         from,
@@ -205,9 +193,9 @@ fn script_of(alloc: Global, value: &Value) -> Result<Script, ScriptFault>
     ensures sound { IfOk result IsSound }
 {
     let from = object_of(value, "script")?;
-    let _version = version_of(from)?;
+    let version = version_of(from)?;
     let bits = whole(from, "bits", 1, 1_000_000)? as u32;
-    lists_of(alloc, from, bits)
+    lists_of(alloc, from, version, bits)
 }
 
 /// Reads a script of at most `LIMIT` bytes, or tells its first fault. `Memory` may come instead wherever

@@ -132,6 +132,7 @@ fn tells_the_first_fault_of_a_list(rt: HostRuntime) -> Result<(), Fail> {
         ("{\"routes\":1}", "J2 Missing events"),
         ("{\"routes\":1,\"txfp\":0,\"events\":0}", "J3 Kind txfp"),
         ("{\"routes\":9,\"txfp\":0}", "J4 Range routes"),
+        ("{\"events\":0,\"txfp\":0,\"routes\":9}", "J4 Range routes"),
         ("{\"routes\":1,\"events\":{}}", "J3 Kind events"),
         ("{\"routes\":1,\"events\":[7]}", "J3 Kind events"),
         (
@@ -179,6 +180,32 @@ fn tells_the_first_fault_of_an_event(rt: HostRuntime) -> Result<(), Fail> {
             r#""event":"request","route":0,"mailbox":0,"number":1,"frame":[]"#,
             "J3 Kind frame",
         ),
+        // two faults: that of the earlier field is told, wherever it stands
+        (r#""route":-1,"event":"clam""#, "J4 Range event"),
+        (
+            r#""mailbox":"0","event":"claim","route":2"#,
+            "J4 Range route",
+        ),
+        (
+            r#""mailbox":"0","event":"request","route":2"#,
+            "J4 Range route",
+        ),
+        (
+            r#""mailbox":"0","event":"withdraw","route":2"#,
+            "J4 Range route",
+        ),
+        (
+            r#""mailbox":"0","event":"abort","route":2"#,
+            "J4 Range route",
+        ),
+        (
+            r#""number":"1","event":"request","route":0,"mailbox":3"#,
+            "J4 Range mailbox",
+        ),
+        (
+            r#""frame":0,"event":"request","route":0,"mailbox":0,"number":0"#,
+            "J4 Range number",
+        ),
     ] {
         assert!(rt;
             is_refused(
@@ -215,6 +242,15 @@ fn tells_the_first_fault_of_a_frame(rt: HostRuntime) -> Result<(), Fail> {
         (r#""id":0,"ext":false,"data":[0,true,256]"#, "J3 Kind data"),
         (r#""id":0,"ext":true,"remote":9"#, "J4 Range remote"),
         (r#""id":0,"ext":true,"remote":[]"#, "J3 Kind remote"),
+        // two faults, as above
+        (r#""ext":0,"id":"0""#, "J3 Kind id"),
+        (r#""ext":0,"id":2048"#, "J3 Kind ext"),
+        (r#""data":0,"id":2048,"ext":false"#, "J4 Range id"),
+        (r#""remote":0,"id":2048,"ext":false"#, "J4 Range id"),
+        (
+            r#""remote":"0","id":0,"ext":false,"data":[256]"#,
+            "J4 Range data",
+        ),
     ] {
         assert!(rt;
             is_refused(

@@ -28,7 +28,7 @@ const ONE_FRAME_REPORT: &str = "a 11 t started 000 data -\n\
      a node l tec 0 rec 0 active\n\
      a end 64\n";
 
-const THREE_FRAMES_REPORT: &str = "a 11 t started 000 data -\n\
+pub const THREE_FRAMES_REPORT: &str = "a 11 t started 000 data -\n\
      a 59 c took 11 000 data -\n\
      a 60 t completed 11 000 data -\n\
      a 64 t started 000 data -\n\
@@ -228,6 +228,23 @@ fn reports_on_a_gateway_that_makes_one_turn(rt: HostRuntime) -> Result<(), Fail>
 
 /// Two frames that wait when their controller is switched on: by identifier the second goes first, by order of requests
 /// the first.
+/// Eight frames into a FIFO of three, with turns behind bits 249 and 499: the fourth is discarded, the fifth
+/// finds the place of the first, and the others are discarded again.
+#[test]
+fn stores_a_frame_behind_an_overrun(rt: HostRuntime) -> Result<(), Fail> {
+    let alloc = rt.alloc();
+    let last = r#"{"id":0,"ext":false,"data":[]}]}]"#;
+    let frame = r#"{"id":0,"ext":false,"data":[]},"#;
+    let more = format!(in alloc; "{frame}{frame}{frame}{frame}{frame}{last}")?;
+    let eight = changed(alloc, THREE_FRAMES, last, more.as_str())?;
+    let longer = changed(alloc, eight.as_str(), r#""bits":300"#, r#""bits":600"#)?;
+    let words = ["bxgate", "run", "--turn", "250"];
+    let run = run_of(&rt, words.as_slice(), longer.as_str().as_bytes());
+    let route = "\nroute r accepted 8 overrun 4 released 2 completed 2 aborted 0 held 2\n";
+    assert!(rt; run.output.as_slice().ends_with(route.as_bytes()));
+    Ok(())
+}
+
 #[test]
 fn reports_on_a_gateway_by_either_priority(rt: HostRuntime) -> Result<(), Fail> {
     let alloc = rt.alloc();

@@ -1,5 +1,6 @@
-use Rattle.std.proofs.Common.{◌+◌}
+use Rattle.std.proofs.Common.{◌+◌, arith}
 use Rattle.gw_run.proofs.Passes.{made_bits, made_turns}
+use Rattle.gw_run.proofs.Counted.{turned_not, turned_once, short_bits}
 use Rattle.gw_run.proofs.Keeps.{sites-on}
 use Rattle.gw_run.proofs.world.step.Goals as goal
 
@@ -17,3 +18,17 @@ returns-then-bit-turn-ne0-clause-keeps g c = c.in_ok-make_bits.ensures.keeps c.a
 pub returns-clause-keeps : goal.returns-clause-keeps
 returns-clause-keeps g c =
     sites-on c.args.lanes.now c.args.sites.now c.make_bits.new.sites c.make_turns.new.sites (c.in_ok-make_bits.ensures.keeps c.args.lanes.now) c.in_ok-make_turns.ensures.keeps
+
+pub returns-then-bit-turn-ne0-clause-turned : goal.returns-then-bit-turn-ne0-clause-turned
+returns-then-bit-turn-ne0-clause-turned g c =
+    turned_not c.args.turn c.args.bit c.args.lanes.now c.requires.turn (λ due. absurd (omega (arith, due, c.if-bit-turn-ne0))) c.requires.turned
+
+pub returns-then-bit-turn-ne0-clause-short : goal.returns-then-bit-turn-ne0-clause-short
+returns-then-bit-turn-ne0-clause-short g c = λ h. short_bits c.args.sites.now c.make_bits.new.sites c.in_ok-make_bits.ensures.moves h
+
+pub returns-clause-turned : goal.returns-clause-turned
+returns-clause-turned g c =
+    turned_once c.args.turn c.args.bit c.args.lanes.now c.make_turns.new.lanes c.requires.turn (omega (arith, c.requires.still, c.requires.few)) (omega (arith, c.if-bit-turn-ne0)) c.in_ok-make_turns.ensures.counted c.requires.turned
+
+pub returns-clause-short : goal.returns-clause-short
+returns-clause-short g c = λ h. c.in_ok-make_turns.ensures.short (short_bits c.args.sites.now c.make_bits.new.sites c.in_ok-make_bits.ensures.moves h)

@@ -2,11 +2,13 @@ use Rattle.std.proofs.Common.{◌≡◌, ◌<◌, Some, get_or, length, slice_ge
 use Rattle.std.proofs.lemmas.List.{length-set}
 use Rattle.std.proofs.lemmas.Option.{slice_get-get_or, slice_get_within}
 use Rattle.can_segment.proofs.Places.{same_some, get_set_same, get_set_other}
+use Rattle.std.proofs.lemmas.Result.{on_ok_weaker}
 use Rattle.gw_run.specs.declared.site.Site.{Site}
+use Rattle.gw_run.proofs.Counted.{short_turn}
 use Rattle.gw_run.proofs.world.turn_of.Goals as goal
 
-pub returns : goal.returns
-returns g c =
+pub returns-clause-turns : goal.returns-clause-turns
+returns-clause-turns g c =
     let sites = c.args.sites.now in
     let t = c.args.lane.now.target.site in
     let q = c.args.lane.now.target.port in
@@ -34,5 +36,9 @@ returns g c =
       };
       linked = c.turn_on.ensures.linked;
       log = c.turn_on.ensures.log;
-      keeps = record { source_is = refl; fifo_is = refl; target_is = refl; number_is = refl; queue_is = c.turn_on.ensures.queue; plan = c.turn_on.ensures.plan };
+      keeps = record { source_is = refl; fifo_is = refl; target_is = refl; number_is = refl; queue_is = c.turn_on.ensures.queue; rewrites_is = c.turn_on.ensures.rewrites; plan = c.turn_on.ensures.plan };
     }
+
+pub returns-clause-short : goal.returns-clause-short
+unfolding returns-clause-turns
+returns-clause-short g c = on_ok_weaker c.turn_on.result (λ unshort h. short_turn c.args.sites.now _ c.args.lane.now _ (returns-clause-turns g c) unshort h) c.turn_on.ensures.short

@@ -8,6 +8,6 @@ use Rattle.gw_script.proofs.bank_list.banks_with.Given as goal
 
 abbrev pub invariant-loop-item : goal.invariant-loop-item
 invariant-loop-item l = record {
-  read : each_after listed_bank l.front.items (items_view (drop l.item-index l.items)) ≡ each_after listed_bank [] (items_view l.items);
+  read : each_after (listed_bank l.version) l.front.items (items_view (drop l.item-index l.items)) ≡ each_after (listed_bank l.version) [] (items_view l.items);
   set : l.banks ≡ set_all (replicate bank_count unlisted) l.front.items;
 }

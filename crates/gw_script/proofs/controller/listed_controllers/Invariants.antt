@@ -8,7 +8,7 @@ use Rattle.gw_script.proofs.controller.listed_controllers.Given as goal
 
 abbrev pub invariant-loop-item : goal.invariant-loop-item
 invariant-loop-item l = record {
-  read : each_after (controller_of l.bits l.segments) l.controllers.items (items_view (drop l.item-index l.items)) ≡ each_after (controller_of l.bits l.segments) [] (items_view l.items);
+  read : each_after (controller_of l.version l.bits l.segments) l.controllers.items (items_view (drop l.item-index l.items)) ≡ each_after (controller_of l.version l.bits l.segments) [] (items_view l.items);
   range : Each (IsControllerIn l.bits l.segments) l.controllers.items;
   count : length l.controllers.items ≡ l.item-index;
 }

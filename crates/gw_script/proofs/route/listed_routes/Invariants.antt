@@ -8,7 +8,7 @@ use Rattle.gw_script.proofs.route.listed_routes.Given as goal
 
 abbrev pub invariant-loop-item : goal.invariant-loop-item
 invariant-loop-item l = record {
-  read : each_after (route_of l.controllers) l.routes.items (items_view (drop l.item-index l.items)) ≡ each_after (route_of l.controllers) [] (items_view l.items);
+  read : each_after (route_of l.version l.controllers) l.routes.items (items_view (drop l.item-index l.items)) ≡ each_after (route_of l.version l.controllers) [] (items_view l.items);
   range : Each (IsRouteIn l.controllers) l.routes.items;
   count : length l.routes.items ≡ l.item-index;
 }

@@ -38,4 +38,4 @@ returns-in-Some-fill-clause-turned g c =
 pub returns-in-None-fill-clause-turned : goal.returns-in-None-fill-clause-turned
 returns-in-None-fill-clause-turned g c =
     let f = c.in-None-fill.ensures in
-    acted-idle _ (hand_value c.args.self.now) (hand_value c.fill.new.self) c.in-None.ensures.none f.0 (ap option_to_list f.1) f.2
+    acted-idle _ (hand_value c.args.self.now) (hand_value c.fill.new.self) c.in-None.ensures.none f.0 (ap option_to_list f.1) f.2.1

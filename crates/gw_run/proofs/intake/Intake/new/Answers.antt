@@ -3,4 +3,4 @@ use Rattle.gw_run.proofs.Intakes.{opens}
 use Rattle.gw_run.proofs.intake.Intake.new.Goals as goal
 
 pub returns-clause-stands : goal.returns-clause-stands
-returns-clause-stands c = opens _ refl refl c.requires
+returns-clause-stands c = opens _ refl refl c.requires.0 c.requires.1

@@ -1,0 +1,36 @@
+-- A text that is written piece by piece.
+use Rattle.std.proofs.Common.{◌≡◌, ◌∙◌, sym, ap, subst, ℕ, ◌+◌, ◌-◌, ◌≤◌, Option, Some, None, List, [], ◌++◌, take, drop, length, append_assoc, arith}
+use Rattle.std.proofs.lemmas.List.{append-nil, take_all, length-drop}
+use Rattle.std.proofs.Math.Seq.{take-add}
+use Rattle.std.specs.Io.KnownBytes.{Appends, Keeps}
+
+-- nothing yet
+pub appends_none : (known : Option (List ℕ)) → Appends known known []
+appends_none None = tt
+appends_none (Some xs) = sym (append-nil xs)
+
+appends_on : (a b c : Option (List ℕ)) (xs ys : List ℕ) → Appends a b xs → Appends b c ys → Appends a c (xs ++ ys)
+appends_on None b c xs ys p q = tt
+appends_on (Some xs0) None c xs ys p q = absurd p
+appends_on (Some xs0) (Some bs) None xs ys p q = absurd q
+appends_on (Some xs0) (Some bs) (Some cs) xs ys p q = q ∙ ap (λ zs. zs ++ ys) p ∙ append_assoc xs0 xs ys
+
+-- one piece more
+pub piece_more : (a b c : Option (List ℕ)) (written count : ℕ) (text : List ℕ) → Appends a b (take written text) → Appends b c (take count (drop written text)) →
+    Appends a c (take (written + count) text)
+piece_more a b c written count text p q =
+    subst (Appends a c) (sym (take-add written count text)) (appends_on a b c (take written text) (take count (drop written text)) p q)
+
+-- and none more
+pub piece_kept : (a b c : Option (List ℕ)) (xs : List ℕ) → Appends a b xs → Keeps b c → Appends a c xs
+piece_kept None b c xs p q = tt
+piece_kept (Some xs0) None c xs p q = absurd p
+piece_kept (Some xs0) (Some bs) None xs p q = absurd q
+piece_kept (Some xs0) (Some bs) (Some cs) xs p q = q ∙ p
+
+-- what is left to write, as a slice of the text
+pub rest_is : (written : ℕ) (text : List ℕ) → take (length text - written) (drop written text) ≡ drop written text
+rest_is written text = take_all (length text - written) (drop written text) (omega (arith, length-drop written text))
+
+pub piece_within : (written count : ℕ) (text : List ℕ) → written ≤ length text → count ≤ length (take (length text - written) (drop written text)) → written + count ≤ length text
+piece_within written count text before bound = omega (arith, before, bound, ap length (rest_is written text), length-drop written text)
