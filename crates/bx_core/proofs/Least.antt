@@ -63,11 +63,11 @@ some_next false w ws idle =
     let x = least w ws in
     finds (λ (y : Waiting). goes_first y (w ∷ ws)) (w ∷ ws) x.0 x.1 (least_goes x.0 (w ∷ ws) idle x.2)
 
-next_of : (txfp : Bool) (q : List Waiting) → count_busy q ≡ 0 → 0 < length q → (x : Waiting) × (next_by txfp q ≡ Some x)
+pub next_of : (txfp : Bool) (q : List Waiting) → count_busy q ≡ 0 → 0 < length q → (x : Waiting) × (next_by txfp q ≡ Some x)
 next_of txfp [] idle some = absurd (omega arith)
 next_of txfp (w ∷ ws) idle some = some_next txfp w ws idle
 
-all_pending : (q : List Waiting) (w : Waiting) → count_busy q ≡ 0 → Has q w → is_pending w.status ≡ true
+pub all_pending : (q : List Waiting) (w : Waiting) → count_busy q ≡ 0 → Has q w → is_pending w.status ≡ true
 all_pending [] w idle has = absurd has
 all_pending (x ∷ q) w idle has =
     let here = idle_head (is_pending x.status) (count_busy q) idle in

@@ -15,4 +15,6 @@ pub mod Undone
 pub mod BusSide
 pub mod KeyOrder
 pub mod Least
+pub mod Readies
 pub mod RouteSide
+pub mod Hears

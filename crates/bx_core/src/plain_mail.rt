@@ -9,7 +9,7 @@ ghost use Rattle.bx_core.specs.TxBus.{BusPast, IsUndone, no_bus_past, label_of};
 ghost use Rattle.bx_core.specs.TxBus.{after_start, after_complete, after_fail};
 ghost use Rattle.bx_core.specs.RouteTx.{RoutePast, no_route_past};
 ghost use Rattle.bx_core.specs.PlainMail.{core_of, short_of, sending, is_ready, readied, heard_of};
-ghost use Rattle.bx_core.specs.PlainMail.{Starts, Completes, Fails, Requests, Aborts};
+ghost use Rattle.bx_core.specs.PlainMail.{Starts, Completes, Fails, Requests, Aborts, HearsOnly, AnswersReady, oldest};
 ghost use Rattle.bx_core.specs.Stands.{BusStands, RouteStands, BusKeeps};
 
 use crate::answer::{AbortAnswer, Sent};
@@ -168,7 +168,8 @@ impl PlainMail {
         requires in_range { route < length (core_of self.old).routes }
         requires above { last_number (lists_of (core_of self.old) route).requested < number }
         requires limit { number ≤ greatest_number }
-        ensures { Requests self.old route number frame result self.new }
+        ensures request { Requests self.old route number frame result self.new }
+        ensures hears { HearsOnly G.may_have_heard (core_of self.old) result gate.old gate.new }
     {
         match self.core.lowest_empty() {
             None => {
@@ -258,12 +259,15 @@ impl<R> TxBus<R> for PlainMail {
 
     ghost bus_after = { λ m past. BusStands (core_of m) past };
 
+    // whoever drives this bus side says when it asked: of any calls that may have been made
+    ghost bus_asked = { λ m calls. Unit };
+
     ghost transmitting = { λ m. sending (core_of m) };
 
     ghost bus_stays = { λ a b. BusKeeps a b };
 
-    /// Schedules the request that is to be sent next, where none is scheduled. True where one is scheduled
-    /// and its abort was not asked.
+    /// Schedules the request that is to be sent next, where none is scheduled. True where a request waits, nothing
+    /// is on the bus, and the one that is scheduled was not asked to end.
     fn ready(&mut self, _rt: &R) -> bool
         ensures past { (past : BusPast) → BusStands (core_of self.old) past
             → BusStands (core_of self.new) past }
@@ -271,12 +275,14 @@ impl<R> TxBus<R> for PlainMail {
         ensures stays { BusKeeps self.old self.new }
         ensures core { core_of self.new ≡ readied (core_of self.old) }
         ensures ready { result ≡ is_ready (core_of self.new) }
+        ensures serves { AnswersReady (core_of self.old) result }
     {
         self.core.keep_law();
         self.schedule_next()
     }
 
-    /// Starts the request that is scheduled, and `None` only where none is that may start.
+    /// Starts the request that is scheduled, and `None` only where none is that may start. By the order of
+    /// requests it is the one that waits longest.
     fn start(&mut self, _rt: &R) -> Option<(u8, u32, Frame)>
         ensures past { (past : BusPast) → BusStands (core_of self.old) past
             → BusStands (core_of self.new) (after_start past result) }
@@ -288,6 +294,7 @@ impl<R> TxBus<R> for PlainMail {
         ensures none { IfNone result (sending (core_of self.new) ≡ sending (core_of self.old)) }
         ensures stays { BusKeeps self.old self.new }
         ensures core { Starts (core_of self.old) result (core_of self.new) }
+        ensures oldest { (core_of self.old).txfp ≡ true → IfSome result (λ x. oldest (core_of self.old) ≡ Some x) }
     {
         self.core.keep_law();
         self.start_scheduled()

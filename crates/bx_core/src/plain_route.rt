@@ -3,7 +3,8 @@ ghost use Rattle.std.specs.Prelude.{◌≡◌, ◌<◌, ◌≤◌, ◌↔◌, �
 ghost use Rattle.bx_core.specs.States.{lists_of};
 ghost use Rattle.bx_core.specs.Steps.{last_number, greatest_number};
 ghost use Rattle.bx_core.specs.RouteTx.{RoutePast, after_request, after_abort};
-ghost use Rattle.bx_core.specs.PlainMail.{core_of, short_of, Requests, Aborts};
+ghost use Rattle.bx_core.specs.Gate.{HearsAnswer, HearsSteps};
+ghost use Rattle.bx_core.specs.PlainMail.{core_of, short_of, Requests, Aborts, HearsOnly};
 ghost use Rattle.bx_core.specs.Stands.{RouteStands, RouteKeeps};
 
 use crate::answer::{AbortAnswer, NumberTooLarge, Sent};
@@ -57,6 +58,8 @@ impl<'a, R> RouteTx<R> for PlainRoute<'a> {
         ensures limit { IsErr result ↔ (greatest_number < number) }
         ensures unchanged { OnErr result (self.new ≡ self.old) }
         ensures unheard { OnErr result (gate.new ≡ gate.old) }
+        ensures heard { IfOk result (λ sent. HearsAnswer G.may_have_heard sent gate.old gate.new) }
+        ensures hears { IfOk result (λ sent. HearsOnly G.may_have_heard (core_of self.old.mail.now) sent gate.old gate.new) }
         ensures stays { (self.old.mail.ghost_name ≡ self.new.mail.ghost_name)
             × ((self.old.route ≡ self.new.route) × RouteKeeps self.old.route self.old.mail.now self.new.mail.now) }
         ensures sent { IfOk result (λ sent.
@@ -77,6 +80,7 @@ impl<'a, R> RouteTx<R> for PlainRoute<'a> {
         ensures past { (past : RoutePast) → RouteStands (core_of self.old.mail.now) self.old.route past
             → (asks : Bool) × RouteStands (core_of self.new.mail.now) self.new.route
             (after_abort past number result asks) }
+        ensures heard { HearsSteps G.may_have_heard gate.old gate.new }
         ensures stays { (self.old.mail.ghost_name ≡ self.new.mail.ghost_name)
             × ((self.old.route ≡ self.new.route) × RouteKeeps self.old.route self.old.mail.now self.new.mail.now) }
         ensures aborted { Aborts (core_of self.old.mail.now) self.old.route number result

@@ -199,6 +199,8 @@ struct Ears {
 }
 
 impl Gate for Ears {
+    ghost may_have_heard = { λ gate told. Unit };
+
     fn pass(&mut self, point: Point) {
         self.told = self.told.saturating_add(1);
         self.last = Some(point);

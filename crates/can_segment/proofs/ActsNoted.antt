@@ -1,5 +1,5 @@
 -- What the acts of a trace note in the history of a node, and the other way round.
-use Rattle.std.proofs.Common.{◌≡◌, inl, inr, ◌⊎◌, ℕ, zero, suc, ◌+◌, ◌-◌, ◌<◌, ◌≤◌, Bool, true, false, Option, Some, None, List, [], ◌∷◌, ◌++◌, fold, length, take, slice_get, refl, sym, ap, subst, arith, ◌∙◌}
+use Rattle.std.proofs.Common.{◌≡◌, inl, inr, ℕ, zero, suc, ◌+◌, ◌<◌, ◌≤◌, Bool, Option, Some, None, List, [], ◌∷◌, ◌++◌, fold, length, take, slice_get, refl, sym, ap, subst, arith, ◌∙◌}
 use Rattle.std.specs.Prelude.{option_and_then}
 use Rattle.std.specs.List.{Contains}
 use Rattle.std.proofs.lemmas.Bool.{cases_lt}
@@ -8,12 +8,9 @@ use Rattle.std.proofs.lemmas.List.Elements.{Contains-append_cases, Contains-appe
 use Rattle.std.proofs.lemmas.List.Sums.{fold-append}
 use Rattle.std.proofs.lemmas.Option.{slice_get_past}
 use Rattle.can_frame.specs.Frames.{FrameValue}
-use Rattle.can_node.specs.declared.confinement.ErrorState.{ErrorState}
 use Rattle.can_node.specs.declared.outcome.Outcome.{Outcome}
-use Rattle.can_node.specs.declared.outcome.Outcome.TheVariants.{Nothing, Took, Completed, Lost, Errored, WentOff, CameBack}
 use Rattle.can_node.specs.Pairs.{Pair}
 use Rattle.can_node.specs.Histories.{Past, no_past, noted}
-use Rattle.can_node.specs.Node.{with_begin}
 use Rattle.can_node.proofs.Stamps.{one_noted, noted_is}
 use Rattle.can_segment.specs.declared.event.Event.{Event}
 use Rattle.can_segment.specs.declared.event.Label.{Label}
@@ -21,13 +18,13 @@ use Rattle.can_segment.specs.declared.plan.Controller.{Controller}
 use Rattle.can_segment.specs.declared.plan.SegmentPlan.{SegmentPlan}
 use Rattle.can_segment.specs.declared.plan.Talker.{Talker}
 use Rattle.can_segment.specs.declared.sent.Sent.{Sent}
-use Rattle.can_segment.specs.Attempts.{IsPastOf, act_at, begun_at, outcome_at}
+use Rattle.can_segment.specs.Attempts.{act_at}
 use Rattle.can_segment.specs.Faults.{sampled_level}
 use Rattle.can_segment.specs.Traces.{Act, Bit, with_start, with_act, act_of, past_of, sending_of}
-use Rattle.can_segment.specs.Runs.{Run, IsBit, ActsAt, IsAct, IsBegun, IsTalking, IsControlling, IsReaping, firsts}
+use Rattle.can_segment.specs.Runs.{Run, IsBit, ActsAt, IsAct, IsBegun, IsReaping, firsts}
 use Rattle.can_segment.specs.Runs.Run.{no_bit, one_more}
 use Rattle.can_segment.proofs.NextBits.{act_found}
-use Rattle.can_segment.proofs.OneLine.{same_found, act_pairs, past_more, first_from, get_left, get_end, node_run}
+use Rattle.can_segment.proofs.OneLine.{same_found, act_pairs, past_more, first_from, get_end, node_run}
 use Rattle.can_segment.proofs.Shown.{first_at}
 
 -- what a node does at the next bit: nothing, where it is not on yet

@@ -1,9 +1,8 @@
 -- What the lines tell of attempts.
-use Rattle.std.proofs.Common.{◌≡◌, inl, inr, ◌⊎◌, ℕ, zero, suc, ◌+◌, ◌-◌, ◌<◌, ◌≤◌, Bool, true, false, cond, Option, Some, None, List, [], ◌∷◌, ◌++◌, fold, length, take, slice_get, refl, sym, ap, subst, arith, ◌∙◌}
+use Rattle.std.proofs.Common.{◌≡◌, inl, inr, ◌⊎◌, ℕ, zero, suc, ◌+◌, ◌-◌, ◌<◌, ◌≤◌, Bool, true, false, cond, Option, Some, None, List, [], ◌∷◌, ◌++◌, take, slice_get, refl, sym, ap, subst, arith, ◌∙◌}
 use Rattle.std.specs.Prelude.{option_and_then}
 use Rattle.std.specs.List.{Contains}
 use Rattle.std.proofs.lemmas.Bool.{cases_lt}
-use Rattle.std.proofs.lemmas.List.{length-append}
 use Rattle.std.proofs.lemmas.List.Sums.{fold-append}
 use Rattle.can_frame.specs.Frames.{FrameValue}
 use Rattle.can_node.specs.declared.confinement.ErrorState.{ErrorState}
@@ -11,7 +10,7 @@ use Rattle.can_node.specs.declared.outcome.Outcome.{Outcome}
 use Rattle.can_node.specs.declared.outcome.Outcome.TheVariants.{Nothing, Took, Completed, Lost, Errored, WentOff, CameBack}
 use Rattle.can_node.specs.Histories.{Past, no_past, noted}
 use Rattle.can_node.specs.Cuts.{IsAttempt}
-use Rattle.can_node.specs.Attempts.{first_bit, IsAttemptFrom, IsOpenAttempt, SendsAlone}
+use Rattle.can_node.specs.Attempts.{first_bit, IsAttemptFrom}
 use Rattle.can_node.proofs.Attempts.{attempts_stand_alone, open_tells_nothing, begun_attempts}
 use Rattle.can_node.proofs.Outcomes.{IsEnd, attempt_end}
 use Rattle.can_node.proofs.Outcomes.IsEnd.{is_completed, is_lost, is_error, is_off}
@@ -19,11 +18,11 @@ use Rattle.can_node.proofs.Sofs.{starts_are_sofs}
 use Rattle.can_segment.specs.declared.event.Event.{Event}
 use Rattle.can_segment.specs.declared.plan.SegmentPlan.{SegmentPlan}
 use Rattle.can_segment.specs.declared.sent.Sent.{Sent}
-use Rattle.can_segment.specs.Attempts.{IsPastOf, act_at, begun_at, sending_at, outcome_at, IsTold, AttemptsAreTold, EndsAreOfAttempts}
+use Rattle.can_segment.specs.Attempts.{act_at, begun_at, sending_at, outcome_at, IsTold, AttemptsAreTold, EndsAreOfAttempts}
 use Rattle.can_segment.specs.Traces.{Act, Bit, act_of, past_of, sending_of, sending_now, sending_after, sending_behind, ends_sending}
 use Rattle.can_segment.specs.Runs.{Run, firsts}
 use Rattle.can_segment.proofs.OneLine.{same_found, first_from}
-use Rattle.can_segment.proofs.ActsNoted.{Does, does_at, prefix_grows, began_at, told_at}
+use Rattle.can_segment.proofs.ActsNoted.{does_at, prefix_grows, began_at, told_at}
 use Rattle.can_segment.proofs.Pasts.{has_history}
 
 -- what a node sends behind one bit more

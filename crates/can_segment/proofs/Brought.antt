@@ -6,7 +6,7 @@ use Rattle.can_frame.specs.Frames.{FrameValue}
 use Rattle.can_node.specs.declared.outcome.Outcome.{Outcome}
 use Rattle.can_node.specs.declared.outcome.Outcome.TheVariants.{Nothing, Took, Completed, Lost, Errored, WentOff, CameBack}
 use Rattle.bx_core.specs.Lists.{Each}
-use Rattle.bx_core.specs.TxBus.{Item, BusPast, IsUndone}
+use Rattle.bx_core.specs.TxBus.{Item, BusPast, BusCall, IsUndone}
 use Rattle.can_segment.specs.declared.event.Event.{Event}
 use Rattle.can_segment.specs.declared.event.Label.{Label}
 use Rattle.can_segment.specs.declared.event.Told.{Told}
@@ -234,6 +234,33 @@ one_taken (Errored kind) = omega arith
 one_taken WentOff = omega arith
 one_taken CameBack = omega arith
 
+start_started : (begun : Option Sent) → all_in start_in (told_start begun) ≡ option_to_list (item_of begun)
+start_started None = refl
+start_started (Some sent) = append-nil (option_to_list (item_with sent.frame sent.label))
+
+start_outcome : (sending : Option Sent) (outcome : Outcome) → all_in start_in (told_outcome sending outcome) ≡ []
+start_outcome sending Nothing = refl
+start_outcome sending (Took start frame) = refl
+start_outcome None Completed = refl
+start_outcome (Some sent) Completed = refl
+start_outcome None Lost = refl
+start_outcome (Some sent) Lost = refl
+start_outcome sending (Errored kind) = refl
+start_outcome sending WentOff = refl
+start_outcome sending CameBack = refl
+
+start_reaped : (reaped : Option Label) → all_in start_in (told_reaped reaped) ≡ []
+start_reaped None = refl
+start_reaped (Some label) = refl
+
+-- the line of a start names what began
+starts_told : (begun : Option Sent) (deed : Deed) → all_in start_in (told_start begun ++ rest_by deed) ≡ option_to_list (item_of begun)
+starts_told begun deed =
+    all-append start_in (told_start begun) (rest_by deed)
+    ∙ ap (λ xs. all_in start_in (told_start begun) ++ xs) (all-append start_in (told_outcome deed.sent deed.outcome) (told_reaped deed.reaped)
+    ∙ ap (λ xs. xs ++ all_in start_in (told_reaped deed.reaped)) (start_outcome deed.sent deed.outcome) ∙ start_reaped deed.reaped)
+    ∙ append-nil _ ∙ start_started begun
+
 -- the only lines that name a start are those of what begins
 pub starts_undone-append : (past : BusPast) (xs ys : List Told) → StartsUndone past xs → StartsUndone (grown past xs) ys → StartsUndone past (xs ++ ys)
 starts_undone-append past [] ys h k = subst (λ p. StartsUndone p ys) (grown-nil past) k
@@ -272,18 +299,25 @@ undone_told past begun deed h =
 early : (on bit : ℕ) → nat_le on bit ≡ false → bit < on
 early on bit e = elim (leb_tells on bit) [ inl is ↦ absurd (cc (e, is.0)) | inr isnt ↦ isnt.1 ]
 
-pub port_brought : {P : Type 0} (after : P → BusPast → Type 0) (transmitting : P → Option Item) (sink : P → List FrameValue → Type 0) (stays : P → P → Type 0)
-    (bit : ℕ) (tells : List Told) (m : Member) (p q : P) → tells ≡ start_of m.deed ++ rest_by m.deed → (bit < m.on → m.deed ≡ no_deed) →
-    PortMoves after transmitting sink stays bit m p q → IsBrought after transmitting sink stays tells (item_of m.station.sending) p q
-port_brought after transmitting sink stays bit tells m p q told quiet moves = record {
+pub port_brought : {P : Type 0} (after : P → BusPast → Type 0) (asked : P → List BusCall → Type 0) (transmitting : P → Option Item) (sink : P → List FrameValue → Type 0) (stays : P → P → Type 0)
+    (bit : ℕ) (wants : Bool) (tells : List Told) (m : Member) (p q : P) → tells ≡ start_of m.deed ++ rest_by m.deed → (bit < m.on → m.deed ≡ no_deed) →
+    PortMoves after asked transmitting sink stays bit wants m p q → IsBrought after asked transmitting sink stays tells wants (item_of m.station.sending) p q
+port_brought after asked transmitting sink stays bit wants tells m p q told quiet moves = record {
   bus = λ past h. subst (λ ts. after q (grown past ts)) (sym told) (bus_by past (is_on bit m) refl (moves.bus past h));
   undone = λ past h. subst (StartsUndone past) (sym told) (undone_by past (is_on bit m) refl (moves.undone past h));
+  begins = item_of (cond (is_on bit m) (begun_by m.deed) None);
+  begins_is = ap (all_in start_in) told ∙ begins_by (is_on bit m) refl;
+  asks = moves.asks;
   transmits = moves.transmits;
   offers = λ past h. subst (λ ts. sink q (past ++ all_in taken_in ts)) (sym told) (sink_by past (is_on bit m) refl (moves.offers past h));
   one_at_most = subst (λ ts. length (all_in taken_in ts) ≤ 1) (sym told) (subst (λ fs. length fs ≤ 1) (sym (takes (begun_by m.deed) m.deed)) (one_taken m.deed.outcome));
   stays_on = moves.stays_on;
 }
   where
+    begins_by : (on : Bool) → is_on bit m ≡ on → all_in start_in (start_of m.deed ++ rest_by m.deed) ≡ option_to_list (item_of (cond on (begun_by m.deed) None))
+    begins_by true e = starts_told (begun_by m.deed) m.deed
+    begins_by false e = ap (λ d. all_in start_in (start_of d ++ rest_by d)) (quiet (early m.on bit e))
+
     bus_by : (past : BusPast) (on : Bool) → is_on bit m ≡ on → after q (settled_at on (started past (item_of (cond on (begun_by m.deed) None))) m.deed) → after q (grown past (start_of m.deed ++ rest_by m.deed))
     bus_by past true e h = subst (after q) (sym (brings past (begun_by m.deed) m.deed (moves.reaps e))) h
     bus_by past false e h =

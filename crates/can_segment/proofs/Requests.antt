@@ -1,20 +1,15 @@
 -- Of two attempts of one request of a controller the earlier one failed, and did not end the request.
-use Rattle.std.proofs.Common.{◌≡◌, inl, inr, ◌⊎◌, ℕ, zero, suc, ◌+◌, ◌<◌, ◌≤◌, Bool, true, Option, Some, None, List, [], ◌∷◌, ◌++◌, length, map, take, slice_get, refl, sym, ap, subst, arith, ◌∙◌}
+use Rattle.std.proofs.Common.{◌≡◌, inl, inr, ◌⊎◌, ℕ, zero, suc, ◌+◌, ◌<◌, ◌≤◌, Bool, Option, Some, None, List, [], ◌∷◌, ◌++◌, length, map, take, refl, sym, ap, subst, arith, ◌∙◌}
 use Rattle.std.specs.Prelude.{option_and_then}
 use Rattle.std.proofs.lemmas.Bool.{cases_lt}
 use Rattle.std.proofs.lemmas.Bool.Decides.{eqb_tells}
 use Rattle.std.proofs.lemmas.List.{append-nil, length-append, length-map}
 use Rattle.std.proofs.lemmas.Option.{slice_get_within}
-use Rattle.can_frame.specs.Frames.{FrameValue}
-use Rattle.can_node.specs.declared.confinement.ErrorState.{ErrorState}
-use Rattle.can_node.specs.declared.outcome.Outcome.{Outcome}
 use Rattle.can_node.specs.declared.outcome.Outcome.TheVariants.{Completed}
-use Rattle.can_node.specs.Histories.{Past}
-use Rattle.can_node.specs.Cuts.{IsAttempt}
 use Rattle.can_node.specs.Attempts.{first_bit}
 use Rattle.can_node.proofs.Outcomes.{attempt_end}
-use Rattle.bx_core.specs.Lists.{Each, Has}
-use Rattle.bx_core.specs.TxBus.{Item, BusPast, IsUndone, no_bus_past, label_of}
+use Rattle.bx_core.specs.Lists.{Has}
+use Rattle.bx_core.specs.TxBus.{BusPast, IsUndone, no_bus_past}
 use Rattle.bx_core.proofs.Words.{has-left, has-right}
 use Rattle.can_segment.specs.declared.event.Event.{Event}
 use Rattle.can_segment.specs.declared.event.Label.{Label}
@@ -24,11 +19,11 @@ use Rattle.can_segment.specs.declared.plan.Controller.{Controller}
 use Rattle.can_segment.specs.declared.plan.SegmentPlan.{SegmentPlan}
 use Rattle.can_segment.specs.declared.plan.Talker.{Talker}
 use Rattle.can_segment.specs.declared.sent.Sent.{Sent}
-use Rattle.can_segment.specs.Attempts.{IsPastOf, act_at, begun_at, sending_at, outcome_at, reaped_at, request_at, IsTold, RequestsTryFailures}
-use Rattle.can_segment.specs.Brought.{StartsUndone, told_of, start_in, sent_in, reaped_in, all_in, grown}
+use Rattle.can_segment.specs.Attempts.{act_at, begun_at, sending_at, reaped_at, request_at, RequestsTryFailures}
+use Rattle.can_segment.specs.Brought.{StartsUndone, told_of, sent_in, reaped_in, all_in, grown}
 use Rattle.can_segment.specs.Tells.{told_start, told_outcome, told_reaped, starts_of, rest_of, lines, lines_from, events_at}
-use Rattle.can_segment.specs.Traces.{Act, Bit, act_of, sending_of, sending_now, ends_sending, is_failure}
-use Rattle.can_segment.specs.Runs.{Run, IsBit, firsts}
+use Rattle.can_segment.specs.Traces.{Act, Bit, act_of, sending_of, sending_now, ends_sending}
+use Rattle.can_segment.specs.Runs.{Run, firsts}
 use Rattle.can_segment.specs.Runs.Run.{no_bit, one_more}
 use Rattle.can_segment.proofs.ActsNoted.{does_at, take_left, take_whole, act_before, act_last, within_act}
 use Rattle.can_segment.proofs.Attempts.{act_begins, attempts_are_told, begun_by, outcome_by, ends_it, act_ends}

@@ -3,7 +3,7 @@ use Rattle.std.proofs.Common.{◌≡◌, inl, inr, ℕ, ◌+◌, ◌≤◌, nat_
 use Rattle.can_frame.specs.Frames.{FrameValue}
 use Rattle.can_node.specs.Histories.{Past, IsHistory}
 use Rattle.can_node.specs.Node.{StandsAfter, IsSample, bit_of}
-use Rattle.bx_core.specs.TxBus.{Item, BusPast}
+use Rattle.bx_core.specs.TxBus.{Item, BusPast, BusCall}
 use Rattle.can_segment.specs.declared.member.Member.{Member}
 use Rattle.can_segment.specs.Ports.{item_of}
 use Rattle.can_segment.specs.Traces.{sending_after, completed_by}
@@ -46,13 +46,14 @@ settled_too bit level old mid new s t = record {
 }
 
 -- and so it is with the port
-pub port_settles : {P : Type 0} (after : P → BusPast → Type 0) (transmitting : P → Option Item) (sink : P → List FrameValue → Type 0) (stays : P → P → Type 0) (bit : ℕ) (level : Bool) (old mid new : Member) (from to : P) →
-    Samples bit level old mid → PortSettled after transmitting sink stays bit mid new from to → PortSettles after transmitting sink stays bit level old new from to
-port_settles after transmitting sink stays bit level old mid new from to s p =
+pub port_settles : {P : Type 0} (after : P → BusPast → Type 0) (asked : P → List BusCall → Type 0) (transmitting : P → Option Item) (sink : P → List FrameValue → Type 0) (stays : P → P → Type 0) (bit : ℕ) (level : Bool) (old mid new : Member) (from to : P) →
+    Samples bit level old mid → PortSettled after asked transmitting sink stays bit mid new from to → PortSettles after asked transmitting sink stays bit level old new from to
+port_settles after asked transmitting sink stays bit level old mid new from to s p =
     let same_on : is_on bit mid ≡ is_on bit old = ap (λ n. nat_le n bit) s.on_is in
     record {
       member = settled_too bit level old mid new s p.member;
       bus = λ past h. subst (λ on. after to (settled_at on past new.deed)) same_on (p.bus past h);
+      asks_none = p.asks_none;
       transmits = p.transmits;
       offers = λ past h. subst (λ on. sink to (past ++ taken_at on new.deed)) same_on (p.offers past h);
       stays_on = p.stays_on;

@@ -1,13 +1,13 @@
 -- What the lines of a record tell of a node is what its port was brought: the bus side its starts, its
 -- completions and what was reaped, the sink the frames that were taken.
-use Rattle.std.specs.Prelude.{◌≡◌, ℕ, ◌≤◌, ◌==◌, Option, List, [], ◌∷◌, ◌++◌, length, option_to_list, if◌then◌else◌}
+use Rattle.std.specs.Prelude.{◌≡◌, ℕ, ◌≤◌, ◌==◌, Bool, Option, List, [], ◌∷◌, ◌++◌, length, option_to_list, if◌then◌else◌}
 use Rattle.can_frame.specs.Frames.{FrameValue}
 use Rattle.bx_core.specs.Lists.{Each}
-use Rattle.bx_core.specs.TxBus.{Item, BusPast, IsUndone}
+use Rattle.bx_core.specs.TxBus.{Item, BusPast, BusCall, IsUndone}
 use Rattle.can_segment.specs.declared.event.Event.{Event}
 use Rattle.can_segment.specs.declared.event.Told.{Told}
 use Rattle.can_segment.specs.declared.event.Told.TheVariants as told
-use Rattle.can_segment.specs.Ports.{item_with}
+use Rattle.can_segment.specs.Ports.{Asks, item_with}
 
 -- what is told of a node
 abbrev pub told_of : ℕ → List Event → List Told
@@ -69,11 +69,15 @@ abbrev pub StartsUndone : BusPast → List Told → Type 0
 StartsUndone past [] = Unit {0}
 StartsUndone past (one ∷ more) = Each (IsUndone past) (start_in one) × StartsUndone (grown past (one ∷ [])) more
 
--- a port was brought what is told of its node, which sends this then; what starts is not over
-pub record IsBrought {P : Type 0} (after : P → BusPast → Type 0) (transmitting : P → Option Item) (sink : P → List FrameValue → Type 0) (stays : P → P → Type 0)
-    (tells : List Told) (sends : Option Item) (from to : P) : Type 0 where
+-- A port was brought what is told of its node, which sends this then; what starts is not over. Its bus side was asked for a
+-- request just where the node wanted to start, and what starts is what it gave.
+pub record IsBrought {P : Type 0} (after : P → BusPast → Type 0) (asked : P → List BusCall → Type 0) (transmitting : P → Option Item) (sink : P → List FrameValue → Type 0) (stays : P → P → Type 0)
+    (tells : List Told) (wants : Bool) (sends : Option Item) (from to : P) : Type 0 where
   pub bus : (past : BusPast) → after from past → after to (grown past tells)
   pub undone : (past : BusPast) → after from past → StartsUndone past tells
+  pub begins : Option Item
+  pub begins_is : all_in start_in tells ≡ option_to_list begins
+  pub asks : Asks asked wants begins from to
   pub transmits : transmitting to ≡ sends
   pub offers : (past : List FrameValue) → sink from past → sink to (past ++ all_in taken_in tells)
   pub one_at_most : length (all_in taken_in tells) ≤ 1

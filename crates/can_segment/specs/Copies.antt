@@ -1,6 +1,6 @@
 -- Copies on a line with faults: what the attempts of a sender and the takes of a receiver have to do with one another.
 -- Bosch CAN Specification 2.0, part B, 5 MESSAGE VALIDATION; ISO 11898-1.
-use Rattle.std.specs.Prelude.{◌≡◌, ℕ, ◌<◌, ◌≤◌, ◌+◌, ◌==◌, ◌||◌, Bool, true, false, Some, List, length, slice_get, take}
+use Rattle.std.specs.Prelude.{◌≡◌, ℕ, ◌<◌, ◌≤◌, ◌+◌, ◌==◌, ◌||◌, Bool, true, false, Some, List, slice_get, take}
 use Rattle.std.specs.List.{list_any}
 use Rattle.can_frame.specs.Frames.{FrameValue}
 use Rattle.can_node.specs.declared.confinement.ErrorState.{ErrorState}

@@ -1,9 +1,9 @@
 -- What the nodes of a segment bring to their ports.
-use Rattle.std.specs.Prelude.{◌≡◌, ℕ, Bool, true, Option, Some, None, IfSome, List, [], ◌∷◌, option_map, if◌then◌else◌}
+use Rattle.std.specs.Prelude.{◌≡◌, ℕ, Bool, true, Option, Some, None, IfSome, List, [], ◌∷◌, ◌++◌, false, option_map, if◌then◌else◌}
 use Rattle.can_frame.specs.Frames.{FrameValue}
 use Rattle.can_node.specs.declared.outcome.Outcome.{Outcome}
 use Rattle.can_node.specs.declared.outcome.Outcome.TheVariants.{Nothing, Took, Completed, Lost, Errored, WentOff, CameBack}
-use Rattle.bx_core.specs.TxBus.{Item, BusPast, IsUndone, after_start, after_complete, after_fail}
+use Rattle.bx_core.specs.TxBus.{Item, BusPast, BusCall, asked_ready, asked_start, IsUndone, after_start, after_complete, after_fail}
 use Rattle.can_segment.specs.declared.event.Label.{Label}
 use Rattle.can_segment.specs.declared.sent.Sent.{Sent}
 use Rattle.can_segment.specs.Traces.{is_failure}
@@ -29,6 +29,26 @@ Undone past item = IfSome item (λ x. IsUndone past x)
 abbrev pub started : BusPast → Option Item → BusPast
 started past None = past
 started past (Some item) = after_start past (Some item)
+
+-- how a node asks its bus side at the start of a bit: not at all where it doesn't want to start, else whether a request is
+-- ready, and where one is, for that
+abbrev pub asked_at : Bool → Bool → Option Item → List BusCall
+asked_at false ready given = []
+asked_at true false given = asked_ready false ∷ []
+asked_at true true given = asked_ready true ∷ asked_start given ∷ []
+
+-- what begins then: just what was given
+abbrev pub begun_at : Bool → Bool → Option Item → Option Item
+begun_at false ready given = None
+begun_at true false given = None
+begun_at true true given = given
+
+-- a bus side is asked just so at the start of a bit, and this begins, or nothing
+pub record Asks {P : Type 0} (asked : P → List BusCall → Type 0) (wants : Bool) (begins : Option Item) (from to : P) : Type 0 where
+  pub ready : Bool
+  pub given : Option Item
+  pub begins_is : begins ≡ begun_at wants ready given
+  pub calls : (past : List BusCall) → asked from past → asked to (past ++ asked_at wants ready given)
 
 -- a request as a bus side names it
 abbrev pub numbers_of : Option Label → Option (ℕ × ℕ)

@@ -1,26 +1,50 @@
 -- A segment, as contracts see it.
-use Rattle.std.specs.Prelude.{◌≡◌, ℕ, ◌+◌, ◌≤◌, Bool, Option, Some, None, List, [], ◌∷◌, ◌++◌, length, map, slice_get}
+use Rattle.std.specs.Prelude.{◌≡◌, ℕ, ◌+◌, ◌<◌, ◌≤◌, Bool, false, Option, Some, None, List, [], ◌∷◌, ◌++◌, length, map, slice_get}
+use Rattle.std.specs.List.{slice_index_or}
 use Rattle.can_frame.specs.Frames.{FrameValue}
-use Rattle.bx_core.specs.TxBus.{Item, BusPast}
+use Rattle.bx_core.specs.TxBus.{Item, BusPast, BusCall}
 use Rattle.can_node.specs.Histories.{Past}
-use Rattle.can_node.specs.Node.{StandsAfter}
+use Rattle.can_node.specs.Node.{StandsAfter, IsWanting}
 use Rattle.can_node.specs.declared.counters.Counters.{Counters}
 use Rattle.can_node.specs.Counters.{StandsAfter as CountersStandAfter}
 use Rattle.can_segment.specs.declared.event.Event.{Event}
 use Rattle.can_segment.specs.declared.member.Member.{Member}
+use Rattle.can_segment.specs.declared.plan.Controller.{Controller}
 use Rattle.can_segment.specs.declared.plan.SegmentPlan.{SegmentPlan}
 use Rattle.can_segment.specs.declared.record.Record.{Record}
 use Rattle.can_segment.specs.Brought.{told_of, IsBrought}
 use Rattle.can_segment.specs.Kept.{SegmentKept}
+use Rattle.can_segment.specs.Members.{wants_at}
 use Rattle.can_segment.specs.Ports.{item_of}
+use Rattle.can_segment.specs.Runs.{Run, Shows, firsts}
+use Rattle.can_segment.specs.Traces.{Bit, past_of}
 
--- its plan, what it recorded so far, and what each controller has on the bus
+-- its plan, what it recorded so far, what each controller has on the bus, and whether it is on and wants to start at the next bit
 pub record SegmentValue : Type 0 where
   pub plan : SegmentPlan
   pub levels : List Bool
   pub events : List Event
   pub counters : List Counters
   pub sending : List (Option Item)
+  pub wanting : List Bool
+
+-- whether this controller is on and wants to start at the next bit
+abbrev pub wants_next : SegmentValue → ℕ → Bool
+wants_next segment k = slice_index_or segment.wanting k false
+
+-- whether a node that is on from a bit on wants to start at the next bit: one that is not on yet doesn't
+pub record WantsBy (on made : ℕ) (past : Past) (wants : Bool) : Type 0 where
+  pub off : made < on → wants ≡ false
+  pub is_wanting : on ≤ made → IsWanting past wants
+
+-- what a segment recorded is that of a run, behind which its controllers want to start so
+pub record IsSoFar (segment : SegmentValue) : Type 0 where
+  pub trace : List Bit
+  pub run : Run segment.plan trace segment.levels segment.events
+  pub size : length segment.counters ≡ length (firsts segment.plan)
+  pub shows : Shows segment.plan trace segment.counters
+  pub wanting : (k : ℕ) (controller : Controller) → slice_get segment.plan.controllers.items k ≡ Some controller →
+      WantsBy controller.on (length trace) (past_of controller.on (length segment.plan.talkers.items + k) trace) (wants_next segment k)
 
 -- a record of this plan shows what the segment recorded
 pub record IsRecordOf (segment : SegmentValue) (record_of : Record) : Type 0 where
@@ -34,7 +58,7 @@ pub record Fit {P : Type 0} (transmitting : P → Option Item) (segment : Segmen
   pub transmits : (k : ℕ) (sends : Option Item) (p : P) → slice_get segment.sending k ≡ Some sends → slice_get ports k ≡ Some p → transmitting p ≡ sends
 
 -- it makes one more bit: each port was brought what the new lines tell of its node
-pub record MakesBit {P : Type 0} (after : P → BusPast → Type 0) (transmitting : P → Option Item) (sink : P → List FrameValue → Type 0) (stays : P → P → Type 0)
+pub record MakesBit {P : Type 0} (after : P → BusPast → Type 0) (asked : P → List BusCall → Type 0) (transmitting : P → Option Item) (sink : P → List FrameValue → Type 0) (stays : P → P → Type 0)
     (old new : SegmentValue) (from to : List P) : Type 0 where
   pub level : Bool
   pub lines : List Event
@@ -43,7 +67,7 @@ pub record MakesBit {P : Type 0} (after : P → BusPast → Type 0) (transmittin
   pub events_is : new.events ≡ old.events ++ lines
   pub size : length to ≡ length from
   pub ports : (k : ℕ) (sends : Option Item) (p q : P) → slice_get new.sending k ≡ Some sends → slice_get from k ≡ Some p → slice_get to k ≡ Some q →
-      IsBrought after transmitting sink stays (told_of (length old.plan.talkers.items + k) lines) sends p q
+      IsBrought after asked transmitting sink stays (told_of (length old.plan.talkers.items + k) lines) (wants_next old k) sends p q
 
 -- a segment of this plan before its first bit
 pub record IsOpening (plan : SegmentPlan) (segment : SegmentValue) : Type 0 where
@@ -73,13 +97,17 @@ pub record SegmentHolds (plan : SegmentPlan) (record_of : Record) (talkers contr
 abbrev pub sending_of_all : List Member → List (Option Item)
 sending_of_all = map (λ member. item_of member.station.sending)
 
+-- which of them are on and want to start at this bit
+abbrev pub wanting_of_all : ℕ → List Member → List Bool
+wanting_of_all bit = map (wants_at bit)
+
 -- the record grows by a bit, and each port was brought what its lines tell
-pub record Grows {P : Type 0} (after : P → BusPast → Type 0) (transmitting : P → Option Item) (sink : P → List FrameValue → Type 0) (stays : P → P → Type 0)
-    (plan : SegmentPlan) (old new : Record) (controllers : List Member) (from to : List P) : Type 0 where
+pub record Grows {P : Type 0} (after : P → BusPast → Type 0) (asked : P → List BusCall → Type 0) (transmitting : P → Option Item) (sink : P → List FrameValue → Type 0) (stays : P → P → Type 0)
+    (plan : SegmentPlan) (old new : Record) (before behind : List Member) (from to : List P) : Type 0 where
   pub level : Bool
   pub lines : List Event
   pub levels_is : new.levels.items ≡ old.levels.items ++ level ∷ []
   pub events_is : new.events.items ≡ old.events.items ++ lines
-  pub ports : (k : ℕ) (m : Member) (p q : P) → slice_get controllers k ≡ Some m → slice_get from k ≡ Some p → slice_get to k ≡ Some q →
-      IsBrought after transmitting sink stays (told_of (length plan.talkers.items + k) lines) (item_of m.station.sending) p q
+  pub ports : (k : ℕ) (a m : Member) (p q : P) → slice_get before k ≡ Some a → slice_get behind k ≡ Some m → slice_get from k ≡ Some p → slice_get to k ≡ Some q →
+      IsBrought after asked transmitting sink stays (told_of (length plan.talkers.items + k) lines) (wants_at (length old.levels.items) a) (item_of m.station.sending) p q
   pub size : length to ≡ length from

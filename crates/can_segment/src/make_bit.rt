@@ -3,6 +3,7 @@
 ghost use Rattle.std.specs.Prelude.{◌≡◌, true, false, ◌+◌, ◌*◌, ◌<◌, ◌≤◌, ◌++◌, ◌∷◌, [], ℕ, Bool, Some, length, slice_get, vec_len, vec_capacity};
 ghost use Rattle.can_segment.specs.Faults.{IsCalm};
 ghost use Rattle.can_segment.specs.Ports.{item_of};
+ghost use Rattle.can_segment.specs.Members.{wants_at};
 ghost use Rattle.can_segment.specs.Moves.{PortMoves};
 ghost use Rattle.can_segment.specs.Kept.{SegmentKept};
 ghost use Rattle.can_segment.specs.Tellings.{bit_lines};
@@ -66,9 +67,10 @@ pub(crate) fn make_bit<R, P: RxSink<R>>(
     ensures level { (level : Bool) × (levels.new.items ≡ levels.old.items ++ level ∷ []) }
     ensures events { events.new.items ≡ events.old.items
         ++ bit_lines (length levels.old.items) talkers.new controllers.new }
-    ensures port { (k : ℕ) (m : Member) (p q : P) → slice_get controllers.new k ≡ Some m
-        → slice_get ports.old k ≡ Some p → slice_get ports.new k ≡ Some q
-        → PortMoves P.bus_after P.transmitting P.sink_after P.port_stays (length levels.old.items) m p q }
+    ensures port { (k : ℕ) (a m : Member) (p q : P) → slice_get controllers.old k ≡ Some a
+        → slice_get controllers.new k ≡ Some m → slice_get ports.old k ≡ Some p → slice_get ports.new k ≡ Some q
+        → PortMoves P.bus_after P.bus_asked P.transmitting P.sink_after P.port_stays (length levels.old.items)
+        (wants_at (length levels.old.items) a) m p q }
     ensures size { length ports.new ≡ length ports.old }
 {
     let bit = levels.len() as u64;

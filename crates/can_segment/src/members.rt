@@ -15,6 +15,7 @@ ghost use Rattle.can_segment.specs.Members.{
   PortSettled,
   PortSettles,
   drives_at,
+  wants_at,
 };
 ghost use Rattle.can_segment.specs.Moves.{NodesMove, PortMoves};
 ghost use Rattle.can_segment.specs.declared.member.Member.{Member};
@@ -44,7 +45,7 @@ pub(crate) fn start_controllers<R, P: RxSink<R>>(
     requires size { length ports.old ≡ length members.old }
     requires port { (k : ℕ) (m : Member) (p : P) → slice_get members.old k ≡ Some m
         → slice_get ports.old k ≡ Some p → P.transmitting p ≡ item_of m.station.sending }
-    ensures { AtBoth (λ k. PortStarts P.bus_after P.transmitting P.bus_stays bit)
+    ensures { AtBoth (λ k. PortStarts P.bus_after P.bus_asked P.transmitting P.bus_stays bit)
         members.old members.new ports.old ports.new }
 {
     for place in 0..members.len() {
@@ -99,7 +100,7 @@ fn settle_ports<R, P: RxSink<R>>(rt: &R, members: &mut [Member], ports: &mut [P]
     requires size { length ports.old ≡ length members.old }
     requires unsettled { (k : ℕ) (m : Member) (p : P) → slice_get members.old k ≡ Some m
         → slice_get ports.old k ≡ Some p → IsUnsettled (P.transmitting p) bit m }
-    ensures { AtBoth (λ k. PortSettled P.bus_after P.transmitting P.sink_after P.port_stays bit)
+    ensures { AtBoth (λ k. PortSettled P.bus_after P.bus_asked P.transmitting P.sink_after P.port_stays bit)
         members.old members.new ports.old ports.new }
 {
     for place in 0..members.len() {
@@ -124,7 +125,7 @@ pub(crate) fn sample_controllers<R, P: RxSink<R>>(
     requires few { first + length members.old ≤ 1000 }
     requires port { (k : ℕ) (m : Member) (p : P) → slice_get members.old k ≡ Some m
         → slice_get ports.old k ≡ Some p → P.transmitting p ≡ item_of m.station.sending }
-    ensures settles { AtBoth (λ k. PortSettles P.bus_after P.transmitting P.sink_after P.port_stays bit
+    ensures settles { AtBoth (λ k. PortSettles P.bus_after P.bus_asked P.transmitting P.sink_after P.port_stays bit
         (sampled_level faults.now (first + k) bit level)) members.old members.new ports.old ports.new }
     ensures quiet { result ≡ false → AreQuiet bit members.new }
 {
@@ -161,9 +162,9 @@ pub(crate) fn move_nodes<R, P: RxSink<R>>(
     requires port { (k : ℕ) (m : Member) (p : P) → slice_get controllers.old k ≡ Some m
         → slice_get ports.old k ≡ Some p → P.transmitting p ≡ item_of m.station.sending }
     ensures nodes { NodesMove plan.now bit result.level talkers.old talkers.new controllers.old controllers.new }
-    ensures port { (k : ℕ) (m : Member) (p q : P) → slice_get controllers.new k ≡ Some m
-        → slice_get ports.old k ≡ Some p → slice_get ports.new k ≡ Some q
-        → PortMoves P.bus_after P.transmitting P.sink_after P.port_stays bit m p q }
+    ensures port { (k : ℕ) (a m : Member) (p q : P) → slice_get controllers.old k ≡ Some a
+        → slice_get controllers.new k ≡ Some m → slice_get ports.old k ≡ Some p → slice_get ports.new k ≡ Some q
+        → PortMoves P.bus_after P.bus_asked P.transmitting P.sink_after P.port_stays bit (wants_at bit a) m p q }
     ensures size { length ports.new ≡ length ports.old }
     ensures quiet { result.told ≡ false → AreQuiet bit talkers.new × AreQuiet bit controllers.new }
 {

@@ -2,7 +2,7 @@
 
 ghost use Rattle.std.specs.Prelude.{◌≡◌, ◌++◌, List, Some, None, is_some, IfSome, IsSome};
 ghost use Rattle.can_frame.specs.Frames.{FrameValue};
-ghost use Rattle.bx_core.specs.TxBus.{BusPast};
+ghost use Rattle.bx_core.specs.TxBus.{BusPast, BusCall};
 ghost use Rattle.can_segment.specs.Traces.{sending_after};
 ghost use Rattle.can_segment.specs.Ports.{item_of, failed, settled, taken_by, Reaps};
 
@@ -26,6 +26,7 @@ fn fail<R, P: RxSink<R>>(rt: &R, port: &mut P, sending: Option<Sent>) -> Option<
     requires { P.transmitting port.old ≡ item_of sending }
     ensures bus { (past : BusPast) → P.bus_after port.old past
         → P.bus_after port.new (failed past (item_of sending) result) }
+    ensures asked { (calls : List BusCall) → P.bus_asked port.old calls → P.bus_asked port.new calls }
     ensures idle { P.transmitting port.new ≡ None }
     ensures stays { P.bus_stays port.old port.new }
     ensures reaps { IfSome result (λ label. IfSome sending (λ sent. sent.label ≡ Some label)) }
@@ -51,6 +52,7 @@ pub(crate) fn settle<R, P: RxSink<R>>(
     requires { P.transmitting port.old ≡ item_of sending }
     ensures bus { (past : BusPast) → P.bus_after port.old past
         → P.bus_after port.new (settled past (item_of sending) outcome result) }
+    ensures asked { (calls : List BusCall) → P.bus_asked port.old calls → P.bus_asked port.new calls }
     ensures transmits { P.transmitting port.new ≡ item_of (sending_after sending outcome) }
     ensures sink { (past : List FrameValue) → P.sink_after port.old past
         → P.sink_after port.new (past ++ taken_by outcome) }

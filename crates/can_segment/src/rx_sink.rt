@@ -10,7 +10,7 @@ use can_frame::Frame;
 pub trait RxSink<R>: TxBus<R> {
     ghost use Rattle.std.specs.Prelude.{◌≡◌, List, [], ◌∷◌, ◌++◌};
     ghost use Rattle.can_frame.specs.Frames.{FrameValue};
-    ghost use Rattle.bx_core.specs.TxBus.{BusPast};
+    ghost use Rattle.bx_core.specs.TxBus.{BusPast, BusCall};
 
     // it may have been offered this since it was made, in this order
     ghost sink_after: { Self → List FrameValue → Type 0 };
@@ -22,6 +22,7 @@ pub trait RxSink<R>: TxBus<R> {
     fn offer(&mut self, rt: &R, frame: Frame)
         ensures past { (past : List FrameValue) → sink_after self.old past → sink_after self.new (past ++ frame ∷ []) }
         ensures bus { (past : BusPast) → Self.bus_after self.old past → Self.bus_after self.new past }
+        ensures asked { (calls : List BusCall) → Self.bus_asked self.old calls → Self.bus_asked self.new calls }
         ensures transmits { Self.transmitting self.new ≡ Self.transmitting self.old }
         ensures stays { port_stays self.old self.new };
 

@@ -30,6 +30,8 @@ impl<R> TxBus<R> for Port {
 
     ghost bus_after = { λ p past. BusStands (core_of p.mail) past };
 
+    ghost bus_asked = { λ p calls. Unit };
+
     ghost transmitting = { λ p. sending (core_of p.mail) };
 
     ghost bus_stays = { λ a b. (a.taken ≡ b.taken) × BusKeeps a.mail b.mail };

@@ -1,7 +1,7 @@
 -- A hand that matches what its route's side did, before a turn, once it is filled, and after its call.
-use Rattle.std.proofs.Common.{◌≡◌, ℕ, ◌+◌, ◌<◌, ◌≤◌, ◌↔◌, inl, inr, Bool, true, false, List, [], ◌∷◌, ◌++◌, length, map, refl, sym, ◌∙◌, ap, subst, arith, Result, Ok, Err}
+use Rattle.std.proofs.Common.{◌≡◌, ℕ, ◌+◌, ◌<◌, ◌≤◌, ◌↔◌, inl, inr, Bool, true, false, List, [], ◌∷◌, ◌++◌, length, refl, sym, ◌∙◌, ap, subst, arith, Result, Ok, Err}
 use Rattle.std.specs.Prelude.{IsErr}
-use Rattle.std.proofs.lemmas.List.{append_assoc, append-nil, length-append, length-map, map-append}
+use Rattle.std.proofs.lemmas.List.{append-nil, length-append, length-map, map-append}
 use Rattle.can_frame.specs.Frames.{FrameValue}
 use Rattle.can_frame.specs.Rewrites.{rewritten}
 use Rattle.bx_core.specs.declared.entry.Entry.{Entry}

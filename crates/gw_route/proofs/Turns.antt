@@ -1,5 +1,5 @@
 -- What the calls of a turn make of the hand and of the route's past.
-use Rattle.std.proofs.Common.{◌≡◌, ℕ, ◌+◌, ◌<◌, ◌≤◌, ◌↔◌, inl, inr, Bool, List, [], ◌∷◌, ◌++◌, length, refl, sym, ◌∙◌, ap, subst, arith, Result, Ok, Err, Option, Some, None}
+use Rattle.std.proofs.Common.{◌≡◌, ℕ, ◌<◌, ◌↔◌, inl, inr, Bool, [], ◌∷◌, ◌++◌, sym, ◌∙◌, ap, subst, arith, Result, Ok, Err, Some}
 use Rattle.std.specs.Prelude.{IsErr}
 use Rattle.std.proofs.lemmas.List.{map-append}
 use Rattle.bx_core.specs.declared.entry.Entry.{Entry}
@@ -12,12 +12,12 @@ use Rattle.bx_core.specs.Steps.{greatest_number, last_number}
 use Rattle.bx_core.specs.RouteTx.{RoutePast, after_request, after_abort}
 use Rattle.bx_rx.specs.RxOut.{WasEmpty}
 use Rattle.bx_rx.specs.declared.rx_frame.RxFrame.{RxFrame}
-use Rattle.gw_route.specs.RouteHand.{HandValue, LogMatches, LogsReleased, frames_of}
-use Rattle.gw_route.specs.Turn.{counted, first_abort, IsDueByCount, taken, given, none_given, Filled, if_requested, requested_answer, if_aborted, aborted_answer, Turned, idle, by_request, by_abort, Acted}
+use Rattle.gw_route.specs.RouteHand.{HandValue, LogMatches, LogsReleased}
+use Rattle.gw_route.specs.Turn.{first_abort, IsDueByCount, none_given, Filled, if_requested, requested_answer, if_aborted, aborted_answer, Turned, idle, by_request, by_abort, Acted}
 use Rattle.gw_route.specs.declared.planned_abort.PlannedAbort.{PlannedAbort}
 use Rattle.gw_route.specs.declared.turn_answer.TurnAnswer.{TurnAnswer}
 use Rattle.gw_route.specs.declared.turn_answer.TurnAnswer.TheVariants.{Idle}
-use Rattle.gw_route.proofs.Matches.{tickets-requested, due-count, count-due, matches-counted, matches-asked, matches-filled, number-filled, matches-requested, matches-aborted, last-requested}
+use Rattle.gw_route.proofs.Matches.{due-count, count-due, matches-asked, matches-filled, number-filled, matches-requested, matches-aborted, last-requested}
 
 pub acted-idle : (after : RoutePast → Type 0) (old new : HandValue) → ((abort : PlannedAbort) → first_abort old ≡ Some abort → IsDueByCount old abort → ⊥) →
     new ≡ none_given old → old.in_hand ≡ [] → WasEmpty old.out → Acted after after old new Idle

@@ -1,2 +1,3 @@
 pub mod RouteHand
 pub mod Turn
+pub mod Heard

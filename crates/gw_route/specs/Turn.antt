@@ -1,5 +1,5 @@
 -- One turn of a route: an abort that is due, or else a request of the frame in the hand.
-use Rattle.std.specs.Prelude.{◌≡◌, ℕ, ◌+◌, ◌<◌, ◌≤◌, ◌↔◌, ◌⊎◌, nat_lt, if◌then◌else◌, Bool, List, [], ◌∷◌, ◌++◌, length, remove, slice_get, Option, Some, None, Result, Ok, Err, IsErr}
+use Rattle.std.specs.Prelude.{◌≡◌, ℕ, ◌+◌, ◌<◌, ◌≤◌, ◌↔◌, ◌⊎◌, nat_lt, if◌then◌else◌, Bool, List, [], ◌∷◌, ◌++◌, length, remove, slice_get, Option, Some, Result, Ok, Err, IsErr}
 use Rattle.can_frame.specs.Frames.{FrameValue}
 use Rattle.can_frame.specs.Rewrites.{rewritten}
 use Rattle.bx_core.specs.declared.entry.Entry.{Entry}

@@ -6,6 +6,7 @@ ghost use Rattle.bx_core.specs.declared.answer.NumberTooLarge.{NumberTooLarge};
 ghost use Rattle.bx_core.specs.Steps.{greatest_number};
 ghost use Rattle.bx_core.specs.RouteTx.{RoutePast, no_route_past, after_request, after_abort};
 ghost use Rattle.bx_rx.specs.RxOut.{IsReleased};
+ghost use Rattle.gw_route.specs.Heard.{HearsTurn};
 ghost use Rattle.gw_route.specs.RouteHand.{hand_value, new_hand, LogMatches, LogsReleased, IsLinked};
 ghost use Rattle.gw_route.specs.Turn.{counted, IsDueByCount, first_abort, taken, none_given, Filled, if_requested, requested_answer, logged, if_aborted, aborted_answer, Acted, TurnMade, TurnKeeps};
 
@@ -88,6 +89,7 @@ impl RouteHand {
         ensures memory { OnErr result (hand_value self.new ≡ hand_value self.old) }
         ensures untouched { OnErr result (tx.new ≡ tx.old) }
         ensures unheard { OnErr result (gate.new ≡ gate.old) }
+        ensures heard { IfOk result (λ answer. HearsTurn G.may_have_heard answer gate.old gate.new) }
         ensures stays { T.stays tx.old tx.new }
     {
         if self.log.released.reserve(1).is_err() {
@@ -120,6 +122,7 @@ impl RouteHand {
         requires aborted { vec_len self.old.log.aborted < vec_capacity self.old.log.aborted }
         requires linked { IsLinked (T.route_after tx.old) (hand_value self.old) }
         ensures turned { Acted (T.route_after tx.old) (T.route_after tx.new) (hand_value self.old) (hand_value self.new) result }
+        ensures heard { HearsTurn G.may_have_heard result gate.old gate.new }
         ensures stays { T.stays tx.old tx.new }
     {
         match self.due() {
@@ -215,6 +218,7 @@ impl RouteHand {
             × (IsErr sent ↔ (greatest_number < entry.number))
             × ((past : RoutePast) → T.route_after tx.old past
             → T.route_after tx.new (after_request past entry.number entry.frame sent)) }
+        ensures heard { HearsTurn G.may_have_heard result gate.old gate.new }
         ensures stays { T.stays tx.old tx.new }
     {
         match tx.request(rt, entry.number, entry.frame, gate) {
@@ -243,6 +247,7 @@ impl RouteHand {
             × (hand_value self.new ≡ if_aborted answer number (hand_value self.old))
             × ((past : RoutePast) → T.route_after tx.old past
             → (asks : Bool) × T.route_after tx.new (after_abort past number answer asks)) }
+        ensures heard { HearsTurn G.may_have_heard result gate.old gate.new }
         ensures stays { T.stays tx.old tx.new }
     {
         match tx.abort(rt, number, gate) {

@@ -1,13 +1,11 @@
 -- Laws of how many turns routes made, and of memory that was not refused.
-use Rattle.std.proofs.Common.{◌≡◌, ◌≢◌, ℕ, zero, suc, ◌+◌, ◌*◌, ◌/◌, ◌%◌, ◌<◌, ◌≤◌, inl, inr, ◌⊎◌, if◌then◌else◌, true, false, nat_lt, Some, List, length, set, slice_get, refl, sym, ap, subst, arith, ◌∙◌}
-use Rattle.std.proofs.lemmas.Bool.Decides.{eqb_tells}
+use Rattle.std.proofs.Common.{◌≡◌, ◌≢◌, ℕ, zero, suc, ◌+◌, ◌*◌, ◌/◌, ◌%◌, ◌<◌, ◌≤◌, inl, inr, ◌⊎◌, if◌then◌else◌, false, List, slice_get, refl, sym, ap, arith, ◌∙◌}
 use Rattle.std.proofs.lemmas.Option.{slice_get_within}
 use Rattle.std.proofs.lemmas.Bool.{lt-ltb}
 use Rattle.std.proofs.Math.Nat.{div-eq_of_lt-le, div-add-mod, div-le_self, mod-lt, zero-div, mul-suc, suc-mul, mul_comm, mul-zero}
 use Rattle.bx_core.specs.PlainMail.{short_of}
 use Rattle.can_segment.specs.Places.{AtPlaces}
 use Rattle.can_segment.proofs.NextBits.{some_there}
-use Rattle.can_segment.proofs.Places.{same_some}
 use Rattle.gw_route.specs.Turn.{next_turn}
 use Rattle.gw_script.specs.Scripts.{ScriptValue}
 use Rattle.gw_run.specs.declared.lane.Lane.{Lane}

@@ -1,5 +1,5 @@
 -- A turn keeps to the aborts that were planned.
-use Rattle.std.proofs.Common.{◌≡◌, ℕ, inl, inr, Some, Result, Ok, Err, List, [], ◌∷◌, ◌++◌, map, slice_get, remove, refl, sym, ap, subst, append_assoc, ◌∙◌}
+use Rattle.std.proofs.Common.{◌≡◌, ℕ, inl, inr, Some, Result, Ok, Err, List, [], ◌∷◌, ◌++◌, slice_get, remove, refl, sym, ap, subst, append_assoc, ◌∙◌}
 use Rattle.std.proofs.lemmas.List.{map-append}
 use Rattle.bx_core.specs.declared.answer.Sent.{Sent}
 use Rattle.bx_core.specs.declared.answer.Sent.TheVariants.{Yes, NotNow}

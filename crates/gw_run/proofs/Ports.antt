@@ -1,11 +1,14 @@
 -- A frame that a controller takes goes to the FIFO of its filter.
-use Rattle.std.proofs.Common.{◌≡◌, ◌≢◌, ℕ, ◌<◌, ◌≤◌, Option, Some, None, List, [], ◌∷◌, ◌++◌, length, arith, length-append}
+use Rattle.std.proofs.Common.{◌≢◌, ℕ, ◌<◌, ◌≤◌, Option, Some, None, List, [], ◌∷◌, ◌++◌, length, arith, length-append, refl, sym, subst, inl, inr}
 use Rattle.can_frame.specs.Frames.{FrameValue}
+use Rattle.bx_core.specs.Lists.{Each}
+use Rattle.bx_core.proofs.Words.{each-append}
 use Rattle.bx_rx.specs.Bank.{BankValue}
+use Rattle.bx_rx.specs.declared.rx_frame.RxFrame.{RxFrame}
 use Rattle.bx_rx.specs.Banks.{IsFound}
 use Rattle.gw_run.specs.Intakes.{GoTo, fifo_of}
 use Rattle.gw_run.specs.Intakes.GoTo.{nothing, here, elsewhere}
-use Rattle.gw_run.specs.Slots.{SlotStands, SlotOffers}
+use Rattle.gw_run.specs.Slots.{SlotStands, SlotOffers, IsNumbered}
 use Rattle.gw_run.specs.declared.intake.Intake.{Intake}
 
 goes-length : {banks : List BankValue} {fifo : ℕ} {taken offered : List FrameValue} → GoTo banks fifo taken offered → length offered ≤ length taken
@@ -17,16 +20,20 @@ goes-length (elsewhere {taken = taken} frame found is fits h) = omega (arith, le
 pub passes_by : (banks : List BankValue) (fifo : ℕ) (slot : Option Intake) (taken : List FrameValue) (frame : FrameValue) (found : Option (ℕ × ℕ)) →
     IsFound banks frame found → fifo_of found ≢ Some fifo → SlotStands banks fifo slot taken → SlotStands banks fifo slot (taken ++ frame ∷ [])
 passes_by banks fifo None taken frame found is other h = tt
-passes_by banks fifo (Some intake) taken frame found is other h = record { offered = h.offered; goes = elsewhere frame found is other h.goes; stands = h.stands }
+passes_by banks fifo (Some intake) taken frame found is other h = record { offered = h.offered; goes = elsewhere frame found is other h.goes; stands = h.stands; numbered = h.numbered }
 
 -- or to this one
-pub comes_in : (banks : List BankValue) (fifo : ℕ) (old new : Option Intake) (taken : List FrameValue) (frame : FrameValue) (found : Option (ℕ × ℕ)) → IsFound banks frame found → fifo_of found ≡ Some fifo →
-    length (taken ++ frame ∷ []) < 18446744073709551616 → SlotOffers old new frame → SlotStands banks fifo old taken → SlotStands banks fifo new (taken ++ frame ∷ [])
-comes_in banks fifo None None taken frame found is its few offers h = tt
-comes_in banks fifo None (Some new) taken frame found is its few offers h = absurd offers
-comes_in banks fifo (Some old) None taken frame found is its few offers h = absurd offers
-comes_in banks fifo (Some old) (Some new) taken frame found is its few offers h = record {
-  offered = h.offered ++ frame ∷ [];
-  goes = here frame found is its h.goes;
-  stands = offers h.offered (omega (arith, few, length-append taken (frame ∷ []), goes-length h.goes)) h.stands;
+pub comes_in : (banks : List BankValue) (fifo : ℕ) (old new : Option Intake) (taken : List FrameValue) (x : RxFrame) → IsNumbered banks fifo x →
+    length (taken ++ x.frame ∷ []) < 18446744073709551616 → SlotOffers old new x → SlotStands banks fifo old taken → SlotStands banks fifo new (taken ++ x.frame ∷ [])
+comes_in banks fifo None None taken x is few offers h = tt
+comes_in banks fifo None (Some new) taken x is few offers h = absurd offers
+comes_in banks fifo (Some old) None taken x is few offers h = absurd offers
+comes_in banks fifo (Some old) (Some new) taken x is few offers h = record {
+  offered = h.offered ++ x.frame ∷ [];
+  goes = here x.frame (Some (fifo, x.filter_number)) is refl h.goes;
+  stands = offers.0 h.offered (omega (arith, few, length-append taken (x.frame ∷ []), goes-length h.goes)) h.stands;
+  numbered = elim offers.1 [
+    | inl more ↦ subst (Each (IsNumbered banks fifo)) (sym more) (each-append (IsNumbered banks fifo) old.rxin.stored (x ∷ []) h.numbered (is, tt))
+    | inr same ↦ subst (Each (IsNumbered banks fifo)) (sym same) h.numbered
+  ];
 }

@@ -1,6 +1,5 @@
 -- Laws of sublists.
-use Rattle.std.proofs.Common.{◌≡◌, ℕ, inl, inr, ◌⊎◌, Bool, true, false, cond, List, [], ◌∷◌, ◌++◌, fold, refl, sym, subst, append_assoc, ◌∙◌}
-use Rattle.std.proofs.lemmas.List.{append-nil}
+use Rattle.std.proofs.Common.{ℕ, inl, inr, Bool, true, false, cond, List, [], ◌∷◌, ◌++◌, fold, refl, subst, append_assoc, ◌∙◌}
 use Rattle.gw_run.specs.Headline.{is_among}
 use Rattle.gw_run.specs.Links.{settle, settled}
 use Rattle.gw_run.specs.Sublists.{IsSublist}

@@ -1,5 +1,5 @@
 -- What comes to the receive FIFOs of a controller (RM0008, bxCAN, "Identifier filtering" and "Reception handling").
-use Rattle.std.specs.Prelude.{◌≡◌, ◌≢◌, ℕ, suc, ◌+◌, ◌≤◌, Option, Some, None, List, [], ◌∷◌, ◌++◌, length}
+use Rattle.std.specs.Prelude.{◌≡◌, ◌≢◌, ◌⊎◌, ℕ, suc, ◌+◌, ◌≤◌, Option, Some, None, List, [], ◌∷◌, ◌++◌, length}
 use Rattle.can_frame.specs.Frames.{FrameValue}
 use Rattle.bx_rx.specs.Bank.{BankValue}
 use Rattle.bx_rx.specs.Banks.{IsFound}
@@ -31,6 +31,10 @@ abbrev pub discards_in : List (Option RxFrame) → ℕ
 discards_in [] = 0
 discards_in (None ∷ calls) = suc (discards_in calls)
 discards_in (Some x ∷ calls) = discards_in calls
+
+-- one frame more is stored, or none
+abbrev pub StoresAtMost : Intake → Intake → RxFrame → Type 0
+StoresAtMost old new x = (new.rxin.stored ≡ old.rxin.stored ++ x ∷ []) ⊎ (new.rxin.stored ≡ old.rxin.stored)
 
 -- it was offered these frames, each by a call of its own: what it stored is all of them but those it discarded, and it discards only
 -- when full

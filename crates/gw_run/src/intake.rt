@@ -2,7 +2,7 @@
 
 ghost use Rattle.std.specs.Prelude.{◌≡◌, ◌<◌, ◌++◌, ◌∷◌, [], List, length};
 ghost use Rattle.can_frame.specs.Frames.{FrameValue};
-ghost use Rattle.gw_run.specs.Intakes.{IntakeStands};
+ghost use Rattle.gw_run.specs.Intakes.{IntakeStands, StoresAtMost};
 
 use bx_rx::{Offered, RxFrame, RxIn};
 use std::sync::Wait;
@@ -33,6 +33,7 @@ impl Intake {
     pub(crate) fn offer<R: Wait>(&mut self, rt: &R, frame: RxFrame)
         ensures stands { (offered : List FrameValue) → length offered < u64.MAX → IntakeStands self.old offered
             → IntakeStands self.new (offered ++ frame.frame ∷ []) }
+        ensures stores { StoresAtMost self.old self.new frame }
         ensures queue { self.new.rxin.queue ≡ self.old.rxin.queue }
     {
         self.accepted = self.accepted.saturating_add(1);

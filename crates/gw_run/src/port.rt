@@ -1,6 +1,10 @@
 //! A controller of a run.
 
-ghost use Rattle.std.specs.Prelude.{◌≡◌};
+ghost use Rattle.std.specs.Prelude.{◌≡◌, Some, None, IfSome, IfNone};
+ghost use Rattle.bx_core.specs.PlainMail.{core_of, sending, is_ready, readied, Starts};
+ghost use Rattle.bx_core.specs.Stands.{BusStands};
+ghost use Rattle.bx_core.specs.TxBus.{BusPast, IsUndone, after_start};
+ghost use Rattle.gw_run.specs.Ports.{BusLeaves};
 ghost use Rattle.gw_run.specs.Slots.{SlotOffers, SameFifo};
 
 use crate::intake::Intake;
@@ -22,7 +26,7 @@ pub(crate) struct Port {
 
 /// Offers a frame to a FIFO, if a route takes from it.
 fn offer_to<R: Wait>(rt: &R, slot: &mut Option<Intake>, frame: RxFrame)
-    ensures stands { SlotOffers slot.old slot.new frame.frame }
+    ensures stands { SlotOffers slot.old slot.new frame }
     ensures queue { SameFifo slot.old slot.new }
 {
     match slot {
@@ -40,15 +44,36 @@ impl<R> TxBus<R> for Port {
 
     ghost bus_after = { λ p past. BusStands (core_of p.mail) past };
 
+    // its mail is asked by the clauses of `ready` and `start`
+    ghost bus_asked = { λ p calls. Unit };
+
     ghost transmitting = { λ p. sending (core_of p.mail) };
 
     ghost bus_stays = { BusLeaves };
 
-    fn ready(&mut self, rt: &R) -> bool {
+    /// As its mailboxes say.
+    fn ready(&mut self, rt: &R) -> bool
+        ensures past { (past : BusPast) → BusStands (core_of self.old.mail) past → BusStands (core_of self.new.mail) past }
+        ensures transmits { sending (core_of self.new.mail) ≡ sending (core_of self.old.mail) }
+        ensures stays { BusLeaves self.old self.new }
+        ensures core { core_of self.new.mail ≡ readied (core_of self.old.mail) }
+        ensures ready { result ≡ is_ready (core_of self.new.mail) }
+    {
         self.mail.ready(rt)
     }
 
-    fn start(&mut self, rt: &R) -> Option<(u8, u32, Frame)> {
+    /// As its mailboxes say.
+    fn start(&mut self, rt: &R) -> Option<(u8, u32, Frame)>
+        ensures past { (past : BusPast) → BusStands (core_of self.old.mail) past
+            → BusStands (core_of self.new.mail) (after_start past result) }
+        ensures undone { (past : BusPast) → BusStands (core_of self.old.mail) past
+            → IfSome result (λ x. IsUndone past x) }
+        ensures idle { IfSome result (λ x. sending (core_of self.old.mail) ≡ None) }
+        ensures transmits { IfSome result (λ x. sending (core_of self.new.mail) ≡ Some x) }
+        ensures none { IfNone result (sending (core_of self.new.mail) ≡ sending (core_of self.old.mail)) }
+        ensures stays { BusLeaves self.old self.new }
+        ensures core { Starts (core_of self.old.mail) result (core_of self.new.mail) }
+    {
         self.mail.start(rt)
     }
 

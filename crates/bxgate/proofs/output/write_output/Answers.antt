@@ -1,5 +1,5 @@
 -- A front of the text was written.
-use Rattle.std.proofs.Common.{rules, arith, sym, subst, take, length, ◌≡◌, ◌+◌, ◌∙◌, ap}
+use Rattle.std.proofs.Common.{arith, sym, subst, take, ◌+◌, ◌∙◌, ap}
 use Rattle.std.proofs.Math.Seq.{take-length}
 use Rattle.std.specs.Io.KnownBytes.{Appends}
 use Rattle.bxgate.proofs.Outputs.{appends_none, piece_more, piece_kept, piece_within, rest_is}

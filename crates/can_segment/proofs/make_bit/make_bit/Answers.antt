@@ -1,5 +1,6 @@
 use Rattle.std.proofs.Common.{rules, ◌≡◌, ◌++◌, ◌∷◌, [], length, arith, sym, subst, length-append, ◌∙◌}
 use Rattle.can_segment.specs.Kept.{SegmentKept}
+use Rattle.can_segment.specs.Members.{wants_at}
 use Rattle.can_segment.specs.Moves.{PortMoves}
 use Rattle.can_segment.proofs.Keeps.{talker_clocks, controller_clocks, kept_on}
 use Rattle.can_segment.proofs.Quiet.{quiet_lines}
@@ -24,9 +25,9 @@ returns-clause-kept g c =
     (subst (λ es. SegmentKept c.args.plan.now (c.args.levels.now.items ++ c.move_nodes-level.result.level ∷ []) es c.move_nodes-level.new.talkers c.move_nodes-level.new.controllers) (sym c.tell.ensures) kept)
 
 pub returns-clause-port : goal.returns-clause-port
-returns-clause-port g c k m p q e f h =
+returns-clause-port g c k a m p q d e f h =
     let here : c.len-bit.result ≡ length c.args.levels.now.items = search rules in
-    subst (λ b. PortMoves g.P.TxBus.bus_after g.P.TxBus.transmitting g.P.RxSink.sink_after g.P.RxSink.port_stays b m p q) here (c.move_nodes-level.ensures.port k m p q e f h)
+    subst (λ b. PortMoves g.P.TxBus.bus_after g.P.TxBus.bus_asked g.P.TxBus.transmitting g.P.RxSink.sink_after g.P.RxSink.port_stays b (wants_at b a) m p q) here (c.move_nodes-level.ensures.port k a m p q d e f h)
 
 pub tell-requires-clause-quiet : goal.tell-requires-clause-quiet
 tell-requires-clause-quiet g c none =

@@ -83,12 +83,11 @@ returns-clause-nodes g c =
     }
 
 pub returns-clause-port : goal.returns-clause-port
-returns-clause-port g c k m p q e f h =
+returns-clause-port g c k a m p q d e f h =
     let starts = c.start_controllers.ensures in
     let settles = c.sample_controllers-controllers_told.ensures.settles in
     let within = slice_get_within c.sample_controllers-controllers_told.new.members k m e in
-    let old = some_there c.args.controllers.now k (omega (arith, within, starts.size, settles.size)) in
     let mid = some_there c.start_controllers.new.members k (omega (arith, within, settles.size)) in
     let between = some_there c.start_controllers.new.ports k (omega (arith, within, starts.size, settles.size, starts.size_too, c.requires.ports)) in
-    port_moves g.P.TxBus.bus_after g.P.TxBus.transmitting g.P.RxSink.sink_after g.P.TxBus.bus_stays g.P.RxSink.port_stays c.args.bit _ old.0 mid.0 m p between.0 q g.met.P.RxSink.port_of_bus g.met.P.RxSink.port_stays_on g.met.P.RxSink.sink_stays
-    (starts.at k old.0 mid.0 p between.0 old.1 mid.1 f between.1) (settles.at k mid.0 m between.0 q mid.1 e between.1 h)
+    port_moves g.P.TxBus.bus_after g.P.TxBus.bus_asked g.P.TxBus.transmitting g.P.RxSink.sink_after g.P.TxBus.bus_stays g.P.RxSink.port_stays c.args.bit _ a mid.0 m p between.0 q g.met.P.RxSink.port_of_bus g.met.P.RxSink.port_stays_on g.met.P.RxSink.sink_stays
+    (starts.at k a mid.0 p between.0 d mid.1 f between.1) (settles.at k mid.0 m between.0 q mid.1 e between.1 h)

@@ -20,7 +20,7 @@ returns-clause-settles g c =
       at = λ k a b p q ea eb ep eq.
           let within = slice_get_within c.args.members.now k a ea in
           let mid = some_there c.sample_nodes-told.new.members k (omega (arith, within, samples.size)) in
-          port_settles g.P.TxBus.bus_after g.P.TxBus.transmitting g.P.RxSink.sink_after g.P.RxSink.port_stays c.args.bit (sampled_level c.args.faults.now (c.args.first + k) c.args.bit c.args.level) a mid.0 b p q
+          port_settles g.P.TxBus.bus_after g.P.TxBus.bus_asked g.P.TxBus.transmitting g.P.RxSink.sink_after g.P.RxSink.port_stays c.args.bit (sampled_level c.args.faults.now (c.args.first + k) c.args.bit c.args.level) a mid.0 b p q
           (samples.at k a mid.0 ea mid.1) (settles.at k mid.0 b p q mid.1 eb ep eq);
       size = omega (arith, samples.size, settles.size);
       size_too = settles.size_too;

@@ -9,13 +9,13 @@ loop-place-preserved g c =
     let members = c.loop-place.members in
     let ports = c.loop-place.ports in
     let place = c.loop-place.place in
-    both_step (λ k. PortSettled g.P.TxBus.bus_after g.P.TxBus.transmitting g.P.RxSink.sink_after g.P.RxSink.port_stays c.args.bit) c.args.members.now members c.args.ports.now ports place
+    both_step (λ k. PortSettled g.P.TxBus.bus_after g.P.TxBus.bus_asked g.P.TxBus.transmitting g.P.RxSink.sink_after g.P.RxSink.port_stays c.args.bit) c.args.members.now members c.args.ports.now ports place
     _ c.settle.new.self _ c.settle.new.port
     (omega (arith, c.loop-place-test.true, c.loop-place.invariant.size)) c.requires.size
     (slice_get-get_or members place c.index-members-place.result (omega (arith, c.loop-place-test.true)))
     (slice_get-get_or ports place c.index-ports-place.result (omega (arith, c.loop-place-test.true, c.loop-place.invariant.size, c.loop-place.invariant.size_too, c.requires.size)))
-    (record { member = c.settle.ensures.member; bus = c.settle.ensures.bus; transmits = c.settle.ensures.transmits; offers = c.settle.ensures.sink; stays_on = c.settle.ensures.stays }) c.loop-place.invariant
+    (record { member = c.settle.ensures.member; bus = c.settle.ensures.bus; asks_none = c.settle.ensures.asked; transmits = c.settle.ensures.transmits; offers = c.settle.ensures.sink; stays_on = c.settle.ensures.stays }) c.loop-place.invariant
 
 pub returns : goal.returns
-returns g c = both_end (λ k. PortSettled g.P.TxBus.bus_after g.P.TxBus.transmitting g.P.RxSink.sink_after g.P.RxSink.port_stays c.args.bit) c.args.members.now c.loop-place.members c.args.ports.now c.loop-place.ports c.loop-place.place
+returns g c = both_end (λ k. PortSettled g.P.TxBus.bus_after g.P.TxBus.bus_asked g.P.TxBus.transmitting g.P.RxSink.sink_after g.P.RxSink.port_stays c.args.bit) c.args.members.now c.loop-place.members c.args.ports.now c.loop-place.ports c.loop-place.place
     (omega (arith, c.loop-place-test.false, c.loop-place.invariant.size)) c.loop-place.invariant

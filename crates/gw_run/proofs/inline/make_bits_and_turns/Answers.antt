@@ -1,5 +1,5 @@
 use Rattle.std.proofs.Common.{sym, subst, ◌∙◌}
-use Rattle.gw_run.specs.Worlds.{HaveMade, HaveTurned}
+use Rattle.gw_run.specs.Worlds.{HaveMade}
 use Rattle.gw_run.proofs.Counted.{none_turned, none_short}
 use Rattle.gw_run.proofs.Starts.{world_starts, none_made}
 use Rattle.gw_run.proofs.Finals.{is_over}

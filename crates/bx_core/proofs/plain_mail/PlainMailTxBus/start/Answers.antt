@@ -1,3 +1,4 @@
+use Rattle.bx_core.proofs.Readies.{starts_oldest}
 use Rattle.bx_core.proofs.Undone.{starts_undone, starts_unaborted}
 use Rattle.bx_core.proofs.BusSide.{starts-bus, starts-idle, starts-sends, starts-none, starts-keeps}
 use Rattle.bx_core.proofs.plain_mail.PlainMailTxBus.start.Goals as goal
@@ -22,3 +23,6 @@ returns-clause-none g c = starts-none c.args.self.now.core c.start_scheduled.new
 
 pub returns-clause-stays : goal.returns-clause-stays
 returns-clause-stays g c = starts-keeps _ _ _ c.keep_law.ensures.law c.start_scheduled.ensures.core c.start_scheduled.ensures.short
+
+pub returns-clause-oldest : goal.returns-clause-oldest
+returns-clause-oldest g c = starts_oldest _ _ _ c.keep_law.ensures.law c.start_scheduled.ensures.core

@@ -1,5 +1,5 @@
 use Rattle.std.proofs.Common.{◌≡◌, sym, subst}
-use Rattle.gw_route.specs.RouteHand.{HandValue, hand_value, LogMatches, LogsReleased, IsLinked}
+use Rattle.gw_route.specs.RouteHand.{HandValue, hand_value, LogMatches, LogsReleased}
 use Rattle.gw_route.specs.Turn.{counted}
 use Rattle.gw_route.proofs.Matches.{matches-counted}
 use Rattle.gw_route.proofs.Turns.{turned-matches, turned-logs}

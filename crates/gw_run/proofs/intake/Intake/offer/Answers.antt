@@ -1,6 +1,13 @@
-use Rattle.std.proofs.Common.{arith, refl}
+use Rattle.std.proofs.Common.{arith, refl, ap, inl, inr}
+use Rattle.bx_rx.specs.RxIn.{Inlet}
 use Rattle.gw_run.proofs.Intakes.{stores, discards, few_discarded}
 use Rattle.gw_run.proofs.intake.Intake.offer.Goals as goal
+
+pub returns-in-Stored-clause-stores : goal.returns-in-Stored-clause-stores
+returns-in-Stored-clause-stores g c = inl (ap (λ (r : Inlet). r.stored) c.in-Stored.ensures)
+
+pub returns-in-Overrun-clause-stores : goal.returns-in-Overrun-clause-stores
+returns-in-Overrun-clause-stores g c = inr (ap (λ (r : Inlet). r.stored) c.in-Overrun.ensures.0)
 
 pub returns-in-Stored-clause-stands : goal.returns-in-Stored-clause-stands
 returns-in-Stored-clause-stands g c offered few h =
