@@ -5,9 +5,9 @@ use Rattle.bx_core.specs.declared.plain_mail.PlainMail.{PlainMail}
 use Rattle.bx_core.specs.PlainMail.{core_of}
 use Rattle.bx_core.specs.States.{State}
 use Rattle.can_segment.proofs.Places.{same_some}
-use Rattle.gw_run.specs.declared.intake.Intake.{Intake}
+use Rattle.bx_controller.specs.declared.intake.Intake.{Intake}
 use Rattle.gw_run.specs.declared.place.Place.{Place}
-use Rattle.gw_run.specs.declared.port.Port.{Port}
+use Rattle.gw_run.specs.Ports.{Port}
 use Rattle.gw_run.specs.declared.site.Site.{Site}
 use Rattle.gw_run.specs.Slots.{SetsSlot}
 use Rattle.gw_run.specs.Worlds.{IsAt, PortChanges}

@@ -10,7 +10,7 @@ use Rattle.gw_route.specs.Turn.{next_turn}
 use Rattle.gw_script.specs.Scripts.{ScriptValue}
 use Rattle.gw_run.specs.declared.lane.Lane.{Lane}
 use Rattle.gw_run.specs.declared.place.Place.{Place}
-use Rattle.gw_run.specs.declared.port.Port.{Port}
+use Rattle.gw_run.specs.Ports.{Port}
 use Rattle.gw_run.specs.declared.site.Site.{Site}
 use Rattle.gw_run.specs.Openings.{Opens, IsNewLane, IsNewSite, IsNewPort}
 use Rattle.gw_script.specs.Nodes.{controller_places}

@@ -15,10 +15,10 @@ use Rattle.bx_rx.specs.declared.rx_frame.RxFrame.{RxFrame}
 use Rattle.gw_route.specs.RouteHand.{HandValue, IsLinked, LogsReleased, frames_of, numbered}
 use Rattle.gw_script.specs.declared.route_report.RouteReport.{RouteReport}
 use Rattle.gw_run.specs.Links.{settled, RouteLinked}
-use Rattle.gw_run.specs.Intakes.{LeavesOut, IntakeStands}
-use Rattle.gw_run.specs.declared.intake.Intake.{Intake}
+use Rattle.bx_controller.specs.Intakes.{LeavesOut, IntakeStands}
+use Rattle.bx_controller.specs.declared.intake.Intake.{Intake}
 use Rattle.gw_run.specs.Ends.{IsEndOf}
-use Rattle.gw_run.proofs.Intakes.{left-length}
+use Rattle.bx_controller.proofs.Intakes.{left-length}
 use Rattle.gw_run.proofs.Links.{reaped_aborted}
 
 entries_step : (core : State) (number : ℕ) (x : Item) (xs : List Item) (e : Entry) → Has (lists_of core x.0).requested (entry_on_bus x) →

@@ -1,7 +1,5 @@
 pub mod Counts
 pub mod Links
-pub mod Intakes
-pub mod Ports
 pub mod Lanes
 pub mod Settles
 pub mod Sublists

@@ -29,7 +29,7 @@ use Rattle.gw_script.specs.NamedPlaces.{label_of, NamesRequest, NamesEvent, Name
 use Rattle.gw_script.specs.Nodes.{controller_places, controller_at, route_places, talkers_on, names_of_nodes}
 use Rattle.gw_script.specs.Scripts.{ScriptValue}
 use Rattle.gw_script.specs.Talkers.{TalkerValue}
-use Rattle.gw_run.specs.declared.port.Port.{Port}
+use Rattle.gw_run.specs.Ports.{Port}
 use Rattle.gw_run.specs.declared.site.Site.{Site}
 use Rattle.gw_run.specs.Finals.{IsDonePort, IsDoneSite, AreDoneSites, IsRecordAt}
 use Rattle.gw_run.specs.Pairs.{Pairs}

@@ -11,10 +11,10 @@ use Rattle.gw_script.specs.Routes.{RouteValue}
 use Rattle.gw_script.specs.Scripts.{ScriptValue}
 use Rattle.gw_script.specs.SoundScripts.{IsSound, IsControllerIn, IsRouteIn, TakesElsewhere}
 use Rattle.gw_script.specs.Nodes.{controller_places}
-use Rattle.gw_run.specs.declared.intake.Intake.{Intake}
+use Rattle.bx_controller.specs.declared.intake.Intake.{Intake}
 use Rattle.gw_run.specs.declared.lane.Lane.{Lane}
 use Rattle.gw_run.specs.declared.place.Place.{Place}
-use Rattle.gw_run.specs.declared.port.Port.{Port}
+use Rattle.gw_run.specs.Ports.{Port}
 use Rattle.gw_run.specs.declared.site.Site.{Site}
 use Rattle.gw_run.specs.Openings.{IsNewMail, priority_of, IsEmptySlot, routes_at, IsNewPort, IsNewSite, AreNewSites, IsPlaceOf, IsLaneOf, IsNewLane, Takes, TakesApart}
 use Rattle.gw_run.specs.Plans.{IsPlanOf}

@@ -4,12 +4,12 @@ use Rattle.std.proofs.lemmas.Option.{slice_get_within}
 use Rattle.bx_core.specs.Stands.{BusKeeps}
 use Rattle.can_segment.specs.Places.{AtPlaces}
 use Rattle.can_segment.proofs.NextBits.{some_there}
-use Rattle.gw_run.specs.declared.intake.Intake.{Intake}
+use Rattle.bx_controller.specs.declared.intake.Intake.{Intake}
 use Rattle.gw_run.specs.declared.lane.Lane.{Lane}
 use Rattle.gw_run.specs.declared.place.Place.{Place}
-use Rattle.gw_run.specs.declared.port.Port.{Port}
+use Rattle.gw_run.specs.Ports.{Port}
 use Rattle.gw_run.specs.declared.site.Site.{Site}
-use Rattle.gw_run.specs.Slots.{SameFifo}
+use Rattle.bx_controller.specs.Slots.{SameFifo}
 use Rattle.gw_run.specs.Ports.{PortLeaves}
 use Rattle.gw_run.specs.Sites.{SiteMoves}
 use Rattle.gw_run.specs.Worlds.{IsAt, slot_of, LaneHolds, TakesFrom, WorldHolds}

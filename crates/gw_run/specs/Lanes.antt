@@ -3,7 +3,7 @@ use Rattle.std.specs.Prelude.{◌≡◌, ℕ, List, ◌++◌, map}
 use Rattle.bx_core.specs.Stands.{RouteKeeps}
 use Rattle.gw_route.specs.RouteHand.{HandValue}
 use Rattle.gw_route.specs.declared.planned_abort.PlannedAbort.{PlannedAbort}
-use Rattle.gw_run.specs.declared.port.Port.{Port}
+use Rattle.gw_run.specs.Ports.{Port}
 use Rattle.gw_run.specs.Sublists.{IsSublist}
 
 abbrev pub numbers_in : List PlannedAbort → List ℕ

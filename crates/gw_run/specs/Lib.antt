@@ -1,9 +1,8 @@
 pub mod Pairs
 pub mod Headline
 pub mod Links
-pub mod Intakes
-pub mod Slots
 pub mod Ports
+pub mod Slots
 pub mod Sublists
 pub mod Lanes
 pub mod Ends

@@ -12,12 +12,12 @@ use Rattle.gw_script.specs.Controllers.{ControllerValue}
 use Rattle.gw_script.specs.Routes.{RouteValue}
 use Rattle.gw_script.specs.Scripts.{ScriptValue}
 use Rattle.gw_script.specs.Nodes.{controller_places, route_places, route_at}
-use Rattle.gw_run.specs.declared.intake.Intake.{Intake}
+use Rattle.bx_controller.specs.declared.intake.Intake.{Intake}
 use Rattle.gw_run.specs.declared.lane.Lane.{Lane}
 use Rattle.gw_run.specs.declared.place.Place.{Place}
-use Rattle.gw_run.specs.declared.port.Port.{Port}
+use Rattle.gw_run.specs.Ports.{Port}
 use Rattle.gw_run.specs.declared.site.Site.{Site}
-use Rattle.gw_run.specs.Intakes.{IntakeStands}
+use Rattle.bx_controller.specs.Intakes.{IntakeStands}
 use Rattle.gw_run.specs.Lanes.{FromPlan}
 use Rattle.gw_run.specs.Pairs.{Pairs}
 use Rattle.gw_run.specs.Plans.{IsPlanOf, aborts_of}

@@ -23,7 +23,7 @@ use Rattle.gw_script.specs.Scripts.{ScriptValue}
 use Rattle.gw_script.specs.Nodes.{controller_at, route_at}
 use Rattle.gw_run.specs.Ends.{TellsFifo}
 use Rattle.gw_run.specs.Headline.{OrderBy, Headline, released}
-use Rattle.gw_run.specs.Intakes.{GoTo}
+use Rattle.bx_controller.specs.Intakes.{GoTo}
 use Rattle.gw_run.specs.Lanes.{numbers_in}
 use Rattle.gw_run.specs.Openings.{priority_of}
 use Rattle.gw_run.specs.Pairs.{Pairs}

@@ -4,7 +4,6 @@
 mod closing;
 mod growing;
 mod inline;
-mod intake;
 mod lane;
 mod opening;
 mod place;

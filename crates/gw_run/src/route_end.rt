@@ -4,10 +4,10 @@ ghost use Rattle.std.specs.Prelude.{◌≡◌, ◌<◌, IfOk, List, length, opti
 ghost use Rattle.can_frame.specs.Frames.{FrameValue};
 ghost use Rattle.bx_core.specs.Stands.{RouteStands};
 ghost use Rattle.gw_route.specs.RouteHand.{hand_value, IsLinked, LogsReleased};
-ghost use Rattle.gw_run.specs.Intakes.{IntakeStands};
+ghost use Rattle.bx_controller.specs.Intakes.{IntakeStands};
 ghost use Rattle.gw_run.specs.Ends.{IsEndOf};
 
-use crate::intake::Intake;
+use bx_controller::Intake;
 use crate::settling::settled;
 use bx_core::{Core, Entry};
 use bx_rx::{Memory, RxFifo};

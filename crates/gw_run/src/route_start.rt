@@ -4,12 +4,12 @@ ghost use Rattle.std.specs.Prelude.{◌≡◌, ◌<◌, [], IfOk, OnOk, length, 
 ghost use Rattle.gw_script.specs.Routes.{RouteValue};
 ghost use Rattle.gw_script.specs.SoundScripts.{IsSound};
 ghost use Rattle.gw_run.specs.declared.lane.Lane.{Lane};
-ghost use Rattle.gw_run.specs.Intakes.{IntakeStands};
+ghost use Rattle.bx_controller.specs.Intakes.{IntakeStands};
 ghost use Rattle.gw_run.specs.Openings.{AreNewSites, IsNewLane, Takes, TakesApart, Opens};
 ghost use Rattle.gw_run.specs.Plans.{abort_in, aborts_of};
 
 use crate::growing::{push_one, push_some};
-use crate::intake::Intake;
+use bx_controller::Intake;
 use crate::lane::Lane;
 use crate::place::Place;
 use crate::places::number_of;

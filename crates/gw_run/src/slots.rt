@@ -1,11 +1,11 @@
 //! Receive FIFOs are put into controllers, and taken out again.
 
 ghost use Rattle.std.specs.Prelude.{◌≡◌, ◌<◌, ◌≤◌, Some, None, Option};
-ghost use Rattle.gw_run.specs.declared.port.Port.{Port};
+ghost use Rattle.gw_run.specs.Ports.{Port};
 ghost use Rattle.gw_run.specs.Slots.{SetsSlot};
 ghost use Rattle.gw_run.specs.Worlds.{IsAt, PortChanges, slot_of};
 
-use crate::intake::Intake;
+use bx_controller::Intake;
 use crate::place::Place;
 use crate::port::Port;
 use crate::site::Site;

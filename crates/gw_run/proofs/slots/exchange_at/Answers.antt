@@ -2,7 +2,7 @@ use Rattle.std.proofs.Common.{◌≡◌, ◌<◌, Some, get_or, length, slice_ge
 use Rattle.std.proofs.lemmas.List.{length-set}
 use Rattle.std.proofs.lemmas.Option.{slice_get-get_or, slice_get_within}
 use Rattle.can_segment.proofs.Places.{same_some, get_set_same, get_set_other}
-use Rattle.gw_run.specs.declared.port.Port.{Port}
+use Rattle.gw_run.specs.Ports.{Port}
 use Rattle.gw_run.specs.declared.site.Site.{Site}
 use Rattle.gw_run.specs.Worlds.{slot_of}
 use Rattle.gw_run.proofs.slots.exchange_at.Goals as goal

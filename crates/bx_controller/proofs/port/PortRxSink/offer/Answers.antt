@@ -3,9 +3,9 @@ use Rattle.can_frame.specs.Frames.{FrameValue}
 use Rattle.bx_rx.specs.Bank.{BankValue}
 use Rattle.bx_rx.specs.Banks.{IsFound}
 use Rattle.bx_rx.specs.declared.rx_frame.RxFrame.{RxFrame}
-use Rattle.gw_run.specs.Slots.{IsNumbered}
-use Rattle.gw_run.proofs.Ports.{passes_by, comes_in}
-use Rattle.gw_run.proofs.port.PortRxSink.offer.Goals as goal
+use Rattle.bx_controller.specs.Slots.{IsNumbered}
+use Rattle.bx_controller.proofs.Ports.{passes_by, comes_in}
+use Rattle.bx_controller.proofs.port.PortRxSink.offer.Goals as goal
 
 -- the number of frames before this one fits too
 fits : (past : List FrameValue) (frame : FrameValue) → length (past ++ frame ∷ []) < 18446744073709551616 → length past < 18446744073709551616

@@ -4,10 +4,9 @@ use Rattle.std.proofs.lemmas.List.{map-append}
 use Rattle.bx_rx.specs.declared.rx_frame.RxFrame.{RxFrame}
 use Rattle.bx_rx.specs.RxIn.{Inlet, AreLastOf, put_in, none_put}
 use Rattle.can_frame.specs.Frames.{FrameValue}
-use Rattle.gw_route.specs.RouteHand.{frames_of}
-use Rattle.gw_run.specs.Intakes.{LeavesOut, discards_in, IntakeStands}
-use Rattle.gw_run.specs.Intakes.LeavesOut.{nothing, keeps, drops}
-use Rattle.gw_run.specs.declared.intake.Intake.{Intake}
+use Rattle.bx_controller.specs.Intakes.{LeavesOut, frames_of, discards_in, IntakeStands}
+use Rattle.bx_controller.specs.Intakes.LeavesOut.{nothing, keeps, drops}
+use Rattle.bx_controller.specs.declared.intake.Intake.{Intake}
 
 pub left-length : {X : Type 0} {xs ys : List X} {n : ℕ} → LeavesOut xs ys n → length xs ≡ length ys + n
 left-length nothing = refl

@@ -1,11 +1,14 @@
 -- What comes to the receive FIFOs of a controller (RM0008, bxCAN, "Identifier filtering" and "Reception handling").
-use Rattle.std.specs.Prelude.{◌≡◌, ◌≢◌, ◌⊎◌, ℕ, suc, ◌+◌, ◌≤◌, Option, Some, None, List, [], ◌∷◌, ◌++◌, length}
+use Rattle.std.specs.Prelude.{map, ◌≡◌, ◌≢◌, ◌⊎◌, ℕ, suc, ◌+◌, ◌≤◌, Option, Some, None, List, [], ◌∷◌, ◌++◌, length}
 use Rattle.can_frame.specs.Frames.{FrameValue}
 use Rattle.bx_rx.specs.Bank.{BankValue}
 use Rattle.bx_rx.specs.Banks.{IsFound}
 use Rattle.bx_rx.specs.declared.rx_frame.RxFrame.{RxFrame}
-use Rattle.gw_route.specs.RouteHand.{frames_of}
-use Rattle.gw_run.specs.declared.intake.Intake.{Intake}
+use Rattle.bx_controller.specs.declared.intake.Intake.{Intake}
+
+-- the frames among what a FIFO stored
+abbrev pub frames_of : List RxFrame → List FrameValue
+frames_of = map (λ x. x.frame)
 
 -- the second list is the first without so many of its elements
 pub data LeavesOut {X : Type 0} : List X → List X → ℕ → Type 0 where

@@ -1,7 +1,7 @@
 use Rattle.std.proofs.Common.{arith, refl, ap, inl, inr}
 use Rattle.bx_rx.specs.RxIn.{Inlet}
-use Rattle.gw_run.proofs.Intakes.{stores, discards, few_discarded}
-use Rattle.gw_run.proofs.intake.Intake.offer.Goals as goal
+use Rattle.bx_controller.proofs.Intakes.{stores, discards, few_discarded}
+use Rattle.bx_controller.proofs.intake.Intake.offer.Goals as goal
 
 pub returns-in-Stored-clause-stores : goal.returns-in-Stored-clause-stores
 returns-in-Stored-clause-stores g c = inl (ap (λ (r : Inlet). r.stored) c.in-Stored.ensures)

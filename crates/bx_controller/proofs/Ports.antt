@@ -6,10 +6,10 @@ use Rattle.bx_core.proofs.Words.{each-append}
 use Rattle.bx_rx.specs.Bank.{BankValue}
 use Rattle.bx_rx.specs.declared.rx_frame.RxFrame.{RxFrame}
 use Rattle.bx_rx.specs.Banks.{IsFound}
-use Rattle.gw_run.specs.Intakes.{GoTo, fifo_of}
-use Rattle.gw_run.specs.Intakes.GoTo.{nothing, here, elsewhere}
-use Rattle.gw_run.specs.Slots.{SlotStands, SlotOffers, IsNumbered}
-use Rattle.gw_run.specs.declared.intake.Intake.{Intake}
+use Rattle.bx_controller.specs.Intakes.{GoTo, fifo_of}
+use Rattle.bx_controller.specs.Intakes.GoTo.{nothing, here, elsewhere}
+use Rattle.bx_controller.specs.Slots.{SlotStands, SlotOffers, IsNumbered}
+use Rattle.bx_controller.specs.declared.intake.Intake.{Intake}
 
 goes-length : {banks : List BankValue} {fifo : ℕ} {taken offered : List FrameValue} → GoTo banks fifo taken offered → length offered ≤ length taken
 goes-length nothing = omega arith

@@ -1,0 +1,3 @@
+pub mod Intakes
+pub mod Slots
+pub mod Ports
