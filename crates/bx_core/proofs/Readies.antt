@@ -127,9 +127,10 @@ turned s l e = ⊎_elim
     let w = some.0 in
     let a = scheduled_alone s w l some.1 in
     let is : Waiting → Bool = λ (y : Waiting). is_scheduled y.status in
-    let scheduled = find-is is s.queue w some.1 in
-    (omega (arith, ap length a.split.whole, length-append a.split.before (w ∷ a.split.behind)),
-      ap item_in a.split.whole ∙ ap (option_map item_of) (bus-idle a.split.before a.split.behind w a.before a.behind (scheduled_idle w.status scheduled))))
+    let scheduled = find-is is s.queue w some.1 in (
+      omega (arith, ap length a.split.whole, length-append a.split.before (w ∷ a.split.behind)),
+      ap item_in a.split.whole ∙ ap (option_map item_of) (bus-idle a.split.before a.split.behind w a.before a.behind (scheduled_idle w.status scheduled)),
+    ))
     (some_or_none (in_turn s))
 
 ready_tells : (s : State) → Law s → is_ready (readied s) ≡ true → (0 < length s.queue) × (sending s ≡ None)

@@ -7,8 +7,8 @@ ghost use Rattle.gw_route.specs.RouteHand.{hand_value, IsLinked, LogsReleased};
 ghost use Rattle.bx_controller.specs.Intakes.{IntakeStands};
 ghost use Rattle.gw_run.specs.Ends.{IsEndOf};
 
-use bx_controller::Intake;
 use crate::settling::settled;
+use bx_controller::Intake;
 use bx_core::{Core, Entry};
 use bx_rx::{Memory, RxFifo};
 use gw_route::{Log, RouteHand};

@@ -9,13 +9,13 @@ ghost use Rattle.gw_run.specs.Openings.{AreNewSites, IsNewLane, Takes, TakesApar
 ghost use Rattle.gw_run.specs.Plans.{abort_in, aborts_of};
 
 use crate::growing::{push_one, push_some};
-use bx_controller::Intake;
 use crate::lane::Lane;
 use crate::place::Place;
 use crate::places::number_of;
 use crate::site::Site;
 use crate::slots::put;
 use arrayvec::ArrayVec;
+use bx_controller::Intake;
 use bx_rx::{Memory, RxFifo, RxOut};
 use can_frame::Rewrite;
 use gw_route::{PlannedAbort, RouteHand};

@@ -5,10 +5,10 @@ ghost use Rattle.gw_run.specs.Ports.{Port};
 ghost use Rattle.gw_run.specs.Slots.{SetsSlot};
 ghost use Rattle.gw_run.specs.Worlds.{IsAt, PortChanges, slot_of};
 
-use bx_controller::Intake;
 use crate::place::Place;
 use crate::port::Port;
 use crate::site::Site;
+use bx_controller::Intake;
 use std::mem::replace;
 
 /// The FIFO of this number gets this in its place, and what was there comes out.
