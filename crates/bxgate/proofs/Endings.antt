@@ -2,9 +2,9 @@
 use Rattle.std.proofs.Common.{◌≡◌, inl, inr, ℕ, List, Option, Err, IfSome}
 use Rattle.std.proofs.lemmas.Option.{IfSome_then}
 use Rattle.std.specs.Io.KnownBytes.{Keeps}
-use Rattle.gw_script.specs.declared.script_fault.ScriptFault.TheVariants as fault
-use Rattle.gw_script.specs.Faults.{Fault, not_json, missing, wrong_kind, out_of_range, unknown_name, double_name, fifo_twice, too_many, wrong_version}
-use Rattle.gw_script.specs.Documents.{IsNoDocument, in_text}
+use Rattle.gw_fields.specs.declared.script_fault.ScriptFault.TheVariants as fault
+use Rattle.gw_fields.specs.Faults.{Fault, not_json, missing, wrong_kind, out_of_range, unknown_name, double_name, fifo_twice, too_many, wrong_version}
+use Rattle.gw_fields.specs.Documents.{IsNoDocument, in_text}
 use Rattle.bxgate.specs.Outcomes.{Ends, EndsWith, IsRefusal, status_of}
 use Rattle.bxgate.specs.declared.failure.Failure.{Failure}
 use Rattle.bxgate.specs.declared.failure.Failure.TheVariants as failure

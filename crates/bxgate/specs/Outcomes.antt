@@ -3,14 +3,14 @@ use Rattle.std.specs.Prelude.{◌≡◌, ◌⊎◌, ℕ, List, Option, Some, IfS
 use Rattle.std.specs.Io.KnownBytes.{Appends, Keeps}
 use Rattle.bx_core.specs.declared.entry.Entry.{Entry}
 use Rattle.bx_core.specs.Lists.{Each}
-use Rattle.gw_script.specs.Faults.{Fault, UnlessMemory}
+use Rattle.gw_fields.specs.Faults.{Fault, UnlessMemory}
 use Rattle.gw_script.specs.EventLists.{EventListValue, event_list_of}
-use Rattle.gw_script.specs.Scripts.{ScriptValue, script_of}
-use Rattle.gw_script.specs.Documents.{IsTextOf, FirstFault}
+use Rattle.gw_config.specs.Scripts.{ScriptValue, script_of}
+use Rattle.gw_fields.specs.Documents.{IsTextOf, FirstFault}
 use Rattle.gw_script.specs.ReportTexts.{report_text}
 use Rattle.gw_script.specs.declared.report.Report.{Report}
 use Rattle.gw_script.specs.declared.route_report.RouteReport.{RouteReport}
-use Rattle.gw_script.specs.declared.script_fault.ScriptFault.TheVariants as fault
+use Rattle.gw_fields.specs.declared.script_fault.ScriptFault.TheVariants as fault
 use Rattle.gw_script.specs.NamedPlaces.{Names}
 use Rattle.gw_run.specs.declared.run_fault.RunFault.TheVariants as run_fault
 use Rattle.gw_run.specs.Headline.{NotRefilled, Balances}

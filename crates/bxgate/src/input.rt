@@ -1,7 +1,7 @@
 //! The whole input, up to a bound.
 
 ghost use Rattle.std.specs.Prelude.{◌≡◌, ◌≤◌, ◌<◌, length, IfOk, IfSome, IfErr, vec_len};
-ghost use Rattle.gw_script.specs.Documents.{greatest_length};
+ghost use Rattle.gw_fields.specs.Documents.{greatest_length};
 
 use gw_script::LIMIT;
 use std::alloc::Global;

@@ -7,13 +7,13 @@ use Rattle.bx_core.specs.PlainMail.{short_of}
 use Rattle.can_segment.specs.Places.{AtPlaces}
 use Rattle.can_segment.proofs.NextBits.{some_there}
 use Rattle.gw_route.specs.Turn.{next_turn}
-use Rattle.gw_script.specs.Scripts.{ScriptValue}
+use Rattle.gw_config.specs.Scripts.{ScriptValue}
 use Rattle.gw_run.specs.declared.lane.Lane.{Lane}
 use Rattle.gw_run.specs.declared.place.Place.{Place}
 use Rattle.gw_run.specs.Ports.{Port}
 use Rattle.gw_run.specs.declared.site.Site.{Site}
 use Rattle.gw_run.specs.Openings.{Opens, IsNewLane, IsNewSite, IsNewPort}
-use Rattle.gw_script.specs.Nodes.{controller_places}
+use Rattle.gw_config.specs.Nodes.{controller_places}
 use Rattle.gw_run.specs.Sites.{SiteMoves}
 use Rattle.gw_run.specs.Worlds.{IsAt, PortChanges, LaneTurns, CountsTurn, HaveTurned, NoneShort}
 use Rattle.gw_run.proofs.Changes.{place_cases}

@@ -24,11 +24,11 @@ use Rattle.can_segment.specs.declared.plan.Controller.{Controller}
 use Rattle.can_segment.specs.declared.plan.Talker.{Talker}
 use Rattle.can_segment.proofs.NextBits.{some_there}
 use Rattle.gw_script.specs.declared.report.Report.{Report}
-use Rattle.gw_script.specs.Controllers.{ControllerValue, controllers_on}
+use Rattle.gw_config.specs.Controllers.{ControllerValue, controllers_on}
 use Rattle.gw_script.specs.NamedPlaces.{label_of, NamesRequest, NamesEvent, NamesNodes, Names}
-use Rattle.gw_script.specs.Nodes.{controller_places, controller_at, route_places, talkers_on, names_of_nodes}
-use Rattle.gw_script.specs.Scripts.{ScriptValue}
-use Rattle.gw_script.specs.Talkers.{TalkerValue}
+use Rattle.gw_config.specs.Nodes.{controller_places, controller_at, route_places, talkers_on, names_of_nodes}
+use Rattle.gw_config.specs.Scripts.{ScriptValue}
+use Rattle.gw_config.specs.Talkers.{TalkerValue}
 use Rattle.gw_run.specs.Ports.{Port}
 use Rattle.gw_run.specs.declared.site.Site.{Site}
 use Rattle.gw_run.specs.Finals.{IsDonePort, IsDoneSite, AreDoneSites, IsRecordAt}

@@ -6,11 +6,11 @@ use Rattle.std.proofs.lemmas.Option.{slice_get_within, get_or_from_slice_get}
 use Rattle.can_segment.proofs.NextBits.{some_there}
 use Rattle.can_segment.proofs.Places.{same_some}
 use Rattle.can_segment.specs.Segments.{SegmentValue, IsOpening}
-use Rattle.gw_script.specs.Controllers.{ControllerValue}
-use Rattle.gw_script.specs.Routes.{RouteValue}
-use Rattle.gw_script.specs.Scripts.{ScriptValue}
-use Rattle.gw_script.specs.SoundScripts.{IsSound, IsControllerIn, IsRouteIn, TakesElsewhere}
-use Rattle.gw_script.specs.Nodes.{controller_places}
+use Rattle.gw_config.specs.Controllers.{ControllerValue}
+use Rattle.gw_config.specs.Routes.{RouteValue}
+use Rattle.gw_config.specs.Scripts.{ScriptValue}
+use Rattle.gw_config.specs.SoundScripts.{IsSound, IsControllerIn, IsRouteIn, TakesElsewhere}
+use Rattle.gw_config.specs.Nodes.{controller_places}
 use Rattle.bx_controller.specs.declared.intake.Intake.{Intake}
 use Rattle.gw_run.specs.declared.lane.Lane.{Lane}
 use Rattle.gw_run.specs.declared.place.Place.{Place}

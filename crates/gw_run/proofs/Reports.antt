@@ -14,10 +14,10 @@ use Rattle.can_segment.specs.declared.event.Told.{Told}
 use Rattle.can_segment.specs.declared.record.Record.{Record}
 use Rattle.gw_script.specs.declared.report.Report.{Report}
 use Rattle.gw_script.specs.declared.route_report.RouteReport.{RouteReport}
-use Rattle.gw_script.specs.Controllers.{ControllerValue}
-use Rattle.gw_script.specs.Nodes.{controller_places, controller_at, route_at, talkers_on}
-use Rattle.gw_script.specs.Routes.{RouteValue}
-use Rattle.gw_script.specs.Scripts.{ScriptValue}
+use Rattle.gw_config.specs.Controllers.{ControllerValue}
+use Rattle.gw_config.specs.Nodes.{controller_places, controller_at, route_at, talkers_on}
+use Rattle.gw_config.specs.Routes.{RouteValue}
+use Rattle.gw_config.specs.Scripts.{ScriptValue}
 use Rattle.gw_run.specs.declared.site.Site.{Site}
 use Rattle.gw_run.specs.Finals.{IsDoneSite, AreDoneSites, IsRecordAt, lines_at}
 use Rattle.gw_run.specs.Headline.{NotRefilled, Balances}

@@ -7,7 +7,7 @@ use Rattle.bx_core.specs.declared.entry.Entry.{Entry}
 use Rattle.bx_core.specs.Lists.{Each, Has}
 use Rattle.bx_core.specs.States.{numbers}
 use Rattle.bx_core.proofs.Words.{each-append}
-use Rattle.gw_script.proofs.SoundLaws.{none_passes}
+use Rattle.gw_config.proofs.SoundLaws.{none_passes}
 use Rattle.gw_run.specs.Headline.{is_among}
 use Rattle.gw_run.specs.Links.{settle, settled}
 

@@ -8,10 +8,10 @@ use Rattle.bx_core.specs.Stands.{BusStands, RouteStands}
 use Rattle.bx_core.specs.TxBus.{no_bus_past}
 use Rattle.can_segment.specs.Segments.{IsOpening}
 use Rattle.gw_route.specs.RouteHand.{hand_value, LogMatches, LogsReleased}
-use Rattle.gw_script.specs.Controllers.{ControllerValue}
-use Rattle.gw_script.specs.Routes.{RouteValue}
-use Rattle.gw_script.specs.Scripts.{ScriptValue}
-use Rattle.gw_script.specs.Nodes.{controller_places, route_places, route_at}
+use Rattle.gw_config.specs.Controllers.{ControllerValue}
+use Rattle.gw_config.specs.Routes.{RouteValue}
+use Rattle.gw_config.specs.Scripts.{ScriptValue}
+use Rattle.gw_config.specs.Nodes.{controller_places, route_places, route_at}
 use Rattle.bx_controller.specs.declared.intake.Intake.{Intake}
 use Rattle.gw_run.specs.declared.lane.Lane.{Lane}
 use Rattle.gw_run.specs.declared.place.Place.{Place}

@@ -5,14 +5,14 @@ use Rattle.can_segment.specs.declared.plan.Controller.{Controller}
 use Rattle.can_segment.specs.declared.plan.NodeFault.{NodeFault}
 use Rattle.can_segment.specs.declared.plan.LineFault.{LineFault}
 use Rattle.can_segment.specs.declared.plan.SegmentPlan.{SegmentPlan}
-use Rattle.gw_script.specs.declared.planned_fault.PlannedFault.{PlannedFault}
-use Rattle.gw_script.specs.declared.planned_fault.PlannedFault.TheVariants.{AtNode, OnLine}
-use Rattle.gw_script.specs.declared.planned_abort.PlannedAbort.{PlannedAbort as ScriptAbort}
+use Rattle.gw_config.specs.declared.planned_fault.PlannedFault.{PlannedFault}
+use Rattle.gw_config.specs.declared.planned_fault.PlannedFault.TheVariants.{AtNode, OnLine}
+use Rattle.gw_config.specs.declared.planned_abort.PlannedAbort.{PlannedAbort as ScriptAbort}
 use Rattle.gw_route.specs.declared.planned_abort.PlannedAbort.{PlannedAbort}
-use Rattle.gw_script.specs.Talkers.{TalkerValue}
-use Rattle.gw_script.specs.Controllers.{ControllerValue, controllers_on}
-use Rattle.gw_script.specs.Scripts.{ScriptValue}
-use Rattle.gw_script.specs.Nodes.{talkers_on}
+use Rattle.gw_config.specs.Talkers.{TalkerValue}
+use Rattle.gw_config.specs.Controllers.{ControllerValue, controllers_on}
+use Rattle.gw_config.specs.Scripts.{ScriptValue}
+use Rattle.gw_config.specs.Nodes.{talkers_on}
 use Rattle.gw_run.specs.Pairs.{Pairs}
 
 -- the place of its node fits 32 bits

@@ -17,10 +17,10 @@ use Rattle.can_segment.specs.Runs.{IsRun, Run}
 use Rattle.can_segment.specs.Traces.{Bit}
 use Rattle.gw_script.specs.declared.report.Report.{Report}
 use Rattle.gw_script.specs.declared.route_report.RouteReport.{RouteReport}
-use Rattle.gw_script.specs.Controllers.{ControllerValue}
-use Rattle.gw_script.specs.Routes.{RouteValue}
-use Rattle.gw_script.specs.Scripts.{ScriptValue}
-use Rattle.gw_script.specs.Nodes.{controller_at, route_at}
+use Rattle.gw_config.specs.Controllers.{ControllerValue}
+use Rattle.gw_config.specs.Routes.{RouteValue}
+use Rattle.gw_config.specs.Scripts.{ScriptValue}
+use Rattle.gw_config.specs.Nodes.{controller_at, route_at}
 use Rattle.gw_run.specs.Ends.{TellsFifo}
 use Rattle.gw_run.specs.Headline.{OrderBy, Headline, released}
 use Rattle.bx_controller.specs.Intakes.{GoTo}

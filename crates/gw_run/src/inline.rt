@@ -4,7 +4,7 @@ ghost use Rattle.std.specs.Prelude.{◌≡◌, ◌<◌, ℕ, List, IfOk, IfErr, 
 ghost use Rattle.bx_core.specs.Lists.{Each};
 ghost use Rattle.bx_core.specs.declared.entry.Entry.{Entry};
 ghost use Rattle.gw_script.specs.NamedPlaces.{Names};
-ghost use Rattle.gw_script.specs.SoundScripts.{IsSound};
+ghost use Rattle.gw_config.specs.SoundScripts.{IsSound};
 ghost use Rattle.gw_script.specs.declared.route_report.RouteReport.{RouteReport};
 ghost use Rattle.gw_run.specs.Finals.{AreDoneSites, IsOver, lines_at};
 ghost use Rattle.gw_run.specs.Openings.{AreNewSites, Opens};

@@ -2,8 +2,8 @@
 
 ghost use Rattle.std.specs.Prelude.{◌≡◌, ◌<◌, ◌≤◌, ◌+◌, IfOk, length, slice_get, Some};
 ghost use Rattle.can_segment.specs.Segments.{IsOpening};
-ghost use Rattle.gw_script.specs.Nodes.{controller_places, route_places};
-ghost use Rattle.gw_script.specs.SoundScripts.{IsSound};
+ghost use Rattle.gw_config.specs.Nodes.{controller_places, route_places};
+ghost use Rattle.gw_config.specs.SoundScripts.{IsSound};
 ghost use Rattle.gw_run.specs.Openings.{routes_at, IsNewPort, IsNewSite, AreNewSites};
 ghost use Rattle.gw_run.specs.Pairs.{Pairs};
 ghost use Rattle.gw_run.specs.Plans.{IsPlanOf};

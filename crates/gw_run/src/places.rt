@@ -1,10 +1,10 @@
 //! Controllers on a segment and routes into a controller, by their places.
 
 ghost use Rattle.std.specs.Prelude.{◌≡◌, ◌<◌, ◌==◌, count_by, length, slice_get, Some};
-ghost use Rattle.gw_script.specs.Controllers.{controllers_on};
-ghost use Rattle.gw_script.specs.Nodes.{controller_places, route_places, route_at};
-ghost use Rattle.gw_script.specs.Routes.{RouteValue};
-ghost use Rattle.gw_script.specs.SoundScripts.{IsSound};
+ghost use Rattle.gw_config.specs.Controllers.{controllers_on};
+ghost use Rattle.gw_config.specs.Nodes.{controller_places, route_places, route_at};
+ghost use Rattle.gw_config.specs.Routes.{RouteValue};
+ghost use Rattle.gw_config.specs.SoundScripts.{IsSound};
 
 use gw_script::{Controller, Route, Script};
 

@@ -1,9 +1,9 @@
 //! The plan of a segment, from a script.
 
 ghost use Rattle.std.specs.Prelude.{◌≡◌, ◌<◌, IfOk, length, filter_map};
-ghost use Rattle.gw_script.specs.Controllers.{controllers_on};
+ghost use Rattle.gw_config.specs.Controllers.{controllers_on};
 ghost use Rattle.gw_run.specs.Pairs.{Pairs};
-ghost use Rattle.gw_script.specs.SoundScripts.{IsSound};
+ghost use Rattle.gw_config.specs.SoundScripts.{IsSound};
 ghost use Rattle.gw_run.specs.Plans.{IsSmall, IsTalkerOf, IsControllerOf, IsPlanOf, node_fault_in, line_fault_in};
 
 use crate::growing::push_some;

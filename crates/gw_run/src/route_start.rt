@@ -1,8 +1,8 @@
 //! The routes of a script, before the first turn.
 
 ghost use Rattle.std.specs.Prelude.{◌≡◌, ◌<◌, [], IfOk, OnOk, length, slice_get, Some};
-ghost use Rattle.gw_script.specs.Routes.{RouteValue};
-ghost use Rattle.gw_script.specs.SoundScripts.{IsSound};
+ghost use Rattle.gw_config.specs.Routes.{RouteValue};
+ghost use Rattle.gw_config.specs.SoundScripts.{IsSound};
 ghost use Rattle.gw_run.specs.declared.lane.Lane.{Lane};
 ghost use Rattle.bx_controller.specs.Intakes.{IntakeStands};
 ghost use Rattle.gw_run.specs.Openings.{AreNewSites, IsNewLane, Takes, TakesApart, Opens};

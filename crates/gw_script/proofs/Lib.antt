@@ -1,12 +1,2 @@
-pub mod Lists
-pub mod Places
-pub mod FaultLaws
-pub mod NameLaws
-pub mod BankLaws
-pub mod NodeLaws
-pub mod WhereLaws
-pub mod Readings
-pub mod SoundLaws
-pub mod SoundNodes
 pub mod Hexadecimal
 pub mod LineLaws

@@ -5,7 +5,7 @@ use Rattle.std.proofs.lemmas.Result.{on_ok_weaker}
 use Rattle.std.specs.Fmt.{decimal}
 use Rattle.gw_script.specs.declared.route_report.RouteReport.{RouteReport}
 use Rattle.gw_script.specs.Lines.{line, lines_from}
-use Rattle.gw_script.specs.Scripts.{ScriptValue}
+use Rattle.gw_config.specs.Scripts.{ScriptValue}
 use Rattle.gw_script.specs.ReportTexts.{route_name, route_line}
 
 -- pieces as `writeln!` joins them, before its line feed

@@ -7,9 +7,9 @@ use Rattle.bx_core.specs.declared.event.Event.TheVariants as event
 use Rattle.gw_script.specs.declared.event_list.EventList.{EventList}
 use Rattle.gw_script.specs.declared.event_list.EventName.{EventName}
 use Rattle.gw_script.specs.declared.event_list.EventName.TheVariants as name
-use Rattle.gw_script.specs.Faults.{Fault, out_of_range}
-use Rattle.gw_script.specs.Fields.{◌>>=◌, object_of, field, whole, optional_truth, text, list, each}
-use Rattle.gw_script.specs.Frames.{frame_of}
+use Rattle.gw_fields.specs.Faults.{Fault, out_of_range}
+use Rattle.gw_fields.specs.Fields.{◌>>=◌, object_of, field, whole, optional_truth, text, list, each}
+use Rattle.gw_fields.specs.Frames.{frame_of}
 
 pub record EventListValue : Type 0 where
   pub routes : ℕ

@@ -7,8 +7,8 @@ use Rattle.can_segment.specs.declared.event.Told.{Told}
 use Rattle.can_segment.specs.declared.event.Told.TheVariants.{Started, Completed, Reaped}
 use Rattle.can_segment.specs.declared.record.Record.{Record}
 use Rattle.gw_script.specs.declared.report.Report.{Report}
-use Rattle.gw_script.specs.Scripts.{ScriptValue}
-use Rattle.gw_script.specs.Nodes.{names_of_nodes, controller_at, route_places}
+use Rattle.gw_config.specs.Scripts.{ScriptValue}
+use Rattle.gw_config.specs.Nodes.{names_of_nodes, controller_at, route_places}
 
 -- the request that a line names
 abbrev pub label_of : Told → Option Label

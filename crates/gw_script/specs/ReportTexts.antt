@@ -17,10 +17,10 @@ use Rattle.gw_script.specs.declared.report.Report.{Report}
 use Rattle.gw_script.specs.declared.route_report.RouteReport.{RouteReport}
 use Rattle.gw_script.specs.FrameTexts.{frame_text}
 use Rattle.gw_script.specs.Lines.{line, lines_from}
-use Rattle.gw_script.specs.Segments.{segment_names}
-use Rattle.gw_script.specs.Routes.{route_names}
-use Rattle.gw_script.specs.Scripts.{ScriptValue}
-use Rattle.gw_script.specs.Nodes.{names_of_nodes, controller_at, route_at}
+use Rattle.gw_config.specs.Segments.{segment_names}
+use Rattle.gw_config.specs.Routes.{route_names}
+use Rattle.gw_config.specs.Scripts.{ScriptValue}
+use Rattle.gw_config.specs.Nodes.{names_of_nodes, controller_at, route_at}
 use Rattle.gw_script.specs.NamedPlaces.{label_of}
 
 -- the name at a place

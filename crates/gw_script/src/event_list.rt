@@ -4,16 +4,15 @@ ghost use Rattle.std.specs.Prelude.{◌≡◌, ◌≤◌, ◌<◌, codes, length
 ghost use Rattle.serde_json.specs.View.{view, items_view};
 ghost use Rattle.bx_core.specs.Lists.{Each};
 ghost use Rattle.bx_core.specs.Steps.{InRoutes};
-ghost use Rattle.gw_script.specs.Faults.{Reads, ReadsUnlessMemory, UnlessMemory};
-ghost use Rattle.gw_script.specs.Fields.{each};
+ghost use Rattle.gw_fields.specs.Faults.{Reads, ReadsUnlessMemory, UnlessMemory};
+ghost use Rattle.gw_fields.specs.Fields.{each};
 ghost use Rattle.gw_script.specs.EventLists.{list_view, name_of, mailbox_of, route_of, claim_in, request_in, withdraw_in, abort_in, named_event, event_of, event_list_of};
-ghost use Rattle.gw_script.specs.Documents.{IsTextOf, FirstFault};
+ghost use Rattle.gw_fields.specs.Documents.{IsTextOf, FirstFault};
 
-use crate::document::document;
-use crate::fields::{field, list, object_of, optional_truth, text, whole};
-use crate::frames::frame_of;
-use crate::script_fault::ScriptFault;
 use bx_core::Event;
+use gw_fields::{
+    ScriptFault, field, frame_of, list, object_of, optional_truth, read_document, text, whole,
+};
 use serde_json::Value;
 use std::alloc::Global;
 
@@ -222,7 +221,7 @@ pub fn read_core(alloc: Global, bytes: &[u8]) -> Result<EventList, ScriptFault>
     ensures routes { IfOk result (λ l. (1 ≤ l.routes) × (l.routes ≤ 8)) }
     ensures range { IfOk result (λ l. Each (InRoutes l.routes) l.events.items) }
 {
-    match document(alloc, bytes) {
+    match read_document(alloc, bytes) {
         Ok(value) => event_list_of(alloc, &value),
         Err(fault) => Err(fault),
     }

@@ -8,10 +8,10 @@ ghost use Rattle.gw_script.specs.ReportTexts.{kind_text, told_text, label_text, 
 
 use crate::frame_text::push_frame;
 use crate::report_names::{node_name, route_name, route_of, segment_name};
-use crate::script::Script;
 use can_frame::Frame;
 use can_node::ErrorKind;
 use can_segment::{Event, Label, Told};
+use gw_config::Script;
 use std::alloc::AllocError;
 
 fn kind_text(kind: ErrorKind) -> &'static str

@@ -7,7 +7,7 @@ ghost use Rattle.gw_script.specs.ReportTexts.{report_text};
 use crate::memory::Memory;
 use crate::report::Report;
 use crate::report_text::text_of;
-use crate::script::Script;
+use gw_config::Script;
 use std::alloc::Global;
 
 /// The text of a report, with the names that the script gives: for each segment a line for each of its

@@ -1,12 +1,12 @@
 //! The names of what a report names by place.
 
 ghost use Rattle.std.specs.Prelude.{◌≡◌, ◌<◌, length};
-ghost use Rattle.gw_script.specs.Nodes.{names_of_nodes};
+ghost use Rattle.gw_config.specs.Nodes.{names_of_nodes};
 ghost use Rattle.gw_script.specs.NamedPlaces.{NamesRequest};
 ghost use Rattle.gw_script.specs.ReportTexts.{segment_name, node_name, route_name, route_of};
 
-use crate::script::Script;
 use can_segment::Label;
+use gw_config::Script;
 
 /// The name of a segment.
 pub fn segment_name(script: &Script, segment: usize) -> &str

@@ -4,7 +4,7 @@ ghost use Rattle.std.specs.Prelude.{◌≡◌, ◌<◌, ◌≤◌, ◌++◌, len
 ghost use Rattle.bx_core.specs.Lists.{Each};
 ghost use Rattle.can_node.specs.Counters.{counts_of};
 ghost use Rattle.gw_script.specs.Lines.{lines_from};
-ghost use Rattle.gw_script.specs.Nodes.{names_of_nodes};
+ghost use Rattle.gw_config.specs.Nodes.{names_of_nodes};
 ghost use Rattle.gw_script.specs.NamedPlaces.{NamesNodes, Names};
 ghost use Rattle.gw_script.specs.ReportTexts.{state_text, node_line, segment_text, route_line, report_text};
 
@@ -12,9 +12,9 @@ use crate::event_text::push_events;
 use crate::report::Report;
 use crate::report_names::{node_name, route_name, segment_name};
 use crate::route_report::RouteReport;
-use crate::script::Script;
 use can_node::{Counters, ErrorState};
 use can_segment::Record;
+use gw_config::Script;
 use std::alloc::{AllocError, Global};
 
 fn state_text(state: ErrorState) -> &'static str

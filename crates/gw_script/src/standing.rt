@@ -7,8 +7,8 @@ ghost use Rattle.gw_script.specs.NamedPlaces.{NamesRequest, NamesEvent, NamesNod
 
 use crate::event_text::label_of;
 use crate::report::Report;
-use crate::script::Script;
 use can_segment::{Event, Label, Record};
+use gw_config::Script;
 
 fn request_stands(script: &Script, segment: usize, node: usize, label: Label) -> bool
     ensures { IsTrue result ↔ NamesRequest script.now segment node label }

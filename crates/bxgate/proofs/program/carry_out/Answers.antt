@@ -1,7 +1,7 @@
 -- An input that is too long has that as its first fault.
 use Rattle.std.proofs.Common.{rules}
 use Rattle.std.proofs.lemmas.Option.{IfSome_then}
-use Rattle.gw_script.specs.Documents.{too_long}
+use Rattle.gw_fields.specs.Documents.{too_long}
 use Rattle.bxgate.proofs.Endings.{no_document}
 use Rattle.bxgate.proofs.program.carry_out.Goals as goal
 

@@ -1,4 +1,4 @@
-use Rattle.gw_script.specs.Nodes.{controller_places}
+use Rattle.gw_config.specs.Nodes.{controller_places}
 use Rattle.gw_run.specs.Openings.{IsNewPort}
 use Rattle.gw_run.proofs.Pairs.{PairsBelow}
 use Rattle.gw_run.proofs.opening.ports_of.Given as goal

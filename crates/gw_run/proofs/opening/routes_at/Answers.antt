@@ -1,5 +1,5 @@
 use Rattle.std.proofs.Common.{◌==◌, arith}
-use Rattle.gw_script.specs.Routes.{RouteValue}
+use Rattle.gw_config.specs.Routes.{RouteValue}
 use Rattle.gw_run.proofs.PlacesWhere.{places-length}
 use Rattle.gw_run.proofs.opening.routes_at.Goals as goal
 

@@ -1,6 +1,6 @@
 use Rattle.std.proofs.Common.{ℕ, ◌+◌, length, ap, arith, subst, sym}
 use Rattle.can_segment.proofs.NextBits.{some_there}
-use Rattle.gw_script.specs.Segments.{SegmentValue}
+use Rattle.gw_config.specs.Segments.{SegmentValue}
 use Rattle.gw_run.specs.declared.site.Site.{Site}
 use Rattle.gw_run.specs.Openings.{IsNewSite}
 use Rattle.gw_run.proofs.Pairs.{PairsBelow, pairs_step}

@@ -1,5 +1,5 @@
 use Rattle.std.proofs.Common.{◌==◌, count_by, ap, sym, ◌∙◌}
-use Rattle.gw_script.specs.Routes.{RouteValue}
+use Rattle.gw_config.specs.Routes.{RouteValue}
 use Rattle.gw_run.proofs.PlacesWhere.{places-length}
 use Rattle.gw_run.proofs.places.count_into.Goals as goal
 

@@ -1,6 +1,6 @@
 use Rattle.std.proofs.Common.{◌==◌, count_by, ap, sym, ◌∙◌}
 use Rattle.std.proofs.lemmas.List.Sums.{length-filter}
-use Rattle.gw_script.specs.Controllers.{ControllerValue}
+use Rattle.gw_config.specs.Controllers.{ControllerValue}
 use Rattle.gw_run.proofs.PlacesWhere.{places-length}
 use Rattle.gw_run.proofs.places.count_on.Goals as goal
 

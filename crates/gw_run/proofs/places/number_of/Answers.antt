@@ -1,7 +1,7 @@
 use Rattle.std.proofs.Common.{◌≡◌, ◌+◌, ◌==◌, Some, take, count_by, slice_get, arith, ap, ◌∙◌}
 use Rattle.std.proofs.lemmas.Bool.{eq-eqb}
-use Rattle.gw_script.specs.Routes.{RouteValue}
-use Rattle.gw_script.specs.Nodes.{route_places}
+use Rattle.gw_config.specs.Routes.{RouteValue}
+use Rattle.gw_config.specs.Nodes.{route_places}
 use Rattle.gw_run.proofs.PlacesWhere.{place-found}
 use Rattle.gw_run.proofs.places.number_of.Goals as goal
 

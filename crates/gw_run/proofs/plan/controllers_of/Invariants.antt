@@ -1,4 +1,4 @@
-use Rattle.gw_script.specs.Controllers.{controllers_on}
+use Rattle.gw_config.specs.Controllers.{controllers_on}
 use Rattle.gw_run.specs.Plans.{IsControllerOf}
 use Rattle.gw_run.proofs.Pairs.{PairsBelow}
 use Rattle.gw_run.proofs.plan.controllers_of.Given as goal

@@ -1,7 +1,7 @@
 -- The first event that is refused is the list's fault.
 use Rattle.gw_script.specs.EventLists.{event_of}
 use Rattle.std.proofs.Common.{refl}
-use Rattle.gw_script.proofs.FaultLaws.{each_refused, unless-of_input}
+use Rattle.gw_fields.proofs.FaultLaws.{each_refused, unless-of_input}
 use Rattle.gw_script.proofs.event_list.events_of.Goals as goal
 
 pub returns-in-Err-clause-value : goal.returns-in-Err-clause-value

@@ -2,7 +2,7 @@ use Rattle.std.proofs.Common.{◌≡◌, drop, []}
 use Rattle.serde_json.specs.View.{items_view}
 use Rattle.bx_core.specs.Lists.{Each}
 use Rattle.bx_core.specs.Steps.{InRoutes}
-use Rattle.gw_script.specs.Fields.{each_after}
+use Rattle.gw_fields.specs.Fields.{each_after}
 use Rattle.gw_script.specs.EventLists.{event_of}
 use Rattle.gw_script.proofs.event_list.events_of.Given as goal
 

@@ -1,8 +1,8 @@
 use Rattle.std.proofs.Common.{◌≡◌, ◌+◌, ◌==◌, Some, length, take, count_by, slice_get, refl, arith, ap, sym, ◌∙◌}
 use Rattle.std.proofs.lemmas.Bool.{eq-eqb}
 use Rattle.std.proofs.lemmas.Option.{slice_get_read}
-use Rattle.gw_script.specs.Controllers.{ControllerValue}
-use Rattle.gw_script.specs.Nodes.{controller_places}
+use Rattle.gw_config.specs.Controllers.{ControllerValue}
+use Rattle.gw_config.specs.Nodes.{controller_places}
 use Rattle.gw_run.proofs.PlacesWhere.{place-found}
 use Rattle.gw_run.proofs.place.Place.of.Goals as goal
 

@@ -1,0 +1,24 @@
+-- One controller more is read behind those in front of it.
+use Rattle.std.proofs.Common.{◌≡◌, ◌++◌, ◌∷◌, []}
+use Rattle.gw_config.specs.Controllers.{controller_of}
+use Rattle.gw_config.specs.SoundScripts.{IsControllerIn}
+use Rattle.gw_fields.proofs.FaultLaws.{each_refused}
+use Rattle.gw_config.proofs.Snoc.{each-snoc}
+use Rattle.gw_fields.proofs.Lists.{each_grows, push_keeps, count-snoc}
+use Rattle.gw_config.proofs.controller.listed_controllers.Goals as goal
+
+pub loop-item-preserved : goal.loop-item-preserved
+loop-item-preserved c =
+    let kept : c.push.new.self.items ≡ c.loop-item.controllers.items ++ c.in-Ok.controller ∷ [] = push_keeps c.push.result _ _ _ c.push.ensures.items c.if-is_err.ensures.value in
+    record {
+      read = each_grows (controller_of c.args.version c.args.bits c.args.segments.now) c.loop-item.controllers.items c.push.new.self.items c.as_slice.result.now c.in-Ok.controller _ c.args.items.now c.loop-item.item-index c.item-item.result
+          c.loop-item-test.true c.item-item.is c.as_slice.ensures.value c.in-Ok.ensures.value kept c.loop-item.invariant.read;
+      range = each-snoc (IsControllerIn c.args.bits c.args.segments.now) c.loop-item.controllers.items c.push.new.self.items c.in-Ok.controller kept c.loop-item.invariant.range c.in-Ok.ensures.range;
+      count = count-snoc c.loop-item.controllers.items c.push.new.self.items c.in-Ok.controller c.loop-item.item-index kept c.loop-item.invariant.count;
+    }
+
+pub returns-in-Err-clause-value : goal.returns-in-Err-clause-value
+returns-in-Err-clause-value c =
+    each_refused (controller_of c.args.version c.args.bits c.args.segments.now) c.loop-item.controllers.items c.as_slice.result.now _
+    c.args.items.now c.loop-item.item-index c.item-item.result c.in-Err.fault
+    c.loop-item-test.true c.item-item.is c.as_slice.ensures.value c.loop-item.invariant.read c.in-Err.ensures.value

@@ -1,0 +1,10 @@
+-- A fault of the text comes before those of the fields.
+use Rattle.gw_config.specs.Scripts.{script_of}
+use Rattle.gw_fields.proofs.FaultLaws.{text_fault_is_first, field_fault_is_first}
+use Rattle.gw_config.proofs.script.read.Goals as goal
+
+pub returns-in-Err-clause-err : goal.returns-in-Err-clause-err
+returns-in-Err-clause-err c = text_fault_is_first script_of _ _ c.in-Err.ensures.err
+
+pub returns-in-Ok-clause-err : goal.returns-in-Ok-clause-err
+returns-in-Ok-clause-err c = field_fault_is_first (λ s. s) script_of _ _ c.in-Ok.ensures.ok _ c.script_of.ensures.value

@@ -1,0 +1,17 @@
+pub mod Versions
+pub mod Rewrites
+pub mod Talkers
+pub mod TalkerParts
+pub mod Segments
+pub mod SegmentParts
+pub mod BankLists
+pub mod Controllers
+pub mod ControllerParts
+pub mod Routes
+pub mod RouteParts
+pub mod PlannedFaults
+pub mod PlannedAborts
+pub mod Scripts
+pub mod ScriptParts
+pub mod SoundScripts
+pub mod Nodes

@@ -1,0 +1,58 @@
+-- A route: from a FIFO of one controller into a mailbox of another, or of the same.
+use Rattle.std.specs.Prelude.{ℕ, ◌&&◌, ◌==◌, nat_lt, Bool, List, [], length, map, count_by, codes, Result, Ok, Err, if◌then◌else◌}
+use Rattle.std.specs.List.{list_any}
+use Rattle.serde_json.specs.Data.{Data}
+use Rattle.can_frame.specs.declared.rewrite.Rewrite.{Rewrite}
+use Rattle.gw_config.specs.declared.version.Version.{Version}
+use Rattle.gw_fields.specs.Faults.{Fault, fifo_twice, too_many}
+use Rattle.gw_fields.specs.Fields.{◌>>=◌, object_of, whole, list, each_after}
+use Rattle.gw_fields.specs.Names.{new_name, place_named}
+use Rattle.gw_config.specs.Controllers.{ControllerValue, controller_names}
+use Rattle.gw_config.specs.Rewrites.{rewrites_of}
+
+-- its name, the places of its controllers, the FIFO that it takes from, and the new identifiers under which it sends frames on
+pub record RouteValue : Type 0 where
+  pub name : List ℕ
+  pub source : ℕ
+  pub fifo : ℕ
+  pub target : ℕ
+  pub rewrites : List Rewrite
+
+abbrev pub route_names : List RouteValue → List (List ℕ)
+route_names routes = map (λ (r : RouteValue). r.name) routes
+
+-- whether it takes from this FIFO of this controller
+abbrev pub takes_from : ℕ → ℕ → RouteValue → Bool
+takes_from source fifo r = (r.source == source) && (r.fifo == fifo)
+
+-- how many routes lead into a controller
+abbrev pub routes_into : ℕ → List RouteValue → ℕ
+routes_into target routes = count_by (λ (r : RouteValue). r.target == target) routes
+
+-- Whether there is place for a route behind those in front of it: none takes from its FIFO, and fewer than eight lead into its target.
+abbrev pub placed : List RouteValue → RouteValue → Result RouteValue Fault
+placed front r =
+    if list_any (takes_from r.source r.fifo) front then Err (fifo_twice (length front))
+    else (if nat_lt (routes_into r.target front) 8 then Ok r else Err (too_many (codes "routes")))
+
+-- the fields behind the name
+unfoldable pub route_with : Version → List ControllerValue → List RouteValue → List ℕ → Data → Result RouteValue Fault
+route_with version controllers front name from = do
+  source ← place_named (codes "from") (controller_names controllers) from
+  fifo ← whole (codes "fifo") 0 1 from
+  target ← place_named (codes "to") (controller_names controllers) from
+  rewrites ← rewrites_of version from
+  placed front (record { name = name; source = source; fifo = fifo; target = target; rewrites = rewrites })
+
+-- a route behind those in front of it
+unfoldable pub route_of : Version → List ControllerValue → List RouteValue → Data → Result RouteValue Fault
+route_of version controllers front value = do
+  from ← object_of (codes "routes") value
+  name ← new_name (codes "routes") (route_names front) from
+  route_with version controllers front name from
+
+-- at most 16 of them
+unfoldable pub routes_of : Version → List ControllerValue → Data → Result (List RouteValue) Fault
+routes_of version controllers from = do
+  items ← list (codes "routes") 16 from
+  each_after (route_of version controllers) [] items

@@ -1,0 +1,138 @@
+//! The filter banks that a script lists for a controller.
+
+ghost use Rattle.std.specs.Prelude.{◌≡◌, ◌<◌, ◌==◌, IfOk};
+ghost use Rattle.std.specs.List.{list_any};
+ghost use Rattle.serde_json.specs.View.{view, items_view};
+ghost use Rattle.bx_rx.specs.Banks.{bank_count};
+ghost use Rattle.gw_fields.specs.Faults.{Reads, ReadsUnlessMemory};
+ghost use Rattle.gw_config.specs.BankLists.{scale_with, scale_of, mode_with, mode_of, settings_of, number_of, listed_bank, banks_with, banks_of};
+
+use crate::version::Version;
+use bx_rx::{Bank, Banks, Mode, Scale};
+use gw_fields::{ScriptFault, list, natural, object_of, text, truth, whole};
+use serde_json::Value;
+use std::alloc::Global;
+
+/// A bank's number, and what is set of it.
+#[derive(Clone, Copy)]
+struct ListedBank {
+    number: u8,
+    settings: Bank,
+}
+
+fn scale_with(bits: u64) -> Result<Scale, ScriptFault>
+    ensures { Reads (λ scale. scale) result (scale_with bits) }
+{
+    match bits {
+        16 => Ok(Scale::Bits16),
+        32 => Ok(Scale::Bits32),
+        _ => Err(ScriptFault::Range("scale")),
+    }
+}
+
+#[tactic(auto, unfolding(crate::specs::BankLists::scale_of))]
+fn scale_of(from: &Value) -> Result<Scale, ScriptFault>
+    ensures { Reads (λ scale. scale) result (scale_of (view from.now)) }
+{
+    let bits = natural(from, "scale")?;
+    scale_with(bits)
+}
+
+fn mode_with(word: &str) -> Result<Mode, ScriptFault>
+    ensures { Reads (λ mode. mode) result (mode_with word.now) }
+{
+    match word {
+        "mask" => Ok(Mode::Mask),
+        "list" => Ok(Mode::List),
+        _ => Err(ScriptFault::Range("mode")),
+    }
+}
+
+#[tactic(auto, unfolding(crate::specs::BankLists::mode_of))]
+fn mode_of(from: &Value) -> Result<Mode, ScriptFault>
+    ensures { Reads (λ mode. mode) result (mode_of (view from.now)) }
+{
+    let word = text(from, "mode")?;
+    mode_with(word)
+}
+
+/// What is set of a bank.
+#[tactic(auto, unfolding(crate::specs::BankLists::settings_of))]
+fn settings_of(from: &Value) -> Result<Bank, ScriptFault>
+    ensures { Reads (λ bank. bank) result (settings_of (view from.now)) }
+{
+    let scale = scale_of(from)?;
+    let mode = mode_of(from)?;
+    let fifo = whole(from, "fifo", 0, 1)? as u8;
+    let active = truth(from, "active")?;
+    let r1 = whole(from, "r1", 0, 4_294_967_295)? as u32;
+    let r2 = whole(from, "r2", 0, 4_294_967_295)? as u32;
+    Ok(Bank::new(scale, mode, fifo, active, r1, r2))
+}
+
+fn is_listed(banks: &[ListedBank], number: u8) -> bool
+    ensures { result ≡ list_any (λ b. b.number == number) banks.now }
+{
+    banks.iter().any(|bank| bank.number == number)
+}
+
+/// A bank's number, where none in front of it has it.
+#[tactic(auto, unfolding(crate::specs::BankLists::number_of))]
+fn number_of(from: &Value, version: Version, front: &[ListedBank]) -> Result<u8, ScriptFault>
+    ensures value { Reads (λ n. n) result (number_of version front.now (view from.now)) }
+    ensures range { IfOk result (λ n. n < bank_count) }
+{
+    let last = version.listed_banks() - 1;
+    let number = whole(from, "bank", 0, last as u64)? as u8;
+    if is_listed(front, number) {
+        Err(ScriptFault::DoubleName("bank"))
+    } else {
+        Ok(number)
+    }
+}
+
+/// An element of the list, behind those in front of it.
+#[tactic(auto, unfolding(crate::specs::BankLists::listed_bank))]
+fn listed_bank(
+    value: &Value,
+    version: Version,
+    front: &[ListedBank],
+) -> Result<ListedBank, ScriptFault>
+    ensures value { Reads (λ b. b) result (listed_bank version front.now (view value.now)) }
+    ensures range { IfOk result (λ b. b.number < bank_count) }
+{
+    let from = object_of(value, "banks")?;
+    let number = number_of(from, version, front)?;
+    match settings_of(from) {
+        Ok(settings) => Ok(ListedBank { number, settings }),
+        Err(fault) => Err(fault),
+    }
+}
+
+/// All banks of a controller, after these are set.
+fn banks_with(alloc: Global, items: &[Value], version: Version) -> Result<Banks, ScriptFault>
+    ensures { ReadsUnlessMemory (λ banks. banks) result (banks_with version (items_view items.now)) }
+{
+    let mut banks = Banks::new();
+    let mut front = Vec::new(alloc);
+    for item in items {
+        let bank = match listed_bank(item, version, front.as_slice()) {
+            Ok(bank) => bank,
+            Err(fault) => return Err(fault),
+        };
+        banks.set(bank.number, bank.settings);
+        if front.push(bank).is_err() {
+            return Err(ScriptFault::Memory);
+        }
+    }
+    Ok(banks)
+}
+
+/// All banks of a controller, by its list of as many as the version allows.
+#[tactic(auto, unfolding(crate::specs::BankLists::banks_of))]
+pub fn banks_of(alloc: Global, from: &Value, version: Version) -> Result<Banks, ScriptFault>
+    ensures { ReadsUnlessMemory (λ banks. banks) result (banks_of version (view from.now)) }
+{
+    let items = list(from, "banks", version.listed_banks())?;
+    banks_with(alloc, items, version)
+}

@@ -1,0 +1,222 @@
+//! A controller of a script.
+
+ghost use Rattle.std.specs.Prelude.{◌≡◌, ◌+◌, ◌<◌, ◌≤◌, ◌==◌, [], length, count_by, nat_lt, slice_get, IfOk};
+ghost use Rattle.bx_core.specs.Lists.{Each};
+ghost use Rattle.serde_json.specs.View.{view, items_view};
+ghost use Rattle.gw_fields.specs.Faults.{ReadsUnlessMemory};
+ghost use Rattle.gw_fields.specs.Fields.{each_after};
+ghost use Rattle.gw_config.specs.Talkers.{most_nodes};
+ghost use Rattle.gw_config.specs.Controllers.{node_count, controller_with, controller_of, controllers_of};
+ghost use Rattle.gw_config.specs.SoundScripts.{IsControllerIn};
+
+use crate::bank_list::banks_of;
+use crate::segment::{Segment, node_name};
+use crate::talker::MOST_NODES;
+use crate::version::Version;
+use bx_rx::Banks;
+use gw_fields::{Named, ScriptFault, list, object_of, optional_truth, owned, place_named, whole};
+use serde_json::Value;
+use std::alloc::Global;
+use std::marker::Model;
+
+/// How many controllers a script may have.
+const MOST_CONTROLLERS: usize = 16;
+
+/// A node that routes send and receive through. Contracts see its name, the place of its segment, the
+/// bit at which it is switched on, its transmit priority, and its filter banks.
+#[derive(Drop)]
+pub struct Controller {
+    name: String,
+    segment: usize,
+    on: u32,
+    txfp: bool,
+    banks: Banks,
+}
+
+impl Model for Controller {
+    ghost use Rattle.gw_config.specs.Controllers.{ControllerValue};
+
+    ghost Value = { ControllerValue };
+
+    ghost use Rattle.gw_config.specs.ControllerParts.{controller_view};
+
+    ghost view = { controller_view };
+}
+
+impl Controller {
+    /// Its name.
+    pub fn name(&self) -> &str
+        ensures { result.now ≡ self.now.name }
+    {
+        self.name.as_str()
+    }
+
+    /// The place of its segment in the script, from 0.
+    pub fn segment(&self) -> usize
+        ensures { result ≡ self.now.segment }
+    {
+        self.segment
+    }
+
+    /// The bit at which it is switched on, below the script's bits.
+    pub fn on(&self) -> u32
+        ensures { result ≡ self.now.on }
+    {
+        self.on
+    }
+
+    /// Whether it sends by order of requests (TXFP set), and not by identifier.
+    pub fn txfp(&self) -> bool
+        ensures { result ≡ self.now.txfp }
+    {
+        self.txfp
+    }
+
+    /// Its filter banks, also those that the script doesn't list.
+    pub fn banks(&self) -> &Banks
+        ensures { result.now ≡ self.now.banks }
+    {
+        &self.banks
+    }
+}
+
+impl Named for Controller {
+    ghost name_of = { λ c. c.name };
+
+    fn name(&self) -> &str {
+        Controller::name(self)
+    }
+}
+
+/// How many of these controllers are on a segment.
+pub fn count_on(controllers: &[Controller], place: usize) -> usize
+    ensures value { result ≡ count_by (λ c. c.segment == place) controllers.now }
+    ensures few { result ≤ length controllers.now }
+{
+    controllers
+        .iter()
+        .filter(|controller| controller.segment() == place)
+        .count()
+}
+
+/// Whether the segment at this place has fewer nodes than it may have: its talkers, and these
+/// controllers so far as they are on it.
+fn has_room(segments: &[Segment], place: usize, controllers: &[Controller]) -> bool
+    requires { place < length segments.now }
+    ensures { result ≡ nat_lt (node_count controllers.now place (slice_get segments.now place)) most_nodes }
+{
+    let talkers = segments[place].talkers().len();
+    let on_it = count_on(controllers, place);
+    talkers + on_it < MOST_NODES
+}
+
+/// A controller with this name and at this segment, in a run of so many bits.
+#[tactic(auto, unfolding(crate::specs::Controllers::controller_with))]
+fn controller_with(
+    alloc: Global,
+    from: &Value,
+    version: Version,
+    bits: u32,
+    segments: &[Segment],
+    front: &[Controller],
+    name: &str,
+    segment: usize,
+) -> Result<Controller, ScriptFault>
+    requires some { 1 ≤ bits }
+    requires placed { segment < length segments.now }
+    ensures value { ReadsUnlessMemory (λ c. c) result
+        (controller_with version bits segments.now front.now name.now segment (view from.now)) }
+    ensures range { IfOk result (IsControllerIn bits segments.now) }
+{
+    let on = whole(from, "on", 0, u64::from(bits - 1))? as u32;
+    let txfp = optional_truth(from, "txfp", true)?;
+    let banks = match banks_of(alloc, from, version) {
+        Ok(banks) => banks,
+        Err(fault) => return Err(fault),
+    };
+    if has_room(segments, segment, front) {
+        let name = owned(alloc, name)?;
+        Ok(Controller {
+            name,
+            segment,
+            on,
+            txfp,
+            banks,
+        })
+    } else {
+        Err(ScriptFault::TooMany("controllers"))
+    }
+}
+
+/// A controller in a run of so many bits, behind those in front of it.
+#[tactic(auto, unfolding(crate::specs::Controllers::controller_of, gw_fields::specs::Fields::object_of, gw_fields::specs::Names::new_name))]
+fn controller_of(
+    alloc: Global,
+    value: &Value,
+    version: Version,
+    bits: u32,
+    segments: &[Segment],
+    front: &[Controller],
+) -> Result<Controller, ScriptFault>
+    requires { 1 ≤ bits }
+    ensures value { ReadsUnlessMemory (λ c. c) result
+        (controller_of version bits segments.now front.now (view value.now)) }
+    ensures range { IfOk result (IsControllerIn bits segments.now) }
+{
+    let from = object_of(value, "controllers")?;
+    let name = node_name(from, "controllers", segments, front)?;
+    let segment = place_named(from, "segment", segments)?;
+    controller_with(alloc, from, version, bits, segments, front, name, segment)
+}
+
+/// The elements of the list of controllers, front to back.
+fn listed_controllers(
+    alloc: Global,
+    items: &[Value],
+    version: Version,
+    bits: u32,
+    segments: &[Segment],
+) -> Result<Vec<Controller>, ScriptFault>
+    requires { 1 ≤ bits }
+    ensures value { ReadsUnlessMemory (λ v. v.items) result
+        (each_after (controller_of version bits segments.now) [] (items_view items.now)) }
+    ensures range { IfOk result (λ v. Each (IsControllerIn bits segments.now) v.items) }
+    ensures count { IfOk result (λ v. length v.items ≡ length items.now) }
+{
+    let mut controllers = Vec::new(alloc);
+    for item in items {
+        let controller = match controller_of(
+            alloc,
+            item,
+            version,
+            bits,
+            segments,
+            controllers.as_slice(),
+        ) {
+            Ok(controller) => controller,
+            Err(fault) => return Err(fault),
+        };
+        if controllers.push(controller).is_err() {
+            return Err(ScriptFault::Memory);
+        }
+    }
+    Ok(controllers)
+}
+
+/// The controllers of a script, at most 16.
+#[tactic(auto, unfolding(crate::specs::Controllers::controllers_of))]
+pub fn controllers_of(
+    alloc: Global,
+    from: &Value,
+    version: Version,
+    bits: u32,
+    segments: &[Segment],
+) -> Result<Vec<Controller>, ScriptFault>
+    requires { 1 ≤ bits }
+    ensures value { ReadsUnlessMemory (λ v. v.items) result (controllers_of version bits segments.now (view from.now)) }
+    ensures range { IfOk result (λ v. Each (IsControllerIn bits segments.now) v.items) }
+    ensures few { IfOk result (λ v. length v.items ≤ 16) }
+{
+    let items = list(from, "controllers", MOST_CONTROLLERS)?;
+    listed_controllers(alloc, items, version, bits, segments)
+}

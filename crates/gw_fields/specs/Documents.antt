@@ -1,0 +1,32 @@
+-- The bytes of an input: how long they may be, their JSON value, and what is wrong with them first.
+use Rattle.std.specs.Prelude.{◌≡◌, ◌<◌, ◌≤◌, ℕ, List, length, codes, Some, None, Result, Ok, Err}
+use Rattle.std.specs.Str.{IsUtf8}
+use Rattle.serde_json.specs.Data.{Data}
+use Rattle.serde_json.specs.Read.{read}
+use Rattle.gw_fields.specs.Faults.{Fault, not_json, too_many}
+
+-- the greatest number of bytes that is read
+abbrev pub greatest_length : ℕ
+greatest_length = 16777216
+
+-- the bytes are not too long, and they are the JSON text of this value
+pub record IsDocument (bytes : List ℕ) (d : Data) : Type 0 where
+  pub short : length bytes ≤ greatest_length
+  pub utf8 : IsUtf8 bytes
+  pub reads : read bytes ≡ Some d
+
+-- They are not. The length is tested before the JSON text.
+pub data IsNoDocument (bytes : List ℕ) : Fault → Type 0 where
+  too_long : greatest_length < length bytes → IsNoDocument bytes (too_many (codes "input"))
+  no_text : length bytes ≤ greatest_length → (IsUtf8 bytes → read bytes ≡ None) → IsNoDocument bytes not_json
+
+-- the bytes are the text of a value that reads as x
+pub record IsTextOf {A : Type 0} (reading : Data → Result A Fault) (bytes : List ℕ) (x : A) : Type 0 where
+  pub value : Data
+  pub document : IsDocument bytes value
+  pub reads : reading value ≡ Ok x
+
+-- Their first fault: the whole text is read before any of its fields.
+pub data FirstFault {A : Type 0} (reading : Data → Result A Fault) (bytes : List ℕ) (f : Fault) : Type 0 where
+  in_text : IsNoDocument bytes f → FirstFault reading bytes f
+  in_fields : (d : Data) → IsDocument bytes d → reading d ≡ Err f → FirstFault reading bytes f

@@ -1,7 +1,0 @@
-use Rattle.std.proofs.Common.{◌≡◌, drop}
-use Rattle.gw_script.specs.Names.{is_among}
-use Rattle.gw_script.specs.Segments.{all_talker_names}
-use Rattle.gw_script.proofs.segment.is_talker.Given as goal
-
-abbrev pub invariant-loop-segment : goal.invariant-loop-segment
-invariant-loop-segment l = is_among l.name (all_talker_names (drop l.segment-index l.segments)) ≡ is_among l.name (all_talker_names l.segments)
