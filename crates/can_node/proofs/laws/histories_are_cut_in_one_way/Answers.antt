@@ -1,0 +1,5 @@
+use Rattle.can_node.proofs.OneCutting.{one_cutting, one_wanting, one_sending}
+use Rattle.can_node.proofs.laws.histories_are_cut_in_one_way.Goals as goal
+
+pub returns : goal.returns
+returns c = record { cutting = one_cutting; wanting = one_wanting; sending = one_sending }
