@@ -35,3 +35,4 @@ pub mod OneCuttingCourses
 pub mod OneCuttingEnds
 pub mod OneCuttingEpisodes
 pub mod OneCutting
+pub mod OneCuttingPlaces

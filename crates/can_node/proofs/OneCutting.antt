@@ -151,10 +151,10 @@ start_or_end {phase = phase} {next = next} {other = other} {pairs = pairs} {more
     ]
 
 -- one step of two cuttings
-record SameStep (pairs more : List Pair) (events counted : List ErrorEvent) (outcome told : Outcome)
+pub record SameStep (pairs more : List Pair) (events counted : List ErrorEvent) (outcome told : Outcome)
     (next other : Phase) : Type 0 where
-  pairs_are : more ≡ pairs
-  end : SameEnd events counted outcome told next other
+  pub pairs_are : more ≡ pairs
+  pub end : SameEnd events counted outcome told next other
 
 start_is : {at : ℕ} {before : List ErrorEvent} {phase next other : Phase} {pairs more : List Pair}
     {frame begun : FrameValue} → Starting at before phase pairs frame next →
@@ -178,7 +178,10 @@ start_is {at = at} (from_idle n frame on) (from_idle m begun still) size same =
       };
     }
 start_is (from_sof start given frame) (from_sof s g begun) size same =
-    record { pairs_are = refl; end = record { events_are = refl; outcome_is = refl; next_is = ap (Send start given) same } }
+    record {
+      pairs_are = refl;
+      end = record { events_are = refl; outcome_is = refl; next_is = ap (Send start given) same };
+    }
 
 both_start : {past : Past} {phase next other : Phase} {pairs more : List Pair} {frame begun : FrameValue}
     (from : Past) →
@@ -198,7 +201,8 @@ both_start {pairs = pairs} {more = more} {frame = frame} {begun = begun} from h 
     start_is h k (omega (arith, bits, length-append from.pairs pairs, length-append from.pairs more))
     (ap (λ (x : ℕ × FrameValue). x.1) heads)
 
-same_step : {past : Past} {phase next other : Phase} {pairs more : List Pair} {events counted : List ErrorEvent}
+-- two episodes that stand at one place of a past are one
+pub same_step : {past : Past} {phase next other : Phase} {pairs more : List Pair} {events counted : List ErrorEvent}
     {outcome told : Outcome} (from : Past) → Fit phase →
     Kind (from.first + length from.pairs) from.events phase pairs events outcome next →
     Leads (with_episode from phase pairs events outcome) next past →
@@ -289,7 +293,7 @@ same_cut {from = from} {other = to} {phase = phase} {final = final} whole
     same_cut (then whole episode) onward l moved m
 
 -- whole episodes lead on from the first bit
-from_first : {to : Past} {last : Phase} → Whole to last → Onward (no_past to.first) Sync to last
+pub from_first : {to : Past} {last : Phase} → Whole to last → Onward (no_past to.first) Sync to last
 from_first (switched_on first) = stays
 from_first (then whole episode) = one_more (from_first whole) episode
 

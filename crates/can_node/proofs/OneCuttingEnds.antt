@@ -155,14 +155,14 @@ course_last fit waited = heard_last (recessive 7) true (suspended 7 (omega arith
 course_last fit (overtaken k below) = heard_last (recessive k) false (suspended k below) (no_more [])
 course_last fit (recovered text whole) = recovered_last 128 text whole refl
 
-sync_same : {at : ℕ} {before : List ErrorEvent} {pairs more : List Pair} {events counted : List ErrorEvent}
-    {outcome told : Outcome} {next other : Phase} →
+sync_same : {at : ℕ} {before : List ErrorEvent}
+    {pairs more : List Pair} {events counted : List ErrorEvent} {outcome told : Outcome} {next other : Phase} →
     Course at before Sync pairs events outcome next → Course at before Sync more counted told other → more ≡ pairs →
     SameEnd events counted outcome told next other
 sync_same (synced broken b) (synced others c) e = same_end
 
-idle_same : {at : ℕ} {before : List ErrorEvent} {pairs more : List Pair} {events counted : List ErrorEvent}
-    {outcome told : Outcome} {next other : Phase} →
+idle_same : {at : ℕ} {before : List ErrorEvent}
+    {pairs more : List Pair} {events counted : List ErrorEvent} {outcome told : Outcome} {next other : Phase} →
     Course at before Idle pairs events outcome next → Course at before Idle more counted told other → more ≡ pairs →
     SameEnd events counted outcome told next other
 idle_same {at = at} (woken n) (woken m) e =
@@ -170,9 +170,10 @@ idle_same {at = at} (woken n) (woken m) e =
     run_is true false m n [] [] (λ h. cc h) (listening_same (recessive m ++ false ∷ []) (recessive n ++ false ∷ []) e) in
     record { events_are = refl; outcome_is = refl; next_is = ap (λ k. Take (at + k) (false ∷ []) false) (sym same) }
 
-take_same : {at : ℕ} {before : List ErrorEvent} {start : ℕ} {given : List Bool} {may_begin : Bool} {pairs more : List Pair} {events counted : List ErrorEvent}
-    {outcome told : Outcome} {next other : Phase} →
-    Course at before (Take start given may_begin) pairs events outcome next → Course at before (Take start given may_begin) more counted told other → more ≡ pairs →
+take_same : {at : ℕ} {before : List ErrorEvent} {start : ℕ} {given : List Bool} {may_begin : Bool}
+    {pairs more : List Pair} {events counted : List ErrorEvent} {outcome told : Outcome} {next other : Phase} →
+    Course at before (Take start given may_begin) pairs events outcome next →
+    Course at before (Take start given may_begin) more counted told other → more ≡ pairs →
     SameEnd events counted outcome told next other
 take_same (took start given may_begin levels pairs events frame reads front)
     (took s g m others longer counted other more behind) e =
@@ -205,9 +206,10 @@ take_same {before = before} (spoiled start given may_begin levels level pairs ev
       next_is = ap (λ es. flag_of (state_after (before ++ es)) [] Receiver) same;
     }
 
-last_bit_same : {at : ℕ} {before : List ErrorEvent} {pairs more : List Pair} {events counted : List ErrorEvent}
-    {outcome told : Outcome} {next other : Phase} →
-    Course at before LastBit pairs events outcome next → Course at before LastBit more counted told other → more ≡ pairs →
+last_bit_same : {at : ℕ} {before : List ErrorEvent}
+    {pairs more : List Pair} {events counted : List ErrorEvent} {outcome told : Outcome} {next other : Phase} →
+    Course at before LastBit pairs events outcome next →
+    Course at before LastBit more counted told other → more ≡ pairs →
     SameEnd events counted outcome told next other
 last_bit_same quiet_end quiet_end e = same_end
 last_bit_same quiet_end late_overload e = absurd (not_equal (listening_same (false ∷ []) (true ∷ []) e))
@@ -220,23 +222,26 @@ last_bit_same late_overload quiet_end e = absurd (not_equal (listening_same (tru
     not_equal h = cc h
 last_bit_same late_overload late_overload e = same_end
 
-active_same : {at : ℕ} {before : List ErrorEvent} {role : Role} {pairs more : List Pair} {events counted : List ErrorEvent}
-    {outcome told : Outcome} {next other : Phase} →
-    Course at before (ActiveFlag role) pairs events outcome next → Course at before (ActiveFlag role) more counted told other → more ≡ pairs →
+active_same : {at : ℕ} {before : List ErrorEvent} {role : Role}
+    {pairs more : List Pair} {events counted : List ErrorEvent} {outcome told : Outcome} {next other : Phase} →
+    Course at before (ActiveFlag role) pairs events outcome next →
+    Course at before (ActiveFlag role) more counted told other → more ≡ pairs →
     SameEnd events counted outcome told next other
 active_same (flagged role levels size) (flagged q others long) e =
     flag_same ActiveError role levels others (sym (dominating_same others levels e))
 
-overload_same : {at : ℕ} {before : List ErrorEvent} {role : Role} {pairs more : List Pair} {events counted : List ErrorEvent}
-    {outcome told : Outcome} {next other : Phase} →
-    Course at before (OverloadFlag role) pairs events outcome next → Course at before (OverloadFlag role) more counted told other → more ≡ pairs →
+overload_same : {at : ℕ} {before : List ErrorEvent} {role : Role}
+    {pairs more : List Pair} {events counted : List ErrorEvent} {outcome told : Outcome} {next other : Phase} →
+    Course at before (OverloadFlag role) pairs events outcome next →
+    Course at before (OverloadFlag role) more counted told other → more ≡ pairs →
     SameEnd events counted outcome told next other
 overload_same (overload_flagged role levels size) (overload_flagged q others long) e =
     flag_same Overload role levels others (sym (dominating_same others levels e))
 
-passive_same : {at : ℕ} {before : List ErrorEvent} {owed : List ErrorEvent} {role : Role} {pairs more : List Pair} {events counted : List ErrorEvent}
-    {outcome told : Outcome} {next other : Phase} →
-    Course at before (PassiveFlag owed role) pairs events outcome next → Course at before (PassiveFlag owed role) more counted told other → more ≡ pairs →
+passive_same : {at : ℕ} {before : List ErrorEvent} {owed : List ErrorEvent} {role : Role}
+    {pairs more : List Pair} {events counted : List ErrorEvent} {outcome told : Outcome} {next other : Phase} →
+    Course at before (PassiveFlag owed role) pairs events outcome next →
+    Course at before (PassiveFlag owed role) more counted told other → more ≡ pairs →
     SameEnd events counted outcome told next other
 passive_same (passive_flagged owed role levels level none six) (passive_flagged o q others last never ends) e =
     record {
@@ -245,9 +250,10 @@ passive_same (passive_flagged owed role levels level none six) (passive_flagged 
       next_is = refl;
     }
 
-suspend_same : {at : ℕ} {before : List ErrorEvent} {pairs more : List Pair} {events counted : List ErrorEvent}
-    {outcome told : Outcome} {next other : Phase} →
-    Course at before Suspend pairs events outcome next → Course at before Suspend more counted told other → more ≡ pairs →
+suspend_same : {at : ℕ} {before : List ErrorEvent}
+    {pairs more : List Pair} {events counted : List ErrorEvent} {outcome told : Outcome} {next other : Phase} →
+    Course at before Suspend pairs events outcome next →
+    Course at before Suspend more counted told other → more ≡ pairs →
     SameEnd events counted outcome told next other
 suspend_same waited waited e = same_end
 suspend_same waited (overtaken k few) e =
@@ -259,15 +265,15 @@ suspend_same {at = at} (overtaken n few) (overtaken m below) e =
     run_is true false m n [] [] (λ h. cc h) (listening_same (recessive m ++ false ∷ []) (recessive n ++ false ∷ []) e) in
     record { events_are = refl; outcome_is = refl; next_is = ap (λ k. Take (at + k) (false ∷ []) false) (sym same) }
 
-off_same : {at : ℕ} {before : List ErrorEvent} {pairs more : List Pair} {events counted : List ErrorEvent}
-    {outcome told : Outcome} {next other : Phase} →
+off_same : {at : ℕ} {before : List ErrorEvent}
+    {pairs more : List Pair} {events counted : List ErrorEvent} {outcome told : Outcome} {next other : Phase} →
     Course at before BusOff pairs events outcome next → Course at before BusOff more counted told other → more ≡ pairs →
     SameEnd events counted outcome told next other
 off_same (recovered text whole) (recovered other all) e = same_end
 
 -- Equal pairs end each episode in one way.
-pub course_same : (phase : Phase) {at : ℕ} {before : List ErrorEvent} {pairs more : List Pair} {events counted : List ErrorEvent}
-    {outcome told : Outcome} {next other : Phase} →
+pub course_same : (phase : Phase) {at : ℕ} {before : List ErrorEvent}
+    {pairs more : List Pair} {events counted : List ErrorEvent} {outcome told : Outcome} {next other : Phase} →
     Course at before phase pairs events outcome next → Course at before phase more counted told other → more ≡ pairs →
     SameEnd events counted outcome told next other
 course_same Sync c d e = sync_same c d e

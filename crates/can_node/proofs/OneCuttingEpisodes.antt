@@ -105,22 +105,24 @@ pub went_on : {at : ℕ} {before : List ErrorEvent} {phase next : Phase} {pairs 
 went_on {before = before} fit (by_course course on) =
     let l = course_last fit course in
     record { shorter = l.before; last = l.last; counted = l.counted; is = l.is; goes = l.begun; on = l.on before on }
-went_on {before = before} {phase = phase} fit (within {pairs = pairs} {events = events} pair event b on more off) = record {
-  shorter = pairs;
-  last = pair;
-  counted = events;
-  is = refl;
-  goes = b;
-  on = outside phase (before ++ events) on;
-}
-went_on {before = before} {phase = phase} fit (at_end {pairs = pairs} {events = events} pair event b on course off) = record {
-  shorter = pairs;
-  last = pair;
-  counted = events;
-  is = refl;
-  goes = b;
-  on = outside phase (before ++ events) on;
-}
+went_on {before = before} {phase = phase} fit
+    (within {pairs = pairs} {events = events} pair event b on more off) = record {
+      shorter = pairs;
+      last = pair;
+      counted = events;
+      is = refl;
+      goes = b;
+      on = outside phase (before ++ events) on;
+    }
+went_on {before = before} {phase = phase} fit
+    (at_end {pairs = pairs} {events = events} pair event b on course off) = record {
+      shorter = pairs;
+      last = pair;
+      counted = events;
+      is = refl;
+      goes = b;
+      on = outside phase (before ++ events) on;
+    }
 
 no_longer : {at : ℕ} {before : List ErrorEvent} {phase next other : Phase} {pairs more : List Pair}
     {events counted : List ErrorEvent} {outcome told : Outcome} (r : List Pair) → Fit phase →

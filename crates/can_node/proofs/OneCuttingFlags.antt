@@ -22,7 +22,8 @@ use Rattle.can_node.proofs.OneCuttingLists.{listening_front, listening_same, run
 use Rattle.can_node.proofs.OneCuttingEvents.{StayOff, More, no_more, flag_bits_stay, SameEnd, same_end}
 
 -- more levels of a flag that drives dominant
-pub flag_bits_more : (role : Role) (levels more : List Bool) → More (flag_bits role levels) (flag_bits role (levels ++ more))
+pub flag_bits_more : (role : Role) (levels more : List Bool) →
+    More (flag_bits role levels) (flag_bits role (levels ++ more))
 flag_bits_more role levels more = record {
   more = flag_bits role more;
   is = flat_map-append (flag_bit role) levels more;

@@ -241,7 +241,8 @@ driving_last : (ds ls : List Bool) (d l : Bool) → length ds ≡ length ls →
 driving_last [] [] d l e = refl
 driving_last [] (y ∷ ls) d l e = absurd (omega (arith, e))
 driving_last (x ∷ ds) [] d l e = absurd (omega (arith, e))
-driving_last (x ∷ ds) (y ∷ ls) d l e = ap (λ t. record { driven = x; sampled = y } ∷ t) (driving_last ds ls d l (omega (arith, e)))
+driving_last (x ∷ ds) (y ∷ ls) d l e =
+    ap (λ t. record { driven = x; sampled = y } ∷ t) (driving_last ds ls d l (omega (arith, e)))
 
 last_bit_of : (frame : FrameValue) (given driven sampled : List Bool) → IsSend frame given driven sampled →
     HasLast driven → HasLast sampled → LastOfSend frame given driven sampled
