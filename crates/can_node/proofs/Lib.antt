@@ -26,3 +26,13 @@ pub mod Stamps
 pub mod Located
 pub mod Attempts
 pub mod Sofs
+pub mod OneCuttingLists
+pub mod OneCuttingEvents
+pub mod OneCuttingTakes
+pub mod OneCuttingSends
+pub mod OneCuttingFlags
+pub mod OneCuttingCourses
+pub mod OneCuttingEnds
+pub mod OneCuttingEpisodes
+pub mod OneCutting
+pub mod OneCuttingPlaces

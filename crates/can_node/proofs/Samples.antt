@@ -102,7 +102,7 @@ pub idle_advances : (old : Reader) (spelling : Spelling) (now : ℕ) (errors : E
 idle_advances old spelling now errors = other_advances Idling old old spelling now errors true (quiet Idling) refl (idle_on now errors) (λ is. absurd (cc is)) (λ is. absurd (cc is))
 
 -- either the counts are not those of bus off, or the node is in bus off
-on_or_off : (phase : Phase) (events : List ErrorEvent) → IsOnOutside phase events → AreOn events ⊎ (phase ≡ BusOff)
+pub on_or_off : (phase : Phase) (events : List ErrorEvent) → IsOnOutside phase events → AreOn events ⊎ (phase ≡ BusOff)
 on_or_off Sync events on = inl on
 on_or_off Idle events on = inl on
 on_or_off (Send start given frame) events on = inl on

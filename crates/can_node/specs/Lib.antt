@@ -14,3 +14,4 @@ pub mod Node
 pub mod Cuts
 pub mod Copies
 pub mod Attempts
+pub mod Cuttings

@@ -15,6 +15,7 @@ ghost use Rattle.can_node.specs.Copies.{
   CompletionsAreAttempts,
   FramesTakenAreTakes,
 };
+ghost use Rattle.can_node.specs.Cuttings.{OneCutting, OneEpisode, OneWanting, OneSending};
 
 /// A sender and a receiver on one line. An error of a sender that is error active comes not before the bit at
 /// which the receiver took the frame of that attempt, or any frame that it was reading then, if the
@@ -48,4 +49,13 @@ pub fn attempts_stand_alone()
 /// The start of an attempt, however a history is cut, is the SOF that its node told when it began to send.
 pub fn attempts_start_at_their_sof()
     ensures { StartsAreSofs }
+{}
+
+/// A past is cut into episodes in one way only: it ends in one, and no bit stands in two. So it tells whether
+/// its node wants to start, and the SOF of the frame that it sends.
+pub fn histories_are_cut_in_one_way()
+    ensures cutting { OneCutting }
+    ensures episode { OneEpisode }
+    ensures wanting { OneWanting }
+    ensures sending { OneSending }
 {}
