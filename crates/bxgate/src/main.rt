@@ -1,17 +1,8 @@
 //! A gateway between CAN segments: the program.
 #![tactic(auto)]
 
-mod command;
-mod core_command;
-mod failure;
-mod input;
-mod output;
-mod program;
-mod report;
-mod run_command;
-mod task;
-
-use crate::program::{refused_arguments, tool};
+use gw_tool::refused_arguments;
+pub use gw_tool::tool;
 use std::io;
 use std::process::ExitCode;
 
@@ -35,6 +26,3 @@ fn main(rt: HostRuntime) -> ExitCode {
     };
     ExitCode::from(status)
 }
-
-#[cfg(test)]
-mod tests;

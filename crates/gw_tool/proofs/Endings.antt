@@ -1,0 +1,37 @@
+-- From the failure that a run ends with to its status.
+use Rattle.std.proofs.Common.{◌≡◌, inl, inr, ℕ, List, Option, Err, IfSome}
+use Rattle.std.proofs.lemmas.Option.{IfSome_then}
+use Rattle.std.specs.Io.KnownBytes.{Keeps}
+use Rattle.gw_fields.specs.declared.script_fault.ScriptFault.TheVariants as fault
+use Rattle.gw_fields.specs.Faults.{Fault, not_json, missing, wrong_kind, out_of_range, unknown_name, double_name, fifo_twice, too_many, wrong_version}
+use Rattle.gw_fields.specs.Documents.{IsNoDocument, in_text}
+use Rattle.gw_tool.specs.Outcomes.{Ends, EndsWith, IsRefusal, status_of}
+use Rattle.gw_tool.specs.declared.failure.Failure.{Failure}
+use Rattle.gw_tool.specs.declared.failure.Failure.TheVariants as failure
+use Rattle.gw_tool.specs.declared.task.Task.{Task}
+use Rattle.gw_tool.specs.declared.task.Task.TheVariants as task
+
+-- what is no document at all is refused, whatever was asked for
+pub no_document : (t : Task) (bytes : List ℕ) (f : Fault) → IsNoDocument bytes f → IsRefusal t bytes f
+no_document task.Core bytes f is = in_text is
+no_document (task.Run turn) bytes f is = in_text is
+
+-- the input is refused for its first fault
+refused : (t : Task) (input old new : Option (List ℕ)) (status : ℕ) (f : Fault) → status ≡ 2 → IfSome input (λ bytes. IsRefusal t bytes f) → Keeps old new →
+    EndsWith t input old new status
+refused t input old new status f is first keeps = inr (inl (is, IfSome_then input first (λ bytes h. (f, h)), keeps))
+
+pub ends_with : (t : Task) (input old new : Option (List ℕ)) (status : ℕ) (e : Failure) → status ≡ status_of e → Ends t input old new (Err e) → EndsWith t input old new status
+ends_with t input old new status (failure.Script fault.NotJson) is h = refused t input old new status not_json is h.0 h.1
+ends_with t input old new status (failure.Script (fault.Missing name)) is h = refused t input old new status (missing name.now) is h.0 h.1
+ends_with t input old new status (failure.Script (fault.Kind name)) is h = refused t input old new status (wrong_kind name.now) is h.0 h.1
+ends_with t input old new status (failure.Script (fault.Range name)) is h = refused t input old new status (out_of_range name.now) is h.0 h.1
+ends_with t input old new status (failure.Script (fault.UnknownName name)) is h = refused t input old new status (unknown_name name.now) is h.0 h.1
+ends_with t input old new status (failure.Script (fault.DoubleName name)) is h = refused t input old new status (double_name name.now) is h.0 h.1
+ends_with t input old new status (failure.Script (fault.FifoTwice place)) is h = refused t input old new status (fifo_twice place) is h.0 h.1
+ends_with t input old new status (failure.Script (fault.TooMany name)) is h = refused t input old new status (too_many name.now) is h.0 h.1
+ends_with t input old new status (failure.Script fault.Version) is h = refused t input old new status wrong_version is h.0 h.1
+ends_with t input old new status (failure.Script fault.Memory) is h = inr (inr (inl (is, h.1)))
+ends_with t input old new status (failure.Run e) is h = inr (inr (inl (is, h.1)))
+ends_with t input old new status failure.Read is keeps = inr (inr (inr (is, inl keeps)))
+ends_with t input old new status failure.Write is begins = inr (inr (inr (is, inr begins)))

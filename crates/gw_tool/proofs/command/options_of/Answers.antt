@@ -1,0 +1,15 @@
+-- The number is read as it was written.
+use Rattle.std.proofs.Common.{codes, ◌∙◌}
+use Rattle.std.specs.Fmt.{decimal}
+use Rattle.std.specs.Str.Parse.{ParsesUnsigned, ExplainsUnsignedError, HasUnsignedDigitsIfOk}
+use Rattle.clap.specs.Words.{found_of}
+use Rattle.clap.proofs.WalkLemmas.{one_text-rows}
+use Rattle.gw_tool.proofs.Turns.{reads_decimal}
+use Rattle.gw_tool.proofs.command.options_of.Goals as goal
+
+pub returns-clause-asked : goal.returns-clause-asked
+returns-clause-asked c n turn is =
+    let text_is = one_text-rows (found_of c.args.options.now) (codes "turn") ∙ is in
+    let read = c.get_one.ensures.value (decimal n) text_is in
+    c.run_of.ensures.asked n
+    (reads_decimal (λ bs r. ParsesUnsigned 32 10 bs r × ExplainsUnsignedError 10 bs r × HasUnsignedDigitsIfOk bs r) n c.get_one.result turn.1 (λ r given. given.0) read) turn

@@ -1,0 +1,40 @@
+-- The words are those that clap takes.
+use Rattle.std.proofs.Common.{ap, sym, option_map, arith, ◌∙◌, Some}
+use Rattle.std.proofs.lemmas.Fmt.{decimal_digit}
+use Rattle.clap.specs.Words.{subcommand_of, takes}
+use Rattle.gw_tool.specs.Words.{bxgate_app, IsTurn}
+use Rattle.gw_tool.proofs.CommandLine.{is_simple_app, name_from_rows, core_is_met, core_is_taken, nothing_is_met, nothing_is_taken, run_is_met, run_is_taken, turns_are_met}
+use Rattle.gw_tool.proofs.command.task_of.Goals as goal
+
+pub returns-in-Ok-clause-core : goal.returns-in-Ok-clause-core
+returns-in-Ok-clause-core g c name words_are =
+    let met = (c.in-Ok.ensures.matches is_simple_app).1 ∙ ap (subcommand_of bxgate_app) words_are in
+    c.asked_by.ensures.core (name_from_rows c.in-Ok.matches ∙ ap (option_map (λ p. p.0)) met ∙ core_is_met name)
+
+pub returns-in-Ok-clause-run : goal.returns-in-Ok-clause-run
+returns-in-Ok-clause-run g c name words_are =
+    let met = (c.in-Ok.ensures.matches is_simple_app).1 ∙ ap (subcommand_of bxgate_app) words_are in
+    let turn : IsTurn 1 = (omega arith, omega arith) in
+    c.asked_by.ensures.run _ 1 (met ∙ run_is_met name) turn (sym (ap Some (decimal_digit 1 (omega arith))))
+
+pub returns-in-Err-clause-core : goal.returns-in-Err-clause-core
+returns-in-Err-clause-core g c name words_are = c.in-Err.ensures.fails (ap (takes bxgate_app) words_are ∙ core_is_taken name)
+
+pub returns-in-Err-clause-run : goal.returns-in-Err-clause-run
+returns-in-Err-clause-run g c name words_are = c.in-Err.ensures.fails (ap (takes bxgate_app) words_are ∙ run_is_taken name)
+
+pub returns-in-Ok-clause-turns : goal.returns-in-Ok-clause-turns
+returns-in-Ok-clause-turns g c name n turn words_are =
+    let met = (c.in-Ok.ensures.matches is_simple_app).1 ∙ ap (subcommand_of bxgate_app) words_are in
+    c.asked_by.ensures.run _ n (met ∙ (turns_are_met name n turn).met) turn (turns_are_met name n turn).one
+
+pub returns-in-Err-clause-turns : goal.returns-in-Err-clause-turns
+returns-in-Err-clause-turns g c name n turn words_are = c.in-Err.ensures.fails (ap (takes bxgate_app) words_are ∙ (turns_are_met name n turn).taken)
+
+pub returns-in-Ok-clause-nothing : goal.returns-in-Ok-clause-nothing
+returns-in-Ok-clause-nothing g c name words_are =
+    let met = (c.in-Ok.ensures.matches is_simple_app).1 ∙ ap (subcommand_of bxgate_app) words_are in
+    c.asked_by.ensures.nothing (name_from_rows c.in-Ok.matches ∙ ap (option_map (λ p. p.0)) met ∙ nothing_is_met name)
+
+pub returns-in-Err-clause-nothing : goal.returns-in-Err-clause-nothing
+returns-in-Err-clause-nothing g c name words_are = c.in-Err.ensures.fails (ap (takes bxgate_app) words_are ∙ nothing_is_taken name)

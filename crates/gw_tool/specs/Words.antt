@@ -1,0 +1,48 @@
+-- What the words of the command line ask for.
+use Rattle.std.specs.Prelude.{◌≡◌, ℕ, ◌<◌, ◌≤◌, List, [], ◌∷◌, codes, Option, Some, Result, Ok, Err, pos}
+use Rattle.clap.specs.Words.{App, Rule, kind_of, new_app, new_rule, with_rule, with_subcommand}
+use Rattle.clap.specs.declared.error.Error.{Error}
+use Rattle.clap.specs.declared.error.kind.ErrorKind.TheVariants.{OutOfMemory}
+use Rattle.clap.specs.declared.builder.value_parser.ValueParser.TheVariants.{Signed}
+use Rattle.gw_tool.specs.declared.task.Task.{Task}
+use Rattle.gw_tool.specs.declared.task.Task.TheVariants.{Core, Run}
+
+-- so many bits may lie between two turns of a route
+abbrev pub IsTurn : ℕ → Type 0
+IsTurn n = (0 < n) × (n ≤ 1000000)
+
+abbrev pub HasTurn : Task → Type 0
+HasTurn Core = Unit {0}
+HasTurn (Run turn) = IsTurn turn
+
+abbrev pub IsRunTask : Task → Type 0
+IsRunTask Core = ⊥
+IsRunTask (Run turn) = IsTurn turn
+
+-- the word for what is asked
+abbrev pub name_of : Task → List ℕ
+name_of Core = codes "core"
+name_of (Run turn) = codes "run"
+
+-- The commands: `core`, and `run` with the option `--turn`, whose number is 1 where it isn't given.
+abbrev pub turn_rule : Rule
+turn_rule = record (new_rule (codes "turn")) {
+  long = Some (codes "turn");
+  value_names = 1;
+  defaults = codes "1" ∷ [];
+  parser = Some (Signed (pos 1) (pos 1000000));
+}
+
+abbrev pub core_app : App
+core_app = new_app (codes "core")
+
+abbrev pub run_app : App
+run_app = with_rule (new_app (codes "run")) turn_rule
+
+abbrev pub bxgate_app : App
+bxgate_app = with_subcommand (with_subcommand (new_app (codes "bxgate")) core_app.top) run_app.top
+
+-- the words are taken as asking for this, or for nothing, unless memory runs out
+abbrev pub IsTakenAs : Option Task → Result (Option Task) Error → Type 0
+IsTakenAs task (Ok asked) = asked ≡ task
+IsTakenAs task (Err e) = kind_of e ≡ OutOfMemory

@@ -1,0 +1,104 @@
+//! The command line.
+
+ghost use Rattle.std.specs.Prelude.{◌≡◌, ◌∷◌, [], List, ℕ, Some, None, codes, map, true, false, IfOk, IfErr, IfSome};
+ghost use Rattle.std.specs.Fmt.{decimal};
+ghost use Rattle.clap.specs.Words.{app_of, kind_of, found_of, one_of, rows_of, subcommand_name_of, subcommand_rows_of, HasMatchesOf, Row, takes};
+ghost use Rattle.clap.specs.declared.builder.command.Command.TheViews.{out-Command};
+ghost use Rattle.gw_tool.specs.Words.{bxgate_app, run_app, name_of, IsTurn, HasTurn, IsRunTask, IsTakenAs};
+
+use crate::task::Task;
+use clap::error::ErrorKind;
+use clap::{Arg, ArgMatches, Command, Error, value_parser};
+use std::alloc::{AllocError, Global};
+use std::convert::AsStr;
+
+/// The most bits that may lie between two turns of a route.
+const MOST_BITS: u32 = 1_000_000;
+
+/// The subcommand that runs a script.
+fn run_command<'a>(alloc: Global) -> Result<Command<'a>, AllocError>
+    ensures app { IfOk result (λ command. app_of command ≡ run_app) }
+    ensures local { IfOk result (λ command. (out-Command command).has_globals ≡ false) }
+{
+    let turn = Arg::new(alloc, "turn")
+        .long("turn")
+        .value_name("N")
+        .help("Makes a turn of each route after every N bits, 1 to 1000000")
+        .value_parser(value_parser!(u32).range(1..=i64::from(MOST_BITS)))
+        .default_value("1");
+    Command::new(alloc, "run")
+        .about(
+            "Reads a script of segments, controllers and routes (JSON) from standard input, runs it, and reports on the run",
+        )
+        .arg(turn)
+}
+
+/// The matches of the words, the program's name first.
+fn matches_of<'a, S: AsStr>(alloc: Global, words: &'a [S]) -> Result<ArgMatches<'a>, Error>
+    ensures matches { IfOk result (HasMatchesOf bxgate_app (map S.text words.entry.now)) }
+    ensures fails { IfErr result (λ e. takes bxgate_app (map S.text words.entry.now) ≡ true → kind_of e ≡ ErrorKind.OutOfMemory) }
+{
+    let core = Command::new(alloc, "core").about(
+        "Reads a list of mailbox events (JSON) from standard input, and reports what becomes of them",
+    );
+    let run = run_command(alloc)?;
+    let command = Command::new(alloc, "bxgate")
+        .subcommand(core)?
+        .subcommand(run)?;
+    command.try_get_matches_from(words)
+}
+
+/// A run with so many bits between two turns of a route, if that many may lie there.
+// clap refuses other numbers before, but its contract says so of a command's own options alone
+fn run_of(turn: Option<u32>) -> Option<Task>
+    ensures asked { (n : ℕ) → turn ≡ Some n → IsTurn n → result ≡ Some (Task.Run n) }
+    ensures run { IfSome result IsRunTask }
+{
+    match turn {
+        Some(turn) if 0 < turn && turn <= MOST_BITS => Some(Task::Run { turn }),
+        _ => None,
+    }
+}
+
+/// What the options of `run` ask for.
+fn options_of(options: &ArgMatches<'_>) -> Option<Task>
+    ensures asked { (n : ℕ) → IsTurn n → one_of (codes "turn") (rows_of (found_of options.now)) ≡ Some (decimal n) → result ≡ Some (Task.Run n) }
+    ensures run { IfSome result IsRunTask }
+{
+    run_of(options.get_one::<u32>("turn"))
+}
+
+/// What the matches ask for.
+fn asked_by(matches: &ArgMatches<'_>) -> Option<Task>
+    ensures core { subcommand_name_of matches.now ≡ Some (codes "core") → result ≡ Some Task.Core }
+    ensures run { (rows : List Row) (n : ℕ) → subcommand_rows_of matches.now ≡ Some (codes "run", rows) → IsTurn n
+        → one_of (codes "turn") rows ≡ Some (decimal n) → result ≡ Some (Task.Run n) }
+    ensures turn { IfSome result HasTurn }
+    ensures nothing { subcommand_name_of matches.now ≡ None → result ≡ None }
+    ensures name { IfSome result (λ task. subcommand_name_of matches.now ≡ Some (name_of task)) }
+{
+    match matches.subcommand_name() {
+        Some("core") => Some(Task::Core),
+        Some("run") => match matches.subcommand_matches("run") {
+            Some(options) => options_of(options),
+            None => None,
+        },
+        _ => None,
+    }
+}
+
+/// What the words ask for, the program's name first: `None` where they name no command. The words `core`, `run`
+/// and `run --turn N`, with N from 1 to 1,000,000, are taken, unless memory runs out.
+pub fn task_of<S: AsStr>(alloc: Global, words: &[S]) -> Result<Option<Task>, Error>
+    ensures core { (name : List ℕ) → map S.text words.now ≡ name ∷ codes "core" ∷ [] → IsTakenAs (Some Task.Core) result }
+    ensures run { (name : List ℕ) → map S.text words.now ≡ name ∷ codes "run" ∷ [] → IsTakenAs (Some (Task.Run 1)) result }
+    ensures turns { (name : List ℕ) (n : ℕ) → IsTurn n
+        → map S.text words.now ≡ name ∷ codes "run" ∷ codes "--turn" ∷ decimal n ∷ [] → IsTakenAs (Some (Task.Run n)) result }
+    ensures nothing { (name : List ℕ) → map S.text words.now ≡ name ∷ [] → IsTakenAs None result }
+    ensures turn { IfOk result (λ task. IfSome task HasTurn) }
+{
+    match matches_of(alloc, words) {
+        Ok(matches) => Ok(asked_by(&matches)),
+        Err(error) => Err(error),
+    }
+}

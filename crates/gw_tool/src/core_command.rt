@@ -1,0 +1,26 @@
+//! The command `core`.
+
+ghost use Rattle.std.specs.Prelude.{IfOk, IfErr};
+ghost use Rattle.gw_tool.specs.Outcomes.{IsAnswer, IsFailureOn};
+ghost use Rattle.gw_tool.specs.declared.task.Task.TheVariants.{Core};
+
+use crate::failure::Failure;
+use crate::report::report_of;
+use gw_run::RunFault;
+use gw_script::read_core;
+use std::alloc::Global;
+
+/// The report on the bytes of an event list.
+pub fn core_text(alloc: Global, bytes: &[u8]) -> Result<Vec<u8>, Failure>
+    ensures ok { IfOk result (λ text. IsAnswer Core bytes.now text.items) }
+    ensures err { IfErr result (IsFailureOn Core bytes.now) }
+{
+    let list = match read_core(alloc, bytes) {
+        Ok(list) => list,
+        Err(fault) => return Err(Failure::Script(fault)),
+    };
+    match report_of(alloc, &list) {
+        Ok(text) => Ok(text.into_bytes()),
+        Err(_) => Err(Failure::Run(RunFault::Memory)),
+    }
+}

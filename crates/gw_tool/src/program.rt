@@ -1,0 +1,167 @@
+//! The program over any reader and writers.
+
+ghost use Rattle.std.specs.Prelude.{◌≡◌, ◌≢◌, ◌⊎◌, ◌∷◌, [], List, ℕ, codes, map, IfOk, IfErr};
+ghost use Rattle.std.specs.Fmt.{decimal};
+ghost use Rattle.std.specs.Io.KnownBytes.{Keeps};
+ghost use Rattle.std.specs.IoError.{error_kind};
+ghost use Rattle.std.specs.declared.io.ErrorKind.TheVariants.{OutOfMemory};
+ghost use Rattle.clap.specs.Words.{kind_of};
+ghost use Rattle.gw_tool.specs.Outcomes.{IsAnswer, IsFailureOn, Ends, EndsWith};
+ghost use Rattle.gw_tool.specs.Words.{IsTurn, HasTurn};
+
+use crate::command::task_of;
+use crate::core_command::core_text;
+use crate::failure::Failure;
+use crate::input::{InputFault, read_input};
+use crate::output::{WriteFault, write_output};
+use crate::run_command::run_text;
+use crate::task::Task;
+use clap::error::ErrorKind;
+use gw_run::RunFault;
+use gw_script::ScriptFault;
+use std::alloc::Global;
+use std::convert::AsStr;
+use std::io;
+use std::io::{Read, Write};
+use std::sync::Wait;
+
+/// The answer to the bytes of the input.
+fn text_of<H: Wait>(rt: &H, alloc: Global, task: Task, bytes: &[u8]) -> Result<Vec<u8>, Failure>
+    requires { HasTurn task }
+    ensures ok { IfOk result (λ text. IsAnswer task bytes.now text.items) }
+    ensures err { IfErr result (IsFailureOn task bytes.now) }
+{
+    match task {
+        Task::Core => core_text(alloc, bytes),
+        Task::Run { turn } => run_text(rt, alloc, bytes, turn),
+    }
+}
+
+/// Reads all there is, and writes the answer to it and nothing else.
+fn carry_out<H: Wait, R: Read, W: Write>(
+    rt: &H,
+    alloc: Global,
+    task: Task,
+    input: &mut R,
+    output: &mut W,
+) -> Result<(), Failure>
+    requires { HasTurn task }
+    ensures { Ends task (R.remaining input.old) (W.contents output.old) (W.contents output.new) result }
+{
+    let bytes = match read_input(alloc, input) {
+        Ok(bytes) => bytes,
+        Err(InputFault::TooLong) => return Err(Failure::Script(ScriptFault::TooMany("input"))),
+        Err(InputFault::Memory) => return Err(Failure::Run(RunFault::Memory)),
+        Err(InputFault::Read) => return Err(Failure::Read),
+    };
+    let text = match text_of(rt, alloc, task, bytes.as_slice()) {
+        Ok(text) => text,
+        Err(failure) => return Err(failure),
+    };
+    match write_output(output, text.as_slice()) {
+        Ok(()) => Ok(()),
+        Err(WriteFault) => Err(Failure::Write),
+    }
+}
+
+/// Does what was asked for, and answers the status that the program then ends with.
+fn status_after<H: Wait, R: Read, W: Write, E: Write>(
+    rt: &H,
+    alloc: Global,
+    task: Task,
+    input: &mut R,
+    output: &mut W,
+    faults: &mut E,
+) -> u8
+    requires { HasTurn task }
+    ensures { EndsWith task (R.remaining input.old) (W.contents output.old) (W.contents output.new) result }
+{
+    match carry_out(rt, alloc, task, input, output) {
+        Ok(()) => 0,
+        Err(failure) => {
+            tell(faults, failure);
+            failure.status()
+        }
+    }
+}
+
+/// Runs the program on its words, the program's name first, and answers the status that it ends with:
+/// 0 done, 2 the input is refused, 3 memory ran out or a thread could not be started, 64 the words ask for
+/// nothing, 74 a read or a write fault. What went wrong is told on `faults`, and then nothing is written to
+/// `output`, but that a write fault may come in the middle. The text of help and usage is clap's.
+pub fn tool<H: Wait, S: AsStr, R: Read, W: Write, E: Write>(
+    rt: &H,
+    alloc: Global,
+    words: &[S],
+    input: &mut R,
+    output: &mut W,
+    faults: &mut E,
+) -> u8
+    ensures core { (name : List ℕ) → map S.text words.now ≡ name ∷ codes "core" ∷ []
+        → EndsWith Task.Core (R.remaining input.old) (W.contents output.old) (W.contents output.new) result }
+    ensures run { (name : List ℕ) → map S.text words.now ≡ name ∷ codes "run" ∷ []
+        → EndsWith (Task.Run 1) (R.remaining input.old) (W.contents output.old) (W.contents output.new) result }
+    ensures turns { (name : List ℕ) (n : ℕ) → IsTurn n
+        → map S.text words.now ≡ name ∷ codes "run" ∷ codes "--turn" ∷ decimal n ∷ []
+        → EndsWith (Task.Run n) (R.remaining input.old) (W.contents output.old) (W.contents output.new) result }
+    ensures nothing { (name : List ℕ) → map S.text words.now ≡ name ∷ []
+        → ((result ≡ 64) ⊎ (result ≡ 3)) × Keeps (W.contents output.old) (W.contents output.new) }
+    ensures usage { result ≡ 64 → Keeps (W.contents output.old) (W.contents output.new) }
+{
+    match task_of(alloc, words) {
+        Ok(Some(task)) => status_after(rt, alloc, task, input, output, faults),
+        Ok(None) => usage(faults),
+        Err(error) => refused_words(&error, output, faults),
+    }
+}
+
+/// Tells why a run ends without its report. A fault in telling it changes nothing.
+pub fn tell<E: Write>(faults: &mut E, failure: Failure) {
+    let _ = writeln!(faults, "bxgate: {failure}");
+}
+
+/// Tells that the words ask for nothing.
+fn usage<E: Write>(faults: &mut E) -> u8
+    ensures { result ≡ 64 }
+{
+    let _ = writeln!(faults, "bxgate: no command was given; try 'bxgate --help'");
+    64
+}
+
+/// Tells why the words could not be gathered: for want of memory, or since one of them is no text.
+pub fn refused_arguments<E: Write>(error: &io::Error, faults: &mut E) -> u8
+    ensures memory { error_kind error.now ≡ OutOfMemory → result ≡ 3 }
+    ensures text { error_kind error.now ≢ OutOfMemory → result ≡ 64 }
+{
+    if error.kind() == io::ErrorKind::OutOfMemory {
+        tell(faults, Failure::Run(RunFault::Memory));
+        return 3;
+    }
+    let _ = writeln!(faults, "bxgate: an argument is not UTF-8");
+    64
+}
+
+/// Tells of words that were refused, or gives the help that they ask for.
+fn refused_words<W: Write, E: Write>(error: &clap::Error, output: &mut W, faults: &mut E) -> u8
+    ensures memory { kind_of error.now ≡ ErrorKind.OutOfMemory
+        → (result ≡ 3) × Keeps (W.contents output.old) (W.contents output.new) }
+    ensures refused { kind_of error.now ≢ ErrorKind.OutOfMemory → kind_of error.now ≢ ErrorKind.DisplayHelp
+        → (result ≡ 64) × Keeps (W.contents output.old) (W.contents output.new) }
+    ensures help { kind_of error.now ≡ ErrorKind.DisplayHelp → result ≡ 0 }
+    ensures usage { result ≡ 64 → Keeps (W.contents output.old) (W.contents output.new) }
+{
+    match error.kind() {
+        ErrorKind::OutOfMemory => {
+            tell(faults, Failure::Run(RunFault::Memory));
+            3
+        }
+        ErrorKind::DisplayHelp => {
+            let _ = write!(output, "{error}");
+            0
+        }
+        _ => {
+            let _ = write!(faults, "{error}");
+            64
+        }
+    }
+}
