@@ -1,11 +1,11 @@
--- From the failure that a run ends with to its status.
-use Rattle.std.proofs.Common.{◌≡◌, inl, inr, ℕ, List, Option, Err, IfSome}
+-- From what a run read, answered and wrote to how it ends, and from the failure that it ends with to its status.
+use Rattle.std.proofs.Common.{◌≡◌, ◌∙◌, inl, inr, ℕ, List, Option, None, Some, Err, IfSome, refl, subst, take}
 use Rattle.std.proofs.lemmas.Option.{IfSome_then}
-use Rattle.std.specs.Io.KnownBytes.{Keeps}
+use Rattle.std.specs.Io.KnownBytes.{Appends, Keeps}
 use Rattle.gw_fields.specs.declared.script_fault.ScriptFault.TheVariants as fault
-use Rattle.gw_fields.specs.Faults.{Fault, not_json, missing, wrong_kind, out_of_range, unknown_name, double_name, fifo_twice, too_many, wrong_version}
+use Rattle.gw_fields.specs.Faults.{Fault, UnlessMemory, not_json, missing, wrong_kind, out_of_range, unknown_name, double_name, fifo_twice, too_many, wrong_version}
 use Rattle.gw_fields.specs.Documents.{IsNoDocument, in_text}
-use Rattle.gw_tool.specs.Outcomes.{Ends, EndsWith, IsRefusal, status_of}
+use Rattle.gw_tool.specs.Outcomes.{Answers, Begins, Ends, EndsWith, IsAnswer, IsFailureOn, IsRefusal, status_of}
 use Rattle.gw_tool.specs.declared.failure.Failure.{Failure}
 use Rattle.gw_tool.specs.declared.failure.Failure.TheVariants as failure
 use Rattle.gw_tool.specs.declared.task.Task.{Task}
@@ -15,6 +15,40 @@ use Rattle.gw_tool.specs.declared.task.Task.TheVariants as task
 pub no_document : (t : Task) (bytes : List ℕ) (f : Fault) → IsNoDocument bytes f → IsRefusal t bytes f
 no_document task.Core bytes f is = in_text is
 no_document (task.Run turn) bytes f is = in_text is
+
+-- what nobody wrote to is as it was
+pub keeps_all : (known : Option (List ℕ)) → Keeps known known
+keeps_all None = tt
+keeps_all (Some xs) = refl
+
+-- the bytes that were read are the whole input
+abbrev pub IsWhole : Option (List ℕ) → List ℕ → Type 0
+IsWhole input bytes = IfSome input (λ xs. bytes ≡ xs)
+
+-- and so is what a slice shows of them
+pub shown_whole : (input : Option (List ℕ)) (bytes shown : List ℕ) → IsWhole input bytes → shown ≡ bytes → IsWhole input shown
+shown_whole input bytes shown whole is = IfSome_then input whole (λ xs read. is ∙ read)
+
+-- the text is written whole
+pub answered : (t : Task) (bytes text : List ℕ) (input old new : Option (List ℕ)) → IsWhole input bytes → IsAnswer t bytes text →
+    Appends old new text → Answers t input old new
+answered t bytes text input old new whole answer grows =
+    IfSome_then input whole (λ xs is. (text, subst (λ b. IsAnswer t b text) is answer, grows))
+
+-- or a front of it
+pub begun : (t : Task) (bytes text : List ℕ) (input old new : Option (List ℕ)) → IsWhole input bytes → IsAnswer t bytes text →
+    ((n : ℕ) × Appends old new (take n text)) → Begins t input old new
+begun t bytes text input old new whole answer grows =
+    IfSome_then input whole (λ xs is. (text, subst (λ b. IsAnswer t b text) is answer, grows))
+
+-- or there is none, and nothing is written
+pub fails_on : (t : Task) (bytes : List ℕ) (input known : Option (List ℕ)) (e : Failure) → IsWhole input bytes →
+    IsFailureOn t bytes e → Ends t input known known (Err e)
+fails_on t bytes input known (failure.Script e) whole h =
+    (IfSome_then input whole (λ xs is. subst (λ b. UnlessMemory e (IsRefusal t b)) is h), keeps_all known)
+fails_on t bytes input known (failure.Run e) whole h = (h, keeps_all known)
+fails_on t bytes input known failure.Read whole h = absurd h
+fails_on t bytes input known failure.Write whole h = absurd h
 
 -- the input is refused for its first fault
 refused : (t : Task) (input old new : Option (List ℕ)) (status : ℕ) (f : Fault) → status ≡ 2 → IfSome input (λ bytes. IsRefusal t bytes f) → Keeps old new →

@@ -1,13 +1,49 @@
--- An input that is too long has that as its first fault.
-use Rattle.std.proofs.Common.{rules}
+-- An input that is too long has that as its first fault. Else what comes is the answer to the bytes that were read, which
+-- are the whole input.
+use Rattle.std.proofs.Common.{rules, refl, subst, ℕ, List, take}
+use Rattle.std.specs.Io.KnownBytes.{Appends}
 use Rattle.std.proofs.lemmas.Option.{IfSome_then}
 use Rattle.gw_fields.specs.Documents.{too_long}
-use Rattle.gw_tool.proofs.Endings.{no_document}
+use Rattle.gw_tool.proofs.Endings.{answered, begun, fails_on, keeps_all, no_document, shown_whole}
 use Rattle.gw_tool.proofs.program.carry_out.Goals as goal
 
 pub returns-in-Err-TooLong : goal.returns-in-Err-TooLong
 returns-in-Err-TooLong g c = (
   IfSome_then (g.R.Read.remaining c.args.input.now) (c.in-Err-TooLong.ensures.long c.in-Err-TooLong.field-0-is)
       (λ bytes over. no_document c.args.task bytes _ (too_long over)),
-  search rules,
+  keeps_all (g.W.Write.contents c.args.output.now),
 )
+
+pub returns-in-Err-Memory : goal.returns-in-Err-Memory
+returns-in-Err-Memory g c = (refl, keeps_all (g.W.Write.contents c.args.output.now))
+
+pub returns-in-Err-Read : goal.returns-in-Err-Read
+returns-in-Err-Read g c = keeps_all (g.W.Write.contents c.args.output.now)
+
+pub returns-in-Err : goal.returns-in-Err
+returns-in-Err g c =
+    let input = g.R.Read.remaining c.args.input.now in
+    let whole = shown_whole input c.in-Ok.bytes.items c.as_slice.result.now c.in-Ok.ensures.whole c.as_slice.ensures.value in
+    let known = g.W.Write.contents c.args.output.now in
+    fails_on c.args.task c.as_slice.result.now input known c.in-Err.failure whole c.in-Err.ensures.err
+
+pub returns-in-Ok-write_output : goal.returns-in-Ok-write_output
+returns-in-Ok-write_output g c =
+    let input = g.R.Read.remaining c.args.input.now in
+    let whole = shown_whole input c.in-Ok.bytes.items c.as_slice.result.now c.in-Ok.ensures.whole c.as_slice.ensures.value in
+    let old = g.W.Write.contents c.args.output.now in
+    let new = g.W.Write.contents c.write_output.new.output in
+    let text = c.in-Ok-text_of.text.items in
+    let grows : Appends old new text = search rules in
+    answered c.args.task c.as_slice.result.now text input old new whole c.in-Ok-text_of.ensures.ok grows
+
+pub returns : goal.returns
+returns g c =
+    let input = g.R.Read.remaining c.args.input.now in
+    let whole = shown_whole input c.in-Ok.bytes.items c.as_slice.result.now c.in-Ok.ensures.whole c.as_slice.ensures.value in
+    let old = g.W.Write.contents c.args.output.now in
+    let new = g.W.Write.contents c.write_output.new.output in
+    let text = c.in-Ok-text_of.text.items in
+    let P : List ℕ → Type 0 = λ shown. (n : ℕ) × Appends old new (take n shown) in
+    let grows = subst P c.as_slice-2.ensures.value c.in-Err-write_output.ensures.front in
+    begun c.args.task c.as_slice.result.now text input old new whole c.in-Ok-text_of.ensures.ok grows
