@@ -12,8 +12,8 @@ fn data(number: u16) -> Result<Frame, Fail> {
     Ok(Frame::with_bytes(Id::standard(number)?, &[])?)
 }
 
-/// Two identifiers are let in, by a list of bank 0 (filters 0 to 3) and a mask of bank 5 (filter 12, behind the eight of
-/// the banks between). The fourth frame that is let in finds three in the FIFO.
+/// Two identifiers are let in, by a list of bank 0 (filters 0 to 3) and a mask of bank 5 (filter 12, behind the eight
+/// of the banks between). The fourth frame that is let in finds three in the FIFO.
 #[test]
 fn frames_that_match_come_into_the_fifo(rt: HostRuntime) -> Result<(), Fail> {
     let mut banks = Banks::new();

@@ -59,7 +59,8 @@ impl<'a, R> RouteTx<R> for PlainRoute<'a> {
         ensures unchanged { OnErr result (self.new ≡ self.old) }
         ensures unheard { OnErr result (gate.new ≡ gate.old) }
         ensures heard { IfOk result (λ sent. HearsAnswer G.may_have_heard sent gate.old gate.new) }
-        ensures hears { IfOk result (λ sent. HearsOnly G.may_have_heard (core_of self.old.mail.now) sent gate.old gate.new) }
+        ensures hears { IfOk result (λ sent.
+            HearsOnly G.may_have_heard (core_of self.old.mail.now) sent gate.old gate.new) }
         ensures stays { (self.old.mail.ghost_name ≡ self.new.mail.ghost_name)
             × ((self.old.route ≡ self.new.route) × RouteKeeps self.old.route self.old.mail.now self.new.mail.now) }
         ensures sent { IfOk result (λ sent.
