@@ -1,15 +1,15 @@
 -- Each failure is that of the call which fails, and the claims on a report are those on the run that it is of.
-use Rattle.std.proofs.Common.{rules}
+use Rattle.std.proofs.Common.{refl}
 use Rattle.gw_tool.proofs.run_command.run_text.Goals as goal
 
 pub returns-in-Err-clause-err : goal.returns-in-Err-clause-err
-returns-in-Err-clause-err g c = search rules
+returns-in-Err-clause-err g c = c.in-Err.ensures.err
 
 pub returns-in-Err-run_inline-clause-err : goal.returns-in-Err-run_inline-clause-err
-returns-in-Err-run_inline-clause-err g c = search rules
+returns-in-Err-run_inline-clause-err g c = c.in-Err-run_inline.ensures.err
 
 pub returns-clause-err : goal.returns-clause-err
-returns-clause-err g c = search rules
+returns-clause-err g c = refl
 
 pub returns-in-Ok-print-clause-ok : goal.returns-in-Ok-print-clause-ok
 returns-in-Ok-print-clause-ok g c =
