@@ -18,3 +18,4 @@ pub mod Least
 pub mod Readies
 pub mod RouteSide
 pub mod Hears
+pub mod PlainTied

@@ -1,6 +1,6 @@
 //! The core: the mailboxes' claims, the requests that wait in them, and each route's lists.
 ghost use Rattle.std.specs.Prelude.{◌≡◌, ◌<◌, ◌≤◌, length, true, IsTrue, ◌↔◌, OnOk, OnErr, Err};
-ghost use Rattle.std.specs.Prelude.{None, Some, IfSome, IfNone, option_map, slice_get};
+ghost use Rattle.std.specs.Prelude.{None, Some, IfSome, IfNone, IfOk, option_map, map, slice_get};
 ghost use Rattle.std.specs.List.{slice_index_or};
 ghost use Rattle.bx_core.specs.declared.waiting.Waiting.{Waiting};
 ghost use Rattle.bx_core.specs.States.{State, opening, opening_by, claim_of, lists_of, at_mailbox, place_of};
@@ -11,10 +11,12 @@ ghost use Rattle.bx_core.specs.Steps.{with_claim, with_waiting, with_request, wi
 ghost use Rattle.bx_core.specs.End.{ended_lists};
 ghost use Rattle.bx_core.specs.Room.{lists_view};
 ghost use Rattle.bx_core.specs.Law.{Law, Reached, IsInPlace};
+ghost use Rattle.bx_core.specs.Ties.{as_left};
 
 use crate::end::End;
 use crate::entry::Entry;
 use crate::event::Event;
+use crate::left::Left;
 use crate::lists::Lists;
 use crate::queue;
 use crate::refused::Refused;
@@ -188,6 +190,15 @@ impl Core {
         ensures { result.items ≡ waits_of route self.now.queue }
     {
         queue::waits(self.queue.as_slice(), route)
+    }
+
+    /// The requests that wait, the oldest first, as closing leaves them: three at most. An error where memory was
+    /// refused.
+    pub fn left(&self, alloc: Global) -> Result<Vec<Left>, AllocError>
+        ensures left { IfOk result (λ left. left.items ≡ map as_left self.now.queue) }
+        ensures few { IfOk result (λ left. length left.items ≤ 3) }
+    {
+        queue::left(alloc, self.queue.as_slice())
     }
 
     /// The newest number that a route requested, or 0 where it requested nothing yet.

@@ -1,11 +1,14 @@
 //! The queue of waiting requests, the oldest first.
-ghost use Rattle.std.specs.Prelude.{◌≡◌, ◌<◌, ◌≤◌, length, slice_set, IfSome, option_map};
+ghost use Rattle.std.specs.Prelude.{◌≡◌, ◌<◌, ◌≤◌, length, map, slice_set, IfOk, IfSome, option_map};
 ghost use Rattle.std.specs.List.{find};
 ghost use Rattle.bx_core.specs.States.{at_mailbox, place_of, waits_of, of_number, is_scheduled, is_transmitting};
 ghost use Rattle.bx_core.specs.Priority.{goes_before, goes_first};
+ghost use Rattle.bx_core.specs.Ties.{as_left};
 
+use crate::left::Left;
 use crate::waiting::Waiting;
 use arrayvec::ArrayVec;
+use std::alloc::{AllocError, Global};
 
 /// The request in a mailbox, and its place in the queue.
 pub(crate) fn find(queue: &[Waiting], mailbox: u8) -> Option<(usize, Waiting)>
@@ -41,6 +44,17 @@ pub(crate) fn waits(queue: &[Waiting], route: u8) -> ArrayVec<u32, 3>
         }
     }
     numbers
+}
+
+/// These requests as closing leaves them, in order.
+pub(crate) fn left(alloc: Global, queue: &[Waiting]) -> Result<Vec<Left>, AllocError>
+    ensures { IfOk result (λ left. left.items ≡ map as_left queue.now) }
+{
+    let mut left = Vec::with_capacity(alloc, queue.len())?;
+    for waiting in queue {
+        left.push(waiting.as_left())?;
+    }
+    Ok(left)
 }
 
 /// The request of a route's number among these.

@@ -2,8 +2,10 @@
 ghost use Rattle.std.specs.Prelude.{◌≡◌};
 ghost use Rattle.bx_core.specs.States.{entry_of};
 ghost use Rattle.bx_core.specs.Steps.{may_start, may_reap};
+ghost use Rattle.bx_core.specs.Ties.{as_left};
 
 use crate::entry::Entry;
+use crate::left::Left;
 use crate::status::Status;
 use can_frame::Frame;
 
@@ -35,6 +37,16 @@ impl Waiting {
         ensures { result ≡ may_reap self.now }
     {
         self.status.is_scheduled() && self.abort_asked
+    }
+
+    pub(crate) fn as_left(&self) -> Left
+        ensures { result ≡ as_left self.now }
+    {
+        Left {
+            route: self.route,
+            number: self.number,
+            frame: self.frame,
+        }
     }
 
     pub(crate) fn entry(&self) -> Entry

@@ -6,7 +6,6 @@ mod banks;
 mod images;
 pub mod laws;
 mod log;
-mod memory;
 mod mode;
 mod offered;
 mod rule;
@@ -18,7 +17,6 @@ mod scale;
 
 pub use crate::bank::Bank;
 pub use crate::banks::Banks;
-pub use crate::memory::Memory;
 pub use crate::mode::Mode;
 pub use crate::offered::Offered;
 pub use crate::rx_fifo::RxFifo;
@@ -26,6 +24,7 @@ pub use crate::rx_frame::RxFrame;
 pub use crate::rx_in::RxIn;
 pub use crate::rx_out::RxOut;
 pub use crate::scale::Scale;
+pub use can_frame::Memory;
 
 #[cfg(test)]
 mod tests;

@@ -4,12 +4,12 @@ ghost use Rattle.crossbeam_queue.specs.Passes.{view, IsPassOf};
 ghost use Rattle.bx_rx.specs.Rule.{log};
 
 use crate::log::Log;
-use crate::memory::Memory;
 use crate::rule::{Line, Releases, Sides, Total};
 use crate::rx_frame::RxFrame;
 use crate::rx_in::RxIn;
 use crate::rx_out::RxOut;
 use arrayvec::ArrayVec;
+use can_frame::Memory;
 use crossbeam_queue::Pass;
 use std::alloc::{AllocError, Global};
 use std::sync::{Arc, Wait};

@@ -4,7 +4,6 @@
 mod event_list;
 mod event_text;
 mod frame_text;
-mod memory;
 mod printer;
 mod report;
 mod report_names;
@@ -14,11 +13,11 @@ mod standing;
 
 pub use crate::event_list::{EventList, read_core};
 pub use crate::frame_text::push_frame;
-pub use crate::memory::Memory;
 pub use crate::printer::print;
 pub use crate::report::Report;
 pub use crate::route_report::RouteReport;
 pub use crate::standing::names_stand;
+pub use can_frame::Memory;
 pub use gw_config::{
     Controller, NodePlace, PlannedAbort, PlannedFault, Route, Script, Segment, Talker, read,
 };

@@ -4,9 +4,9 @@ ghost use Rattle.std.specs.Prelude.{◌≡◌, IfOk};
 ghost use Rattle.gw_script.specs.NamedPlaces.{Names};
 ghost use Rattle.gw_script.specs.ReportTexts.{report_text};
 
-use crate::memory::Memory;
 use crate::report::Report;
 use crate::report_text::text_of;
+use can_frame::Memory;
 use gw_config::Script;
 use std::alloc::Global;
 

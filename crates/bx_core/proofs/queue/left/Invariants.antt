@@ -1,0 +1,6 @@
+use Rattle.std.specs.Prelude.{◌≡◌, map, take}
+use Rattle.bx_core.specs.Ties.{as_left}
+use Rattle.bx_core.proofs.queue.left.Given as goal
+
+abbrev pub invariant-loop-waiting : goal.invariant-loop-waiting
+invariant-loop-waiting l = l.left.items ≡ map as_left (take l.waiting-index l.queue)
