@@ -1,0 +1,37 @@
+//! A segment of a run, and the controllers on it.
+
+ghost use Rattle.std.specs.Prelude.{◌≡◌, ◌+◌, ◌<◌, OnOk, length};
+ghost use Rattle.gw_site.specs.Sites.{SiteHolds, PortsLeave};
+
+use can_frame::Memory;
+use can_segment::{RxSink, Segment};
+
+/// A segment, and the ports of the controllers on it, in their order.
+#[derive(Drop)]
+pub struct Site<P> {
+    /// The line with its nodes, and the record of what they did.
+    pub segment: Segment,
+    /// The controllers on it, in the order of its nodes.
+    pub ports: Vec<P>,
+}
+
+/// One more bit time of a segment with its controllers: what `Segment::bit` does where a bit is left to make. `Memory`
+/// where the record could not grow: then nothing was done.
+pub fn make_bit<R, P: RxSink<R>>(
+    rt: &R,
+    segment: &mut Segment,
+    ports: &mut [P],
+) -> Result<(), Memory>
+    requires holds { SiteHolds P.bus_after P.transmitting P.sink_after segment.old ports.old }
+    requires still { length segment.old.levels < segment.old.plan.bits }
+    ensures holds { OnOk result (SiteHolds P.bus_after P.transmitting P.sink_after segment.new ports.new) }
+    ensures plan { OnOk result (segment.new.plan ≡ segment.old.plan) }
+    ensures longer { OnOk result (length segment.new.levels ≡ length segment.old.levels + 1) }
+    ensures ports { OnOk result (PortsLeave P.port_stays ports.old ports.new) }
+{
+    match segment.bit(rt, ports) {
+        Ok(()) => Ok(()),
+        // a bit is left to make
+        Err(_) => Err(Memory),
+    }
+}
