@@ -42,10 +42,11 @@ impl Waiting {
     pub(crate) fn as_left(&self) -> Left
         ensures { result ≡ as_left self.now }
     {
+        let Entry { number, frame } = self.entry();
         Left {
             route: self.route,
-            number: self.number,
-            frame: self.frame,
+            number,
+            frame,
         }
     }
 
