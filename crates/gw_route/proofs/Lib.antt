@@ -2,3 +2,5 @@ pub mod Lists
 pub mod Numbered
 pub mod Matches
 pub mod Turns
+pub mod Sublists
+pub mod Plans

@@ -1,3 +1,5 @@
 pub mod RouteHand
 pub mod Turn
 pub mod Heard
+pub mod Sublists
+pub mod Plans

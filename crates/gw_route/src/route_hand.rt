@@ -1,5 +1,5 @@
 //! A route's hand.
-ghost use Rattle.std.specs.Prelude.{◌≡◌, ℕ, ◌+◌, ◌<◌, ◌≤◌, ◌↔◌, Bool, List, [], ◌∷◌, ◌++◌, Option, Some, None, Result, IfOk, OnErr, IfSome, IfNone, IsErr, IsTrue, MatchOption, vec_len, vec_capacity, slice_get};
+ghost use Rattle.std.specs.Prelude.{◌≡◌, ℕ, ◌+◌, ◌<◌, ◌≤◌, ◌↔◌, Bool, List, [], ◌∷◌, ◌++◌, Option, Some, None, Result, IfOk, OnOk, OnErr, IfSome, IfNone, IsErr, IsTrue, MatchOption, vec_len, vec_capacity, slice_get};
 ghost use Rattle.bx_core.specs.declared.answer.Sent.{Sent};
 ghost use Rattle.bx_core.specs.declared.answer.AbortAnswer.{AbortAnswer};
 ghost use Rattle.bx_core.specs.declared.answer.NumberTooLarge.{NumberTooLarge};
@@ -7,8 +7,10 @@ ghost use Rattle.bx_core.specs.Steps.{greatest_number};
 ghost use Rattle.bx_core.specs.RouteTx.{RoutePast, no_route_past, after_request, after_abort};
 ghost use Rattle.bx_rx.specs.RxOut.{IsReleased};
 ghost use Rattle.gw_route.specs.Heard.{HearsTurn};
+ghost use Rattle.gw_route.specs.Plans.{FromPlan};
+ghost use Rattle.gw_route.specs.declared.planned_abort.PlannedAbort.{PlannedAbort};
 ghost use Rattle.gw_route.specs.RouteHand.{hand_value, new_hand, LogMatches, LogsReleased, IsLinked};
-ghost use Rattle.gw_route.specs.Turn.{counted, IsDueByCount, first_abort, taken, none_given, Filled, if_requested, requested_answer, logged, if_aborted, aborted_answer, Acted, TurnMade, TurnKeeps};
+ghost use Rattle.gw_route.specs.Turn.{counted, next_turn, IsDueByCount, first_abort, taken, none_given, Filled, if_requested, requested_answer, logged, if_aborted, aborted_answer, Acted, TurnMade, TurnKeeps};
 
 use crate::log::Log;
 use crate::planned_abort::PlannedAbort;
@@ -82,6 +84,9 @@ impl RouteHand {
         ensures turned { IfOk result (TurnMade (T.route_after tx.old) (T.route_after tx.new)
             (hand_value self.old) (hand_value self.new)) }
         ensures keeps { IfOk result (TurnKeeps (hand_value self.old) (hand_value self.new)) }
+        ensures counted { OnOk result (self.new.turns ≡ next_turn self.old.turns) }
+        ensures plan { (planned : List PlannedAbort) → FromPlan planned (hand_value self.old)
+            → FromPlan planned (hand_value self.new) }
         ensures linked { IsLinked (T.route_after tx.new) (hand_value self.new) }
         ensures log { LogsReleased (hand_value self.old) → LogsReleased (hand_value self.new) }
         ensures queue { self.new.out.queue ≡ self.old.out.queue }

@@ -2,6 +2,7 @@ use Rattle.std.proofs.Common.{◌≡◌, sym, subst}
 use Rattle.gw_route.specs.RouteHand.{HandValue, hand_value, LogMatches, LogsReleased}
 use Rattle.gw_route.specs.Turn.{counted}
 use Rattle.gw_route.proofs.Matches.{matches-counted}
+use Rattle.gw_route.proofs.Plans.{turn_keeps, turn_counts}
 use Rattle.gw_route.proofs.Turns.{turned-matches, turned-logs}
 use Rattle.gw_route.proofs.route_hand.RouteHand.turn.Goals as goal
 
@@ -30,3 +31,9 @@ returns-clause-linked g c =
     let match = subst (λ (v : HandValue). LogMatches v t.0) (sym same) (matches-counted old t.0 t.2) in
     let made = c.act.ensures.turned t.0 t.1 match in
     (made.0, made.1, turned-matches _ _ _ _ _ made.2 match)
+
+pub returns-clause-counted : goal.returns-clause-counted
+returns-clause-counted g c = turn_counts (g.T.RouteTx.route_after c.args.tx.now) _ (hand_value c.args.self.now) _ c.act.result c.requires.linked c.goal.turned
+
+pub returns-clause-plan : goal.returns-clause-plan
+returns-clause-plan g c planned p = turn_keeps planned (g.T.RouteTx.route_after c.args.tx.now) _ (hand_value c.args.self.now) _ c.act.result c.requires.linked c.goal.turned p
