@@ -1,6 +1,6 @@
 use Rattle.std.proofs.Common.{◌≡◌, sym, subst}
 use Rattle.gw_route.specs.RouteHand.{HandValue, hand_value, LogMatches, LogsReleased}
-use Rattle.gw_route.specs.Turn.{counted}
+use Rattle.gw_route.specs.Turn.{counted, Acted}
 use Rattle.gw_route.proofs.Matches.{matches-counted}
 use Rattle.gw_route.proofs.Plans.{turn_keeps, turn_counts}
 use Rattle.gw_route.proofs.Turns.{turned-matches, turned-logs}
@@ -33,7 +33,21 @@ returns-clause-linked g c =
     (made.0, made.1, turned-matches _ _ _ _ _ made.2 match)
 
 pub returns-clause-counted : goal.returns-clause-counted
-returns-clause-counted g c = turn_counts (g.T.RouteTx.route_after c.args.tx.now) _ (hand_value c.args.self.now) _ c.act.result c.requires.linked c.goal.turned
+returns-clause-counted g c =
+    let old : HandValue = hand_value c.args.self.now in
+    let released = c.reserve.ensures.items in
+    let aborted = c.reserve-2.ensures.items in
+    let value = c.count.ensures.value in
+    let same : hand_value c.count.new.self ≡ counted old = cc in
+    turn_counts (g.T.RouteTx.route_after c.args.tx.now) (g.T.RouteTx.route_after c.act.new.tx) old (hand_value c.act.new.self) c.act.result c.requires.linked
+    (subst (λ v. Acted (g.T.RouteTx.route_after c.args.tx.now) (g.T.RouteTx.route_after c.act.new.tx) v (hand_value c.act.new.self) c.act.result) same c.act.ensures.turned)
 
 pub returns-clause-plan : goal.returns-clause-plan
-returns-clause-plan g c planned p = turn_keeps planned (g.T.RouteTx.route_after c.args.tx.now) _ (hand_value c.args.self.now) _ c.act.result c.requires.linked c.goal.turned p
+returns-clause-plan g c planned p =
+    let old : HandValue = hand_value c.args.self.now in
+    let released = c.reserve.ensures.items in
+    let aborted = c.reserve-2.ensures.items in
+    let value = c.count.ensures.value in
+    let same : hand_value c.count.new.self ≡ counted old = cc in
+    turn_keeps planned (g.T.RouteTx.route_after c.args.tx.now) (g.T.RouteTx.route_after c.act.new.tx) old (hand_value c.act.new.self) c.act.result c.requires.linked
+    (subst (λ v. Acted (g.T.RouteTx.route_after c.args.tx.now) (g.T.RouteTx.route_after c.act.new.tx) v (hand_value c.act.new.self) c.act.result) same c.act.ensures.turned) p
