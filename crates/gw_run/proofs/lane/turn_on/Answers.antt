@@ -1,8 +1,8 @@
 use Rattle.bx_core.specs.PlainMail.{core_of}
 use Rattle.bx_core.specs.Stands.{RouteStands}
 use Rattle.gw_route.specs.RouteHand.{hand_value}
-use Rattle.gw_run.proofs.Lanes.{turn_keeps, turn_counts}
-use Rattle.gw_run.proofs.lane.turn_on.Goals as goal
+use Rattle.gw_opening.proofs.Lanes.{turn_keeps, turn_counts}
+use Rattle.gw_opening.proofs.lane.turn_on.Goals as goal
 
 pub returns-then-short-clause-plan : goal.returns-then-short-clause-plan
 returns-then-short-clause-plan g c planned p =

@@ -1,10 +1,10 @@
 use Rattle.std.proofs.Common.{ℕ, ◌+◌, length, ap, arith, subst, sym}
 use Rattle.can_segment.proofs.NextBits.{some_there}
 use Rattle.gw_config.specs.Segments.{SegmentValue}
-use Rattle.gw_run.specs.declared.site.Site.{Site}
-use Rattle.gw_run.specs.Openings.{IsNewSite}
-use Rattle.gw_run.proofs.Pairs.{PairsBelow, pairs_step}
-use Rattle.gw_run.proofs.opening.sites_of.Goals as goal
+use Rattle.gw_site.specs.declared.site.Site.{Site}
+use Rattle.gw_opening.specs.Openings.{IsNewSite}
+use Rattle.gw_site.proofs.Pairs.{PairsBelow, pairs_step}
+use Rattle.gw_opening.proofs.opening.sites_of.Goals as goal
 
 pub loop-segment-preserved : goal.loop-segment-preserved
 loop-segment-preserved c =

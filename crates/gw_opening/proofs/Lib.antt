@@ -1,0 +1,4 @@
+pub mod PlacesWhere
+pub mod Plans
+pub mod Changes
+pub mod Openings

@@ -1,0 +1,4 @@
+pub mod Places
+pub mod Slots
+pub mod Plans
+pub mod Openings

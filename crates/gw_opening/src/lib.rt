@@ -1,0 +1,18 @@
+//! A run before its first bit: the segments, controllers and routes of a script, whatever the mailboxes are.
+#![tactic(auto)]
+
+mod growing;
+mod lane;
+mod opening;
+mod place;
+mod places;
+mod plan;
+mod route_start;
+mod slots;
+
+pub use crate::lane::Lane;
+pub use crate::opening::{port_of, routes_at, site_of};
+pub use crate::place::Place;
+pub use crate::places::{controller_there, count_on};
+pub use crate::route_start::lanes_of;
+pub use crate::slots::take;
