@@ -142,6 +142,14 @@ pub record OpensBelow {B : Type 0} (s : ScriptValue) (sites : List (Site (Port B
   pub each_lane : PairsBelow (λ j route. IsNewLane s j route) s.routes lanes k
   pub takes : (j : ℕ) (lane : Lane) → slice_get lanes j ≡ Some lane → Takes sites lane
 
+module _ {B : Type 0} where
+  pub opens_start : (s : ScriptValue) (sites : List (Site (Port B))) → AreNewSites s sites → OpensBelow s sites [] 0
+  opens_start s sites new = record {
+    each_site = new;
+    each_lane = record { at = λ k route lane e f. absurd (cc f); size = refl };
+    takes = λ j lane e. absurd (cc e);
+  }
+
 apart_at : {X : Type 0} (R : X → X → Type 0) (xs : List X) (i j : ℕ) (x y : X) → i < j → slice_get xs i ≡ Some x → slice_get xs j ≡ Some y → AllPairs R xs → R x y
 apart_at R xs i j x y less e f all =
     let within = slice_get_within xs j y f in

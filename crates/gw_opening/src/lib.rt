@@ -10,6 +10,7 @@ mod plan;
 mod route_start;
 mod slots;
 
+pub use crate::growing::{push_one, push_some};
 pub use crate::lane::Lane;
 pub use crate::opening::{port_of, routes_at, site_of};
 pub use crate::place::Place;

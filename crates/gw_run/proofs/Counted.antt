@@ -8,16 +8,16 @@ use Rattle.can_segment.specs.Places.{AtPlaces}
 use Rattle.can_segment.proofs.NextBits.{some_there}
 use Rattle.gw_route.specs.Turn.{next_turn}
 use Rattle.gw_config.specs.Scripts.{ScriptValue}
-use Rattle.gw_run.specs.declared.lane.Lane.{Lane}
-use Rattle.gw_run.specs.declared.place.Place.{Place}
-use Rattle.gw_run.specs.Ports.{Port}
-use Rattle.gw_run.specs.declared.site.Site.{Site}
-use Rattle.gw_run.specs.Openings.{Opens, IsNewLane, IsNewSite, IsNewPort}
-use Rattle.gw_config.specs.Nodes.{controller_places}
+use Rattle.gw_opening.specs.declared.lane.Lane.{Lane}
+use Rattle.gw_opening.specs.declared.place.Place.{Place}
+use Rattle.gw_run.specs.Ports.{Port, Site}
+use Rattle.gw_opening.specs.Openings.{IsNewLane}
+use Rattle.gw_run.proofs.Starts.{new_mail_at}
 use Rattle.gw_run.specs.Sites.{SiteMoves}
-use Rattle.gw_run.specs.Worlds.{IsAt, PortChanges, LaneTurns, CountsTurn, HaveTurned, NoneShort}
-use Rattle.gw_run.proofs.Changes.{place_cases}
-use Rattle.gw_run.proofs.Pairs.{pair_at}
+use Rattle.gw_opening.specs.Places.{IsAt, PortChanges}
+use Rattle.gw_run.specs.Worlds.{Opens, LaneTurns, CountsTurn, HaveTurned, NoneShort}
+use Rattle.gw_opening.proofs.Changes.{place_cases}
+use Rattle.gw_site.proofs.Pairs.{pair_at}
 
 -- a turn is due behind this bit, so there is one multiple more
 due-quotient : (turn bit : ℕ) → 0 < turn → (bit + 1) % turn ≡ 0 → (bit + 1) / turn ≡ bit / turn + 1
@@ -61,7 +61,7 @@ turned_once turn bit old new some few due counts h k lane e =
 
 pub none_turned : (s : ScriptValue) (sites : List Site) (lanes : List Lane) (turn : ℕ) → Opens s sites lanes → HaveTurned turn 0 lanes
 none_turned s sites lanes turn o k lane e =
-    (pair_at (λ j route. IsNewLane s j route) s.routes lanes k lane o.each_lane e).2.turns_is ∙ sym (zero-div turn)
+    (pair_at (λ j route. IsNewLane s j route) s.routes lanes k lane o.opens.each_lane e).2.turns_is ∙ sym (zero-div turn)
 
 -- a port of those behind a change of one: that one, or another
 port_before : (Change : Port → Port → Type 0) (old new : List Site) (there : Place) (t : PortChanges Change old new there) (place : Place) (port : Port) → IsAt new place port →
@@ -91,6 +91,4 @@ short_bits old new moves h place port at =
     (ports.at place.port was.0 port was.1 at.port_is).mail.short ∙ h place was.0 (record { site = site.0; site_is = site.1; port_is = was.1 })
 
 pub none_short : (s : ScriptValue) (sites : List Site) (lanes : List Lane) → Opens s sites lanes → NoneShort sites
-none_short s sites lanes o place port at =
-    let site = pair_at (λ j segment. IsNewSite s j) s.segments sites place.site at.site o.each_site at.site_is in
-    (pair_at (λ j. IsNewPort s) (controller_places s place.site) at.site.ports.items place.port port site.2.ports at.port_is).2.mail.unshort
+none_short s sites lanes o place port at = (new_mail_at s sites lanes place port o at).is_new.unshort

@@ -5,12 +5,12 @@ use Rattle.std.proofs.lemmas.Option.{slice_get_within}
 use Rattle.can_segment.specs.Places.{AtPlaces}
 use Rattle.can_segment.proofs.Places.{same_some}
 use Rattle.can_segment.proofs.NextBits.{some_there}
-use Rattle.gw_run.specs.declared.lane.Lane.{Lane}
-use Rattle.gw_run.specs.declared.site.Site.{Site}
+use Rattle.gw_opening.specs.declared.lane.Lane.{Lane}
+use Rattle.gw_run.specs.Ports.{Site}
 use Rattle.gw_run.specs.Sites.{SiteMoves}
 use Rattle.gw_run.specs.Worlds.{LaneKeeps, LanesKeep, LaneTurns, SameSegments, HaveMade}
 use Rattle.gw_run.proofs.WorldTurns.{lane_cases}
-use Rattle.gw_run.proofs.Changes.{place_cases}
+use Rattle.gw_opening.proofs.Changes.{place_cases}
 
 pub segments_start : (sites : List Site) → SameSegments sites sites
 segments_start sites = record { at = λ i a b p q. ap (λ (s : Site). s.segment) (same_some b a (sym q ∙ p)); size = refl }

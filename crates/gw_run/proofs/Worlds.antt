@@ -5,14 +5,14 @@ use Rattle.bx_core.specs.Stands.{BusKeeps}
 use Rattle.can_segment.specs.Places.{AtPlaces}
 use Rattle.can_segment.proofs.NextBits.{some_there}
 use Rattle.bx_controller.specs.declared.intake.Intake.{Intake}
-use Rattle.gw_run.specs.declared.lane.Lane.{Lane}
-use Rattle.gw_run.specs.declared.place.Place.{Place}
-use Rattle.gw_run.specs.Ports.{Port}
-use Rattle.gw_run.specs.declared.site.Site.{Site}
+use Rattle.gw_opening.specs.declared.lane.Lane.{Lane}
+use Rattle.gw_opening.specs.declared.place.Place.{Place}
+use Rattle.gw_run.specs.Ports.{Port, Site}
 use Rattle.bx_controller.specs.Slots.{SameFifo}
 use Rattle.gw_run.specs.Ports.{PortLeaves}
 use Rattle.gw_run.specs.Sites.{SiteMoves}
-use Rattle.gw_run.specs.Worlds.{IsAt, slot_of, LaneHolds, TakesFrom, WorldHolds}
+use Rattle.gw_opening.specs.Places.{IsAt, slot_of, TakesFrom}
+use Rattle.gw_run.specs.Worlds.{LaneHolds, WorldHolds}
 
 -- where a port goes in one bit of all segments
 pub record Moved (old new : List Site) (place : Place) (port : Port) : Type 0 where

@@ -1,14 +1,5 @@
-pub mod Pairs
-pub mod Headline
-pub mod Links
 pub mod Ports
-pub mod Slots
-pub mod Sublists
 pub mod Lanes
-pub mod Ends
 pub mod Sites
 pub mod Worlds
-pub mod Plans
-pub mod Reports
-pub mod Openings
 pub mod Finals

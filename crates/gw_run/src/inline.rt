@@ -6,23 +6,23 @@ ghost use Rattle.bx_core.specs.declared.entry.Entry.{Entry};
 ghost use Rattle.gw_script.specs.NamedPlaces.{Names};
 ghost use Rattle.gw_config.specs.SoundScripts.{IsSound};
 ghost use Rattle.gw_script.specs.declared.route_report.RouteReport.{RouteReport};
-ghost use Rattle.gw_run.specs.Finals.{AreDoneSites, IsOver, lines_at};
-ghost use Rattle.gw_run.specs.Openings.{AreNewSites, Opens};
-ghost use Rattle.gw_run.specs.Pairs.{Pairs};
-ghost use Rattle.gw_run.specs.Headline.{NotRefilled, Balances};
-ghost use Rattle.gw_run.specs.Reports.{IsRouteRun, AreOrdered, RunsSegments, RunsRoutes, AreStartsOf, lines_of};
-ghost use Rattle.gw_run.specs.Worlds.{HaveTurned, NoneShort};
+ghost use Rattle.gw_ending.specs.Headline.{NotRefilled, Balances};
+ghost use Rattle.gw_ending.specs.Reports.{AreOrdered, RunsSegments, RunsRoutes, AreStartsOf, lines_of};
+ghost use Rattle.gw_opening.specs.Openings.{AreNewSites, HaveMails};
+ghost use Rattle.gw_run.specs.Finals.{HasRun};
+ghost use Rattle.gw_run.specs.Ports.{IsNewMail};
+ghost use Rattle.gw_run.specs.Worlds.{Opens, HaveTurned, NoneShort};
 ghost use Rattle.gw_run.specs.declared.run_fault.RunFault.TheVariants.{Memory as WantOfMemory};
 
-use crate::closing::{end_lanes, records_of};
-use crate::lane::Lane;
+use crate::closing::close_sites;
 use crate::opening::sites_of;
-use crate::route_start::lanes_of;
+use crate::port::Site;
 use crate::run_fault::RunFault;
-use crate::site::Site;
 use crate::world::make_all;
-use bx_rx::Memory;
-use gw_script::{Report, RouteReport, Script};
+use can_frame::Memory;
+use gw_ending::end_run;
+use gw_opening::{Lane, lanes_of};
+use gw_script::{Report, Script};
 use std::alloc::Global;
 use std::sync::Wait;
 
@@ -37,7 +37,7 @@ fn make_bits_and_turns<R: Wait>(
     requires sound { IsSound script.now }
     requires turn { 0 < turn }
     requires opens { Opens script.now sites.old lanes.old }
-    ensures over { OnOk result (IsOver script.now sites.new lanes.new) }
+    ensures run { OnOk result (HasRun script.now sites.new lanes.new) }
     ensures turned { OnOk result (HaveTurned turn script.now.bits lanes.new) }
     ensures short { OnOk result (NoneShort sites.new) }
 {
@@ -45,24 +45,23 @@ fn make_bits_and_turns<R: Wait>(
     Ok(())
 }
 
-/// The routes of a script are made, run their turns while these segments make their bits, and end.
+/// The routes of a script are made, and run their turns while these segments make their bits.
 fn run_routes<R: Wait>(
     rt: &R,
     alloc: Global,
     script: &Script,
     sites: &mut [Site],
     turn: u32,
-) -> Result<Vec<RouteReport>, Memory>
+) -> Result<Vec<Lane>, Memory>
     requires sound { IsSound script.now }
     requires turn { 0 < turn }
     requires sites { AreNewSites script.now sites.old }
-    ensures sites { OnOk result (AreDoneSites script.now sites.new) }
-    ensures routes { IfOk result (λ reports. Pairs (λ k route. IsRouteRun script.now (lines_at sites.new) k route)
-        script.now.routes reports.items) }
+    requires mails { HaveMails IsNewMail script.now sites.old }
+    ensures { IfOk result (λ lanes. HasRun script.now sites.new lanes.items) }
 {
     let mut lanes = lanes_of(alloc, script, sites)?;
     make_bits_and_turns(rt, script, sites, lanes.as_mut_slice(), turn)?;
-    end_lanes(rt, alloc, script, sites, lanes)
+    Ok(lanes)
 }
 
 /// All bits and turns of a script, and the report.
@@ -70,13 +69,13 @@ fn run<R: Wait>(rt: &R, alloc: Global, script: &Script, turn: u32) -> Result<Rep
     requires sound { IsSound script.now }
     requires turn { 0 < turn }
     ensures segments { IfOk result (RunsSegments script.now) }
-    ensures routes { IfOk result (RunsRoutes script.now) }
+    ensures routes { IfOk result (RunsRoutes 3 script.now) }
     ensures names { IfOk result (Names script.now) }
 {
     let mut sites = sites_of(alloc, script)?;
-    let routes = run_routes(rt, alloc, script, sites.as_mut_slice(), turn)?;
-    let segments = records_of(alloc, sites)?;
-    Ok(Report { segments, routes })
+    let lanes = run_routes(rt, alloc, script, sites.as_mut_slice(), turn)?;
+    let closed = close_sites(alloc, sites)?;
+    end_run(rt, alloc, script, closed, lanes)
 }
 
 /// Runs a script in this thread: for each of its bits, each segment in the order of the script makes one
@@ -105,7 +104,7 @@ pub fn run_inline<R: Wait>(
         → NotRefilled is.route.rewrites r started) }
     ensures sum { IfOk result (λ report. Each Balances report.routes.items) }
     ensures segments { IfOk result (RunsSegments script.now) }
-    ensures routes { IfOk result (RunsRoutes script.now) }
+    ensures routes { IfOk result (RunsRoutes 3 script.now) }
     ensures names { IfOk result (Names script.now) }
     ensures err { IfErr result (λ fault. fault ≡ WantOfMemory) }
 {

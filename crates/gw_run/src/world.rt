@@ -2,14 +2,16 @@
 
 ghost use Rattle.std.specs.Prelude.{◌≡◌, ◌<◌, ◌≤◌, ◌+◌, ℕ, List, OnOk, Some, length, slice_get};
 ghost use Rattle.can_segment.specs.Places.{AtPlaces};
-ghost use Rattle.gw_run.specs.declared.site.Site.{Site};
-ghost use Rattle.gw_run.specs.declared.lane.Lane.{Lane};
+ghost use Rattle.gw_opening.specs.declared.lane.Lane.{Lane};
+ghost use Rattle.gw_run.specs.Ports.{Site};
 ghost use Rattle.gw_run.specs.Sites.{SiteHolds, SiteMoves};
 ghost use Rattle.gw_run.specs.Worlds.{Leads, LaneTurns, LanesKeep, SitesKeep, WorldHolds, SameSegments, HaveMade, CountsTurn, HaveTurned, NoneShort};
 
-use crate::lane::{Lane, turn_on};
-use crate::site::Site;
-use bx_rx::Memory;
+use crate::lane::turn_on;
+use crate::port::Site;
+use crate::site::bit_of;
+use can_frame::Memory;
+use gw_opening::Lane;
 use std::sync::Wait;
 
 /// One more bit of each segment, in their order.
@@ -22,7 +24,7 @@ pub(crate) fn make_bits<R: Wait>(rt: &R, sites: &mut [Site]) -> Result<(), Memor
     ensures keeps { OnOk result ((lanes : List Lane) → SitesKeep lanes sites.old sites.new) }
 {
     for place in 0..sites.len() {
-        sites[place].make_bit(rt)?;
+        bit_of(rt, &mut sites[place])?;
     }
     Ok(())
 }

@@ -1,10 +1,10 @@
 use Rattle.std.proofs.Common.{◌+◌, length, arith, ap, sym, subst}
-use Rattle.gw_opening.proofs.Openings.{OpensBelow, opens_step, same_mails-self, same_mails-on}
+use Rattle.gw_opening.proofs.Openings.{OpensBelow, opens_start, opens_step, same_mails-self, same_mails-on}
 use Rattle.gw_opening.proofs.route_start.lanes_of.Goals as goal
 
 pub loop-route-init : goal.loop-route-init
 loop-route-init g c = (
-  record { each_site = c.requires.sites; each_lane = record { at = λ k route lane e f. absurd (cc f); size = search rules }; takes = λ j lane e. absurd (cc e) },
+  subst (λ lanes. OpensBelow c.args.script.now c.args.sites.now lanes 0) (sym c.new-lanes.ensures.items) (opens_start c.args.script.now c.args.sites.now c.requires.sites),
   same_mails-self c.args.sites.now,
 )
 

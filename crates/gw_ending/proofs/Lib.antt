@@ -1,0 +1,12 @@
+pub mod Ties
+pub mod Counts
+pub mod Settles
+pub mod Links
+pub mod Sublists
+pub mod Tellings
+pub mod Ends
+pub mod RouteRuns
+pub mod Closes
+pub mod Labels
+pub mod Named
+pub mod Reports

@@ -1,0 +1,22 @@
+-- Segments before the first bit, with new mailboxes at each controller.
+use Rattle.std.proofs.Common.{◌≡◌, ℕ, ◌≤◌, Some, List, length, slice_get, sym, ap, subst, arith, ◌∙◌}
+use Rattle.std.proofs.lemmas.Option.{slice_get_within}
+use Rattle.can_segment.proofs.NextBits.{some_there}
+use Rattle.can_segment.proofs.Places.{same_some}
+use Rattle.gw_config.specs.Controllers.{ControllerValue}
+use Rattle.gw_config.specs.Nodes.{controller_places}
+use Rattle.gw_config.specs.Scripts.{ScriptValue}
+use Rattle.gw_site.proofs.Pairs.{PairsBelow, pair_at}
+use Rattle.gw_opening.specs.Openings.{AreNewSites, HaveMails}
+use Rattle.gw_run.specs.Ports.{Site, IsNewMail, HasNewMail}
+use Rattle.gw_run.specs.Sites.{StartsSite}
+
+pub new_sites : (s : ScriptValue) (sites : List Site) (i : ℕ) → length sites ≡ length s.segments → PairsBelow (λ j segment. StartsSite s j) s.segments sites i → AreNewSites s sites
+new_sites s sites i size b = record { at = λ j segment site e f. (b.at j segment site e f).is_new; size = size }
+
+pub have_mails : (s : ScriptValue) (sites : List Site) (i : ℕ) → i ≤ length s.segments → PairsBelow (λ j segment. StartsSite s j) s.segments sites i → HaveMails IsNewMail s sites
+have_mails s sites i most b place port controller value at is e =
+    let within = slice_get_within sites place.site at.site at.site_is in
+    let said = some_there s.segments place.site (omega (arith, within, b.size, most)) in
+    let starts = b.at place.site said.0 at.site said.1 at.site_is in
+    starts.mails.at place.port controller port is at.port_is value e

@@ -1,8 +1,0 @@
-use Rattle.std.proofs.Common.{◌≡◌, ◌++◌}
-use Rattle.std.specs.Vec.Iter.{into_iter_items}
-use Rattle.gw_run.specs.Finals.{IsRecordAt}
-use Rattle.gw_run.specs.Pairs.{Pairs}
-use Rattle.gw_run.proofs.closing.records_of.Given as goal
-
-abbrev pub invariant-loop-site : goal.invariant-loop-site
-invariant-loop-site l = (l.yielded ++ into_iter_items l.site-iterator ≡ into_iter_items l.initial.site-iterator) × Pairs (λ i. IsRecordAt) l.yielded l.records.items
