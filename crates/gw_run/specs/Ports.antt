@@ -10,7 +10,7 @@ use Rattle.bx_controller.specs.Ports.{PortLeaves as AnyLeaves}
 use Rattle.bx_controller.specs.declared.port.Port.{Port as AnyPort}
 use Rattle.gw_config.specs.Controllers.{ControllerValue}
 use Rattle.gw_config.specs.Scripts.{ScriptValue}
-use Rattle.gw_opening.specs.Openings.{priority_of, routes_at}
+use Rattle.gw_opening.specs.Openings.{priority_of, routes_at, IsNewPort}
 use Rattle.gw_site.specs.declared.site.Site.{Site as AnySite}
 
 abbrev pub Port : Type 0
@@ -39,6 +39,7 @@ pub record IsNewMail (txfp : Bool) (routes : ℕ) (mail : PlainMail) : Type 0 wh
   pub bus : BusStands (core_of mail) no_bus_past
   pub route : (route : ℕ) → RouteStands (core_of mail) route no_route_past
 
--- the port of a controller has such mailboxes, for the routes into it
-abbrev pub HasNewMail : ScriptValue → ℕ → Port → Type 0
-HasNewMail s controller port = (value : ControllerValue) → slice_get s.controllers controller ≡ Some value → IsNewMail (priority_of value) (routes_at s controller) port.mail
+-- the port of a controller before the first bit: it has such mailboxes, for the routes into it
+pub record StartsPort (s : ScriptValue) (controller : ℕ) (port : Port) : Type 0 where
+  pub is_new : IsNewPort s controller port
+  pub mail : (value : ControllerValue) → slice_get s.controllers controller ≡ Some value → IsNewMail (priority_of value) (routes_at s controller) port.mail

@@ -3,9 +3,9 @@
 ghost use Rattle.std.specs.Prelude.{◌≡◌, ◌<◌, IfOk, length};
 ghost use Rattle.gw_config.specs.Nodes.{controller_places};
 ghost use Rattle.gw_config.specs.SoundScripts.{IsSound};
-ghost use Rattle.gw_opening.specs.Openings.{IsNewPort, AreNewSites, HaveMails};
+ghost use Rattle.gw_opening.specs.Openings.{AreNewSites, HaveMails};
 ghost use Rattle.gw_site.specs.Pairs.{Pairs};
-ghost use Rattle.gw_run.specs.Ports.{IsNewMail, HasNewMail};
+ghost use Rattle.gw_run.specs.Ports.{IsNewMail, StartsPort};
 ghost use Rattle.gw_run.specs.Sites.{StartsSite};
 
 use crate::port::{Port, Site};
@@ -19,8 +19,7 @@ use std::alloc::{AllocError, Global};
 fn plain_port(alloc: Global, script: &Script, controller: usize) -> Port
     requires sound { IsSound script.now }
     requires there { controller < length script.now.controllers }
-    ensures new { IsNewPort script.now controller result }
-    ensures mail { HasNewMail script.now controller result }
+    ensures { StartsPort script.now controller result }
 {
     let mail = PlainMail::with_txfp(
         alloc,
@@ -33,8 +32,7 @@ fn plain_port(alloc: Global, script: &Script, controller: usize) -> Port
 /// The ports of the controllers on a segment, in the order of the script.
 fn ports_of(alloc: Global, script: &Script, segment: usize) -> Result<Vec<Port>, AllocError>
     requires { IsSound script.now }
-    ensures new { IfOk result (λ ports. Pairs (λ k. IsNewPort script.now) (controller_places script.now segment) ports.items) }
-    ensures mails { IfOk result (λ ports. Pairs (λ k. HasNewMail script.now) (controller_places script.now segment) ports.items) }
+    ensures { IfOk result (λ ports. Pairs (λ k. StartsPort script.now) (controller_places script.now segment) ports.items) }
 {
     let mut ports = Vec::new(alloc);
     for nth in 0..count_on(script, segment) {
@@ -51,7 +49,10 @@ fn plain_site(alloc: Global, script: &Script, segment: usize) -> Result<Site, Me
     ensures { IfOk result (StartsSite script.now segment) }
 {
     let ports = ports_of(alloc, script, segment)?;
-    site_of(alloc, script, segment, ports)
+    match site_of(alloc, script, segment, ports) {
+        Ok(site) => Ok(site),
+        Err(memory) => Err(memory),
+    }
 }
 
 /// All segments of a script.

@@ -14,5 +14,8 @@ pub(crate) fn bit_of<R: Wait>(rt: &R, site: &mut Site) -> Result<(), Memory>
     requires still { length site.old.segment.levels < site.old.segment.plan.bits }
     ensures { OnOk result (SiteMoves site.old site.new) }
 {
-    make_bit(rt, &mut site.segment, site.ports.as_mut_slice())
+    match make_bit(rt, &mut site.segment, site.ports.as_mut_slice()) {
+        Ok(()) => Ok(()),
+        Err(memory) => Err(memory),
+    }
 }

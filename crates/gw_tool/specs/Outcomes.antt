@@ -13,8 +13,8 @@ use Rattle.gw_script.specs.declared.route_report.RouteReport.{RouteReport}
 use Rattle.gw_fields.specs.declared.script_fault.ScriptFault.TheVariants as fault
 use Rattle.gw_script.specs.NamedPlaces.{Names}
 use Rattle.gw_run.specs.declared.run_fault.RunFault.TheVariants as run_fault
-use Rattle.gw_run.specs.Headline.{NotRefilled, Balances}
-use Rattle.gw_run.specs.Reports.{AreOrdered, RunsSegments, RunsRoutes, AreStartsOf, lines_of}
+use Rattle.gw_ending.specs.Headline.{NotRefilled, Balances}
+use Rattle.gw_ending.specs.Reports.{AreOrdered, RunsSegments, RunsRoutes, AreStartsOf, lines_of}
 use Rattle.gw_tool.specs.Reports.{IsReport}
 use Rattle.gw_tool.specs.declared.failure.Failure.{Failure}
 use Rattle.gw_tool.specs.declared.failure.Failure.TheVariants as failure
@@ -39,7 +39,7 @@ pub record IsRunOf (s : ScriptValue) (report : Report) : Type 0 where
   -- of each segment it has the record of a run over all the script's bits
   pub segments : RunsSegments s report
   -- of each route it has what these records tell of its two controllers
-  pub routes : RunsRoutes s report
+  pub routes : RunsRoutes 3 s report
   -- of each route into a controller that sends by order of requests, the completed frames are, in order and each once, a
   -- prefix of the released ones, the aborted ones left out; into one that sends by identifier, they are each once among these
   pub order : AreOrdered s report

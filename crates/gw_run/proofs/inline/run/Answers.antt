@@ -1,8 +1,10 @@
-use Rattle.std.proofs.Common.{◌≤◌, sym, subst, arith, ◌∙◌}
+use Rattle.std.proofs.Common.{sym, subst, arith}
+use Rattle.std.proofs.lemmas.Result.{IfOk-weaker}
 use Rattle.can_segment.proofs.Shown.{put_back}
 use Rattle.gw_site.specs.Pairs.{Pairs}
-use Rattle.gw_ending.specs.Finals.{IsOver, WaitAtMost}
-use Rattle.gw_run.specs.Finals.{ClosesSite, HasRun}
+use Rattle.gw_opening.specs.Openings.{HaveMails}
+use Rattle.gw_run.specs.Ports.{IsNewMail}
+use Rattle.gw_run.specs.Finals.{ClosesSite}
 use Rattle.gw_run.proofs.Closes.{has_closed, few_closed}
 use Rattle.gw_run.proofs.inline.run.Goals as goal
 
@@ -16,4 +18,7 @@ pub end_run-requires-clause-few : goal.end_run-requires-clause-few
 end_run-requires-clause-few g c place port at = (let few = few_closed _ c.in_ok-closed.closed.items c.in_ok-closed.ensures place port at in omega (arith, few))
 
 pub returns-clause-routes : goal.returns-clause-routes
-returns-clause-routes g c = c.end_run.ensures.routes
+returns-clause-routes g c = IfOk-weaker c.end_run.result _ _ (λ report all. all 3 (few_closed _ c.in_ok-closed.closed.items c.in_ok-closed.ensures)) c.end_run.ensures.routes
+
+pub run_routes-requires-clause-mails : goal.run_routes-requires-clause-mails
+run_routes-requires-clause-mails g c = subst (HaveMails IsNewMail c.args.script.now) (sym c.as_mut_slice.ensures.value) c.in_ok-sites.ensures.mails

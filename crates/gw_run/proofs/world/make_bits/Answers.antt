@@ -8,9 +8,9 @@ use Rattle.gw_run.proofs.world.make_bits.Goals as goal
 
 pub loop-place-preserved : goal.loop-place-preserved
 loop-place-preserved g c =
-    places_step (λ i. SiteMoves) c.args.sites.now c.loop-place.sites c.loop-place.place _ c.make_bit.new.self
+    places_step (λ i. SiteMoves) c.args.sites.now c.loop-place.sites c.loop-place.place _ c.bit_of.new.site
     (omega (arith, c.loop-place-test.true, c.loop-place.invariant.size)) (slice_get-get_or c.loop-place.sites c.loop-place.place c.index-sites-place.result (omega (arith, c.loop-place-test.true)))
-    c.in_ok-make_bit.ensures c.loop-place.invariant
+    c.in_ok-bit_of.ensures c.loop-place.invariant
 
 pub returns-clause-moves : goal.returns-clause-moves
 returns-clause-moves g c = places_end (λ i. SiteMoves) c.args.sites.now c.loop-place.sites c.loop-place.place (omega (arith, c.loop-place-test.false, c.loop-place.invariant.size)) c.loop-place.invariant
