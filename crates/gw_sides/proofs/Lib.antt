@@ -1,3 +1,3 @@
-pub mod Seats
-pub mod Openings
-pub mod Closings
+pub mod SeatLaws
+pub mod Opens
+pub mod Closes

@@ -18,8 +18,8 @@ abbrev pub HasSeats : {S : Type 0} → ScriptValue → List (Option S) → Type 
 HasSeats s seats = length seats ≡ length s.routes + length s.controllers
 
 -- the sides of a controller's mailboxes stand at their places
-abbrev pub HoldsAll : {S : Type 0} → ScriptValue → ℕ → List S → List (Option S) → Type 0
-HoldsAll s controller sides seats = (number : ℕ) (side : _) → slice_get sides number ≡ Some side → slice_get seats (seat_of s controller number) ≡ Some (Some side)
+pub record HoldsAll {S : Type 0} (s : ScriptValue) (controller : ℕ) (sides : List S) (seats : List (Option S)) : Type 0 where
+  pub at : (number : ℕ) (side : S) → slice_get sides number ≡ Some side → slice_get seats (seat_of s controller number) ≡ Some (Some side)
 
 -- this is no place of this controller's sides
 abbrev pub IsElsewhere : ScriptValue → ℕ → ℕ → Type 0

@@ -59,7 +59,11 @@ pub record ClosesPort {B S : Type 0} (bus_after : B → BusPast → Type 0) (rou
   pub first_is : closed.first ≡ port.first
   pub second_is : closed.second ≡ port.second
 
--- so are those of each controller on a segment
+-- so are those of the controller at this place of a segment
+pub record ClosesNth {B S : Type 0} (bus_after : B → BusPast → Type 0) (route_after : S → RoutePast → Type 0) (txfp_of : B → Bool) (room : ℕ) (s : ScriptValue) (seats : List (Option S)) (segment k : ℕ) (port : Port B) (closed : ClosedPort) : Type 0 where
+  pub at : (controller : ℕ) → slice_get (controller_places s segment) k ≡ Some controller → ClosesPort bus_after route_after txfp_of room s seats controller port closed
+
+-- and so are those of each controller on a segment
 pub record ClosesSite {B S : Type 0} (bus_after : B → BusPast → Type 0) (route_after : S → RoutePast → Type 0) (txfp_of : B → Bool) (room : ℕ) (s : ScriptValue) (seats : List (Option S)) (segment : ℕ) (site : Site (Port B)) (closed : ClosedSite) : Type 0 where
   pub segment_is : closed.segment ≡ site.segment
-  pub ports : Pairs (λ k port late. (controller : ℕ) → slice_get (controller_places s segment) k ≡ Some controller → ClosesPort bus_after route_after txfp_of room s seats controller port late) site.ports.items closed.ports.items
+  pub ports : Pairs (ClosesNth bus_after route_after txfp_of room s seats segment) site.ports.items closed.ports.items

@@ -5,7 +5,7 @@ ghost use Rattle.gw_config.specs.Nodes.{controller_places};
 ghost use Rattle.gw_config.specs.SoundScripts.{IsSound};
 ghost use Rattle.gw_site.specs.Pairs.{Pairs};
 ghost use Rattle.gw_sides.specs.Seats.{HasSeats, Leaves, LeavesOn};
-ghost use Rattle.gw_sides.specs.Sets.{MayClose, ClosesPort, ClosesSite};
+ghost use Rattle.gw_sides.specs.Sets.{MayClose, ClosesPort, ClosesNth, ClosesSite};
 
 use crate::seats::take_all;
 use bx_controller::Port;
@@ -64,8 +64,7 @@ fn close_ports<R, B: TxBus<R> + Drop, S: RouteTx<R> + Drop, M: Mailboxes<R, B, S
     requires sound { IsSound script.now }
     requires seats { HasSeats script.now seats.old }
     requires may_close { Pairs (λ k. MayClose M.routes_of M.side_of script.now seats.old) (controller_places script.now segment) ports.items }
-    ensures closes { IfOk result (λ closed. Pairs (λ k port late. (controller : ℕ) → slice_get (controller_places script.now segment) k ≡ Some controller
-        → ClosesPort B.bus_after S.route_after M.txfp_of M.room script.now seats.old controller port late) ports.items closed.items) }
+    ensures closes { IfOk result (λ closed. Pairs (ClosesNth B.bus_after S.route_after M.txfp_of M.room script.now seats.old segment) ports.items closed.items) }
     ensures leaves { OnOk result (LeavesOn script.now segment seats.old seats.new) }
 {
     let mut closed = Vec::with_capacity(alloc, ports.len())?;

@@ -1,8 +1,10 @@
 //! The mailboxes of all controllers are opened.
 
-ghost use Rattle.std.specs.Prelude.{◌≡◌, ◌<◌, IfOk, OnOk, length};
+ghost use Rattle.std.specs.Prelude.{◌≡◌, ◌<◌, Some, IfOk, OnOk, length, slice_get};
+ghost use Rattle.gw_config.specs.Controllers.{ControllerValue};
 ghost use Rattle.gw_config.specs.Nodes.{controller_places};
 ghost use Rattle.gw_config.specs.SoundScripts.{IsSound};
+ghost use Rattle.gw_opening.specs.Openings.{priority_of};
 ghost use Rattle.gw_site.specs.Pairs.{Pairs};
 ghost use Rattle.gw_sides.specs.Seats.{HasSeats, Leaves, LeavesOn};
 ghost use Rattle.gw_sides.specs.Sets.{AllSendBy, IsNewSet, IsNewSide, OpensPort, OpensSite};
@@ -15,6 +17,14 @@ use gw_opening::{controller_there, count_on, port_of, push_one, routes_at, site_
 use gw_script::Script;
 use gw_site::Site;
 use std::alloc::Global;
+
+/// Whether a controller sends by order of requests.
+fn priority_at(script: &Script, controller: usize) -> bool
+    requires { controller < length script.now.controllers }
+    ensures { (value : ControllerValue) → slice_get script.now.controllers controller ≡ Some value → result ≡ priority_of value }
+{
+    script.controllers()[controller].txfp()
+}
 
 /// The port of a controller with mailboxes for the routes into it, whose sides come to their places.
 fn open_port<R, B: TxBus<R> + Drop, S: RouteTx<R> + Drop, M: Mailboxes<R, B, S>>(
@@ -32,7 +42,7 @@ fn open_port<R, B: TxBus<R> + Drop, S: RouteTx<R> + Drop, M: Mailboxes<R, B, S>>
         (IsNewSide M.side_of S.route_after) script.now seats.new controller) }
     ensures leaves { OnOk result (Leaves script.now controller seats.old seats.new) }
 {
-    let txfp = script.controllers()[controller].txfp();
+    let txfp = priority_at(script, controller);
     match M::open(rt, alloc, routes_at(script, controller), txfp) {
         Ok((mail, sides)) => {
             put_all(script, controller, sides, seats);

@@ -13,6 +13,7 @@ use std::alloc::{AllocError, Global};
 
 /// The place of the side of this number at a controller.
 fn seat_of(script: &Script, controller: usize, number: usize) -> usize
+    requires sound { IsSound script.now }
     requires there { controller < length script.now.controllers }
     ensures value { result ≡ seat_of script.now controller number }
     ensures range { result < length script.now.routes + length script.now.controllers }
@@ -28,6 +29,7 @@ pub(crate) fn seats_for<S: Drop>(
     alloc: Global,
     script: &Script,
 ) -> Result<Vec<Option<S>>, AllocError>
+    requires { IsSound script.now }
     ensures { IfOk result (λ seats. HasSeats script.now seats.items) }
 {
     let count = script.routes().len() + script.controllers().len();
