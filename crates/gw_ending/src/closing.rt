@@ -157,10 +157,7 @@ fn record_of(site: ClosedSite) -> Record
 }
 
 /// The records of all segments, in their order.
-pub(crate) fn records_of(
-    alloc: Global,
-    sites: Vec<ClosedSite>,
-) -> Result<Vec<Record>, Memory>
+pub(crate) fn records_of(alloc: Global, sites: Vec<ClosedSite>) -> Result<Vec<Record>, Memory>
     ensures { IfOk result (λ records. Pairs (λ i. IsRecordAt) sites.items records.items) }
 {
     let mut records = Vec::with_capacity(alloc, sites.len())?;

@@ -63,11 +63,7 @@ fn left_in(one: &Left, route: u8) -> Option<u32>
 }
 
 /// The numbers of a route's requests among those left.
-pub(crate) fn waiting_of(
-    alloc: Global,
-    left: &[Left],
-    route: u8,
-) -> Result<Vec<u32>, AllocError>
+pub(crate) fn waiting_of(alloc: Global, left: &[Left], route: u8) -> Result<Vec<u32>, AllocError>
     ensures { IfOk result (λ all. all.items ≡ numbers (left_of route left.now)) }
 {
     let mut all = Vec::new(alloc);

@@ -72,11 +72,13 @@ module _ {S : Type 0} where
   -- one side more is at its place
   pub holds_more : (s : ScriptValue) (c : ℕ) (sides : List S) (side : S) (old new : List (Option S)) → length sides < routes_at s c → slice_get new (seat_of s c (length sides)) ≡ Some (Some side) →
       ((k : ℕ) → k ≢ seat_of s c (length sides) → slice_get new k ≡ slice_get old k) → HoldsAll s c sides old → HoldsAll s c (sides ++ side ∷ []) new
-  holds_more s c sides side old new less there others holds = record { at = λ n x e. elim (pushed sides side n x e) [
-    | inl front ↦ (let within = slice_get_within sides n x front in
-        others (seat_of s c n) (λ same. let both = seats_apart s c c n (length sides) (omega (arith, within, less)) less same in omega (arith, both.1, within)) ∙ holds.at n x front)
-    | inr last ↦ ap (λ m. slice_get new (seat_of s c m)) last.0 ∙ there ∙ ap (λ y. Some (Some y)) last.1
-  ] }
+  holds_more s c sides side old new less there others holds = record {
+    at = λ n x e. elim (pushed sides side n x e) [
+      | inl front ↦ (let within = slice_get_within sides n x front in
+          others (seat_of s c n) (λ same. let both = seats_apart s c c n (length sides) (omega (arith, within, less)) less same in omega (arith, both.1, within)) ∙ holds.at n x front)
+      | inr last ↦ ap (λ m. slice_get new (seat_of s c m)) last.0 ∙ there ∙ ap (λ y. Some (Some y)) last.1
+    ];
+  }
 
   pub leaves_more : (s : ScriptValue) (c n : ℕ) (first old new : List (Option S)) → n < routes_at s c → ((k : ℕ) → k ≢ seat_of s c n → slice_get new k ≡ slice_get old k) → length new ≡ length old →
       Leaves s c first old → Leaves s c first new
@@ -90,10 +92,12 @@ module _ {S : Type 0} where
 
   -- one side more was taken
   pub holds_pushed : (s : ScriptValue) (c : ℕ) (sides : List S) (side : S) (seats : List (Option S)) → slice_get seats (seat_of s c (length sides)) ≡ Some (Some side) → HoldsAll s c sides seats → HoldsAll s c (sides ++ side ∷ []) seats
-  holds_pushed s c sides side seats there holds = record { at = λ n x e. elim (pushed sides side n x e) [
-    | inl front ↦ holds.at n x front
-    | inr last ↦ ap (λ m. slice_get seats (seat_of s c m)) last.0 ∙ there ∙ ap (λ y. Some (Some y)) last.1
-  ] }
+  holds_pushed s c sides side seats there holds = record {
+    at = λ n x e. elim (pushed sides side n x e) [
+      | inl front ↦ holds.at n x front
+      | inr last ↦ ap (λ m. slice_get seats (seat_of s c m)) last.0 ∙ there ∙ ap (λ y. Some (Some y)) last.1
+    ];
+  }
 
 -- the sides of these numbers and above are where they were
 abbrev pub Untaken : {S : Type 0} → ScriptValue → ℕ → ℕ → List (Option S) → List (Option S) → Type 0
