@@ -1,0 +1,4 @@
+pub mod Joins
+pub mod Pacing
+pub mod Seats
+pub mod Turns

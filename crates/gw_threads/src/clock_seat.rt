@@ -1,0 +1,146 @@
+//! A seat at the clock table of a run.
+ghost use Rattle.std.specs.Prelude.{◌≡◌, ℕ, ◌+◌, ◌<◌, ◌≤◌, ◌^◌, IfOk, OnOk, IsTrue, slice_index};
+ghost use Rattle.gw_threads.specs.Clocks.{first_pacer, one_of, rest_of, watcher_of, ticked, MayTick};
+
+use crate::clock_steps::{ClockTable, Seat, deal, lend, look, stop, tick, watch};
+use crate::thread_fault::ThreadFault;
+use crate::views::Pace;
+use std::alloc::{AllocError, Global};
+use std::marker::Model;
+use std::sync::Arc;
+
+/// A seat at the clock table of a run, which the threads of that run share: a clock for each segment, the number of bits
+/// that it made, and a stop word. A thread's seat is let go where the thread ends, and the table with the last seat.
+#[derive(Drop)]
+pub(crate) struct ClockSeat {
+    clocks: Arc<ClockTable, Global>,
+    seat: Seat,
+    pace: Pace,
+    // the first of the clocks that it ticks
+    first: usize,
+}
+
+impl Model for ClockSeat {
+    ghost use Rattle.std.specs.Prelude.{◌≡◌, ◌≤◌, length};
+    ghost use Rattle.std.specs.Arc.{arc_value};
+    ghost use Rattle.gw_threads.specs.Clocks.{ClockPlace, place_of, pacer_of, IsAtTable};
+
+    ghost Value = { ClockPlace };
+
+    ghost view = { λ s. place_of s.pace s.seat.me };
+
+    ghost invariant = { λ s. IsAtTable (arc_value s.clocks).shared.table_id s.pace s.seat.table_id s.seat.me
+        × ((arc_value s.clocks).shared.key ≡ s.pace) × (s.first ≡ (pacer_of s.seat.me).first)
+        × ((pacer_of s.seat.me).end ≤ s.pace.segments) × (length (pacer_of s.seat.me).seen ≡ s.pace.segments)
+        × (s.pace.segments ≤ 8) };
+}
+
+/// A clock table with all clocks at 0.
+fn clocks_for(alloc: Global, pace: Pace) -> Result<ClockSeat, AllocError>
+    requires few { pace.segments ≤ 8 }
+    requires short { pace.bits < 2 ^ 32 }
+    ensures pace { IfOk result (λ made. made.pace ≡ pace) }
+    ensures view { IfOk result (λ made. made.view ≡ first_pacer pace) }
+{
+    let words = vec![in alloc; 0u64; pace.segments + 1]?;
+    let (table, seat) = ClockTable::of_words(alloc, words.as_slice(), &pace)?;
+    let clocks = Arc::new(alloc, table)?;
+    Ok(ClockSeat {
+        clocks,
+        seat,
+        pace,
+        first: 0,
+    })
+}
+
+impl ClockSeat {
+    /// The first seat of a clock table for this pace, with all clocks, each at 0.
+    pub(crate) fn open(alloc: Global, pace: Pace) -> Result<ClockSeat, ThreadFault>
+        requires few { pace.segments ≤ 8 }
+        requires short { pace.bits < 2 ^ 32 }
+        ensures pace { IfOk result (λ made. made.pace ≡ pace) }
+        ensures view { IfOk result (λ made. made.view ≡ first_pacer pace) }
+    {
+        match clocks_for(alloc, pace) {
+            Ok(seat) => Ok(seat),
+            Err(_) => Err(ThreadFault::Memory),
+        }
+    }
+
+    /// A seat with the first of this seat's clocks.
+    pub(crate) fn deal(&mut self) -> Result<ClockSeat, ThreadFault>
+        requires { self.old.view.first < self.old.view.end }
+        ensures pace { IfOk result (λ made. made.pace ≡ self.old.pace) }
+        ensures one { IfOk result (λ made. made.view ≡ one_of self.old.view) }
+        ensures same { self.new.pace ≡ self.old.pace }
+        ensures rest { OnOk result (self.new.view ≡ rest_of self.old.view) }
+    {
+        let Ok(clocks) = Arc::try_clone(&self.clocks) else {
+            return Err(ThreadFault::Memory);
+        };
+        let seat = deal(&self.clocks, &mut self.seat);
+        let first = self.first;
+        self.first += 1;
+        Ok(ClockSeat {
+            clocks,
+            seat,
+            pace: self.pace,
+            first,
+        })
+    }
+
+    /// A seat with no clock.
+    pub(crate) fn lend(&mut self) -> Result<ClockSeat, ThreadFault>
+        ensures pace { IfOk result (λ made. made.pace ≡ self.old.pace) }
+        ensures watcher { IfOk result (λ made. made.view ≡ watcher_of self.old.view) }
+        ensures stays { self.new ≡ self.old }
+    {
+        let Ok(clocks) = Arc::try_clone(&self.clocks) else {
+            return Err(ThreadFault::Memory);
+        };
+        let seat = lend(&self.clocks, &mut self.seat);
+        Ok(ClockSeat {
+            clocks,
+            seat,
+            pace: self.pace,
+            first: 0,
+        })
+    }
+
+    /// The seat's clock goes on by one.
+    pub(crate) fn tick(&mut self)
+        requires { MayTick self.old.pace self.old.view }
+        ensures same { self.new.pace ≡ self.old.pace }
+        ensures ticked { self.new.view ≡ ticked self.old.view }
+    {
+        tick(&self.clocks, &mut self.seat, self.first);
+    }
+
+    /// All threads of the run are to stop.
+    pub(crate) fn stop(&mut self)
+        ensures { self.new ≡ self.old }
+    {
+        stop(&self.clocks, &mut self.seat, self.pace.segments);
+    }
+
+    /// Whether a thread is to stop.
+    pub(crate) fn is_stopped(&mut self) -> bool
+        ensures { self.new ≡ self.old }
+    {
+        watch(&self.clocks, &mut self.seat, self.pace.segments) != 0
+    }
+
+    /// Whether all clocks were seen at the run's bits.
+    pub(crate) fn all_done(&mut self) -> bool
+        ensures same { self.new.pace ≡ self.old.pace }
+        ensures done { IsTrue result → (j : ℕ) → j < self.old.pace.segments → self.old.pace.bits ≤ slice_index self.new.view.seen j }
+    {
+        for segment in 0..self.pace.segments {
+            let made = look(&self.clocks, &mut self.seat, segment);
+            if made < self.pace.bits {
+                return false;
+            }
+        }
+        true
+    }
+}

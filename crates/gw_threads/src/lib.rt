@@ -1,0 +1,22 @@
+//! Segments and routes of a run, each in a thread of its own, whatever the mailboxes between them are.
+#![tactic(auto)]
+
+mod clock_seat;
+mod clock_steps;
+mod joining;
+mod plays;
+mod site_promise;
+mod site_run;
+mod site_threads;
+mod thread_fault;
+mod threads;
+mod views;
+mod worker;
+mod worker_promise;
+mod worker_run;
+mod worker_threads;
+
+pub use crate::thread_fault::ThreadFault;
+pub use crate::threads::run_in_threads;
+pub use crate::worker::Worker;
+
