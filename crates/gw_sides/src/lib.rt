@@ -8,3 +8,4 @@ mod seats;
 
 pub use crate::closing::close_all;
 pub use crate::opening::open_all;
+pub use crate::seats::{put, take};

@@ -41,7 +41,7 @@ pub(crate) fn seats_for<S: Drop>(
 }
 
 /// A side comes to its place.
-fn put<S: Drop>(seats: &mut [Option<S>], place: usize, side: S)
+pub fn put<S: Drop>(seats: &mut [Option<S>], place: usize, side: S)
     requires within { place < length seats.old }
     ensures there { slice_get seats.new place ≡ Some (Some side) }
     ensures others { (k : ℕ) → k ≢ place → slice_get seats.new k ≡ slice_get seats.old k }
@@ -51,7 +51,7 @@ fn put<S: Drop>(seats: &mut [Option<S>], place: usize, side: S)
 }
 
 /// A side is taken from its place.
-fn take<S: Drop>(seats: &mut [Option<S>], place: usize) -> S
+pub fn take<S: Drop>(seats: &mut [Option<S>], place: usize) -> S
     requires within { place < length seats.old }
     requires full { (side : S) × (slice_get seats.old place ≡ Some (Some side)) }
     ensures was { slice_get seats.old place ≡ Some (Some result) }

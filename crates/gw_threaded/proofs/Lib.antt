@@ -1,0 +1,4 @@
+pub mod Walks
+pub mod Begins
+pub mod Trips
+pub mod Closings
