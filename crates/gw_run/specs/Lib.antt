@@ -3,3 +3,4 @@ pub mod Lanes
 pub mod Sites
 pub mod Worlds
 pub mod Finals
+pub mod Orders

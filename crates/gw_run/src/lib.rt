@@ -8,10 +8,12 @@ mod opening;
 mod port;
 mod run_fault;
 mod site;
+mod threaded;
 mod world;
 
 pub use crate::inline::run_inline;
 pub use crate::run_fault::RunFault;
+pub use crate::threaded::{all_by_order, run_threads};
 
 #[cfg(test)]
 mod tests;
