@@ -2,3 +2,4 @@ pub mod Joins
 pub mod Pacing
 pub mod Seats
 pub mod Turns
+pub mod Doubles

@@ -22,8 +22,8 @@ seen_set : (seen words : List ℕ) (i j : ℕ) → get_or seen j 0 ≤ get_or wo
 seen_set [] words i j h = h
 seen_set seen words i j h = dite (ℕ_discrete j i)
     (λ e. dite (dec_le (suc i) (length seen))
-        (λ l. subst (λ (k : ℕ). get_or (set seen i (get_or words i 0)) k 0 ≤ get_or words k 0) (sym e) (let g = get_or-set_same seen i (get_or words i 0) 0 (omega arith) in omega arith))
-        (λ n. subst (λ (l : List ℕ). get_or l j 0 ≤ get_or words j 0) (sym (set_past seen i (get_or words i 0) (omega arith))) h))
+    (λ l. subst (λ (k : ℕ). get_or (set seen i (get_or words i 0)) k 0 ≤ get_or words k 0) (sym e) (let g = get_or-set_same seen i (get_or words i 0) 0 (omega arith) in omega arith))
+    (λ n. subst (λ (l : List ℕ). get_or l j 0 ≤ get_or words j 0) (sym (set_past seen i (get_or words i 0) (omega arith))) h))
     (λ n. let g = get_or-set_other seen i j (get_or words i 0) 0 n in omega arith)
 
 -- what another seat knows is not touched
@@ -77,8 +77,7 @@ stops-keep p slots id n v s k long me fits =
       seen = λ q l. let o = g.seen q l in let a = else q l in omega arith;
       mine = λ q a b. let m = g.mine q a b in let few = g.few in (m.0, else q (omega arith) ∙ m.1);
       few = g.few;
-    } in
-    (
+    } in (
       v,
       keeps,
       tt,
@@ -104,8 +103,7 @@ ticks-keep p slots id v inside may s k long me fits =
     let at : get_or ws i 0 ≡ n + 1 = get_or-set_same s.words i (n + 1) 0 (let w = k.wide in omega arith) in
     let else : (j : ℕ) → ¬ (j ≡ i) → get_or ws j 0 ≡ get_or s.words j 0 = λ j a. get_or-set_other s.words i j (n + 1) 0 a in
     let rises : (j : ℕ) → get_or s.words j 0 ≤ get_or ws j 0 = λ j. dite (ℕ_discrete j i) (λ e. subst (λ (q : ℕ). get_or s.words q 0 ≤ get_or ws q 0) (sym e) (omega arith)) (λ a. let g = else j a in omega arith) in
-    let w = ticked v in
-    (
+    let w = ticked v in (
       w,
       keeps,
       tt,
@@ -114,21 +112,21 @@ ticks-keep p slots id v inside may s k long me fits =
         wide = length-set s.words i (n + 1) ∙ k.wide;
         pace = λ a b la lb. dite (ℕ_discrete a i)
             (λ e. dite (ℕ_discrete b i) (λ f. let g : get_or ws a 0 ≡ get_or ws b 0 = ap (λ q. get_or ws q 0) (e ∙ sym f) in omega arith)
-                (λ f. let near = may.near b lb f in let low = (k.knows id v me).seen b lb in let g = else b f in let h : get_or ws a 0 ≡ n + 1 = ap (λ q. get_or ws q 0) e ∙ at in omega arith))
+            (λ f. let near = may.near b lb f in let low = (k.knows id v me).seen b lb in let g = else b f in let h : get_or ws a 0 ≡ n + 1 = ap (λ q. get_or ws q 0) e ∙ at in omega arith))
             (λ e. let g = else a e in let h = rises b in let o = k.pace a b la lb in omega arith);
         done = λ a la. dite (ℕ_discrete a i) (λ e. let h : get_or ws a 0 ≡ n + 1 = ap (λ q. get_or ws q 0) e ∙ at in let b = may.short in omega arith) (λ e. let g = else a e in let o = k.done a la in omega arith);
         short = k.short;
         knows = λ j u e. knows_on p k.owner ws s.views id j w u
             (λ j u a apart. let g = k.knows j u a in record {
-                seen = λ q l. let o = g.seen q l in let h = rises q in omega arith;
-                mine = λ q b c. let m = g.mine q b c in (m.0, else q (λ f. apart (sym m.0 ∙ ap k.owner f ∙ mine.0)) ∙ m.1);
-                few = g.few;
-              })
+              seen = λ q l. let o = g.seen q l in let h = rises q in omega arith;
+              mine = λ q b c. let m = g.mine q b c in (m.0, else q (λ f. apart (sym m.0 ∙ ap k.owner f ∙ mine.0)) ∙ m.1);
+              few = g.few;
+            })
             (let g = k.knows id v me in record {
-                seen = λ q l. let o = g.seen q l in let h = rises q in omega arith;
-                mine = λ q b c. let m = g.mine q b c in let one = may.one in let f : q ≡ i = omega arith in (m.0, ap (λ q. get_or ws q 0) f ∙ at ∙ ap (λ x. x + 1) is);
-                few = g.few;
-              })
+              seen = λ q l. let o = g.seen q l in let h = rises q in omega arith;
+              mine = λ q b c. let m = g.mine q b c in let one = may.one in let f : q ≡ i = omega arith in (m.0, ap (λ q. get_or ws q 0) f ∙ at ∙ ap (λ x. x + 1) is);
+              few = g.few;
+            })
             e;
       }),
       refl,
@@ -164,22 +162,22 @@ deals-keep p id v some_left s k me =
       short = k.short;
       knows = λ j u e. ⊎_elim
           (λ old. knows_on p owner s.words s.views id j (rest_of v) u
-              (λ j u a apart. let o = k.knows j u a in record {
-                  seen = o.seen;
-                  mine = λ q b c. let m = o.mine q b c in (given_else k.owner v.first n q (λ f. apart (sym m.0 ∙ ap k.owner f ∙ first.0)) ∙ m.0, m.1);
-                  few = o.few;
-                })
-              (record {
-                  seen = g.seen;
-                  mine = λ q b c. let m = g.mine q (omega arith) c in (given_else k.owner v.first n q (λ f. omega arith) ∙ m.0, m.1);
-                  few = g.few;
-                })
-              old)
+          (λ j u a apart. let o = k.knows j u a in record {
+            seen = o.seen;
+            mine = λ q b c. let m = o.mine q b c in (given_else k.owner v.first n q (λ f. apart (sym m.0 ∙ ap k.owner f ∙ first.0)) ∙ m.0, m.1);
+            few = o.few;
+          })
+          (record {
+            seen = g.seen;
+            mine = λ q b c. let m = g.mine q (omega arith) c in (given_else k.owner v.first n q (λ f. omega arith) ∙ m.0, m.1);
+            few = g.few;
+          })
+          old)
           (λ (t : (j ≡ n) × (one_of v ≡ u)). subst (λ (x : ℕ × Pacer). Knows p owner s.words x.0 x.1) (λ r. (sym t.0 r, t.1 r)) (record {
-              seen = g.seen;
-              mine = λ q b c. let f : q ≡ v.first = omega arith in (given_here k.owner v.first n q f, ap (λ x. get_or s.words x 0) f ∙ first.1);
-              few = let few = g.few in omega arith;
-            }))
+            seen = g.seen;
+            mine = λ q b c. let f : q ≡ v.first = omega arith in (given_here k.owner v.first n q f, ap (λ x. get_or s.words x 0) f ∙ first.1);
+            few = let few = g.few in omega arith;
+          }))
           (at_end (set s.views id (rest_of v)) (one_of v) u j e);
     }
 
@@ -193,10 +191,10 @@ lends-keep p id v s k me = let g = k.knows id v me in record {
   knows = λ j u e. ⊎_elim
       (λ old. knows_on p k.owner s.words s.views id j v u (λ j u a apart. k.knows j u a) g old)
       (λ (t : (j ≡ length (set s.views id v)) × (watcher_of v ≡ u)). subst (λ (w : Pacer). Knows p k.owner s.words j w) t.1 (record {
-          seen = g.seen;
-          mine = λ q b c. absurd (omega arith);
-          few = omega arith;
-        }))
+        seen = g.seen;
+        mine = λ q b c. absurd (omega arith);
+        few = omega arith;
+      }))
       (at_end (set s.views id v) (watcher_of v) u j e);
 }
 
@@ -211,10 +209,10 @@ begins p ws e short =
       done = λ i l. let a = zeros i l in omega arith;
       short = short;
       knows = λ id v f. alone id v f (record {
-          seen = λ j l. subst (λ (x : ℕ). x ≤ get_or ws j 0) (sym (get_or-replicate p.segments j 0 0 l)) (omega arith);
-          mine = λ j a b. (refl, zeros j b);
-          few = omega arith;
-        });
+        seen = λ j l. subst (λ (x : ℕ). x ≤ get_or ws j 0) (sym (get_or-replicate p.segments j 0 0 l)) (omega arith);
+        mine = λ j a b. (refl, zeros j b);
+        few = omega arith;
+      });
     }
   where
     alone : (id : ℕ) (v : Pacer) → get_elem? (first_pacer p ∷ []) id ≡ some v → Knows p (λ _. 0) ws 0 (first_pacer p) → Knows p (λ _. 0) ws id v

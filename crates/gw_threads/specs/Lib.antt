@@ -1,2 +1,3 @@
 pub mod Clocks
 pub mod Workers
+pub mod Doubles

@@ -20,3 +20,5 @@ pub use crate::thread_fault::ThreadFault;
 pub use crate::threads::run_in_threads;
 pub use crate::worker::Worker;
 
+#[cfg(test)]
+mod tests;

@@ -26,11 +26,7 @@ fn start_worker<
     R: Threads + Wait + Copy + Send + 'static,
     S: RouteTx<R> + Drop + Send + 'static,
     G: Gate + Drop + Send + 'static,
->(
-    rt: R,
-    worker: Worker<S, G>,
-    clock: ClockSeat,
-) -> Result<WorkerThread<R, S, G>, ThreadFault>
+>(rt: R, worker: Worker<S, G>, clock: ClockSeat) -> Result<WorkerThread<R, S, G>, ThreadFault>
     requires { WorkerHolds S.route_after worker.hand worker.side }
     ensures { IfOk result (λ thread. thread.promise.start.value ≡ worker) }
 {
