@@ -9,7 +9,8 @@
 #include <unistd.h>
 
 static long count, refused = -2;
-static int inside;
+/* a thread of its own may be in here while another one asks */
+static __thread int inside __attribute__((tls_model("initial-exec")));
 
 static int is_refused(void) {
     if (inside) return 0;
@@ -17,7 +18,7 @@ static int is_refused(void) {
         const char *text = getenv("REFUSE");
         refused = text ? atol(text) : -1;
     }
-    if (++count != refused) return 0;
+    if (__atomic_add_fetch(&count, 1, __ATOMIC_SEQ_CST) != refused) return 0;
     errno = ENOMEM;
     return 1;
 }

@@ -9,7 +9,7 @@ use std::sync::Wait;
 use std::test::Fail;
 
 /// Two segments with a route between them, and three equal frames that go over it.
-const THREE_FRAMES: &str =
+pub(crate) const THREE_FRAMES: &str =
     r#"{"version":1,"bits":300,"segments":[{"name":"a","talkers":[{"name":"t","on":0,"frames":[{"id":0,"ext":false,"data":[]},{"id":0,"ext":false,"data":[]},{"id":0,"ext":false,"data":[]}]}]},{"name":"b","talkers":[{"name":"l","on":0,"frames":[]}]}],"controllers":[{"name":"c","segment":"a","on":0,"banks":[{"bank":0,"scale":32,"mode":"mask","fifo":0,"active":true,"r1":0,"r2":0}]},{"name":"d","segment":"b","on":0,"banks":[]}],"routes":[{"name":"r","from":"c","fifo":0,"to":"d"}]}"#;
 
 /// Five frames, of which the last is taken at bit 271.

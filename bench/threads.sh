@@ -1,0 +1,51 @@
+#!/usr/bin/env bash
+# Measures the whole program in threads and in one: 1, 2, 4 and 8 segments of 16 talkers that always have frames to send,
+# over 250,000 bits, with a route from each segment to the next; the time by the clock and the processor time of each.
+set -eu
+cd "$(dirname "$0")/.."
+./bxgate --help > /dev/null
+program=crates/bxgate/out/bxgate
+work=$(mktemp -d)
+trap 'rm -rf "$work"' EXIT
+
+# script SEGMENTS: 15 talkers and a controller on each, whose FIFO a route empties into the next segment
+script() {
+  awk -v segments="$1" 'BEGIN {
+    printf "{\"version\":1,\"bits\":250000,\"segments\":["
+    for (segment = 0; segment < segments; segment++) {
+      printf "%s{\"name\":\"s%d\",\"talkers\":[", segment ? "," : "", segment
+      for (talker = 0; talker < 15; talker++) {
+        printf "%s{\"name\":\"t%d_%d\",\"on\":0,\"frames\":[", talker ? "," : "", segment, talker
+        frames = talker ? 1 : 3000
+        for (frame = 0; frame < frames; frame++)
+          printf "%s{\"id\":%d,\"ext\":false,\"data\":[18,52,86,120,154,188,222,240]}", frame ? "," : "", talker
+        printf "]}"
+      }
+      printf "]}"
+    }
+    printf "],\"controllers\":["
+    for (segment = 0; segment < segments; segment++)
+      printf "%s{\"name\":\"c%d\",\"segment\":\"s%d\",\"on\":0,\"banks\":[{\"bank\":0,\"scale\":32,\"mode\":\"mask\",\"fifo\":0,\"active\":true,\"r1\":0,\"r2\":0}]}", segment ? "," : "", segment, segment
+    printf "],\"routes\":["
+    for (segment = 0; segment + 1 < segments; segment++)
+      printf "%s{\"name\":\"r%d\",\"from\":\"c%d\",\"fifo\":0,\"to\":\"c%d\"}", segment ? "," : "", segment, segment, segment + 1
+    print "]}"
+  }'
+}
+
+# timed WORD..: one run; its time by the clock and of all processors, in seconds
+timed() {
+  /usr/bin/env time -f '%e %U' -o "$work/time" "$program" "$@" < "$work/script" > /dev/null
+  cat "$work/time"
+}
+
+for segments in 1 2 4 8; do
+  script "$segments" > "$work/script"
+  inline=$(timed run)
+  threads=$(timed run --threads 8)
+  awk -v segments="$segments" -v inline="$inline" -v threads="$threads" 'BEGIN {
+    split(inline, one); split(threads, many)
+    printf "%d segments: in one thread %.2f s (%.2f s of processors), in threads %.2f s (%.2f s of processors)\n",
+      segments, one[1], one[2], many[1], many[2]
+  }'
+done
