@@ -1,0 +1,5 @@
+pub mod Postings
+pub mod Relays
+pub mod BusSides
+pub mod Takes
+pub mod Leaving
