@@ -1,6 +1,6 @@
 -- What the sides of a post did is tied together at its end.
 use Rattle.std.proofs.Common.{◌≡◌, ◌≢◌, ℕ, zero, suc, arith, ◌+◌, ◌<◌, ◌≤◌, ◌==◌, ◌⊎◌, inl, inr, ⊎_elim, Bool, true, false, cond, List, [], ◌∷◌, ◌++◌, map, length, get_or, set, refl, sym, ap, ◌∙◌, subst, Option, Some, None, eq-eqb, ne_eqb, append_assoc, append-nil, length-append}
-use Rattle.std.specs.Prelude.{option_to_list, slice_get}
+use Rattle.std.specs.Prelude.{option_to_list, slice_get, Result, Ok, Err, IfOk}
 use Rattle.std.proofs.lemmas.Bool.Decides.{eqb_tells}
 use Rattle.std.proofs.lemmas.List.{map-append, nil_from_length}
 use mathlib.Core.Logic.{dite}
@@ -104,7 +104,7 @@ left_of-one : (r route n : ℕ) (what : Asks) → left_of r (left_by route n wha
 left_of-one r route n (Transmit f) = refl
 left_of-one r route n Abort = by_test (route == r)
   where
-    by_test : (b : Bool) → [] ≡ cond b [] []
+    by_test : (b : Bool) → request_by n Abort ≡ cond b (request_by n Abort) (request_by n Abort)
     by_test true = refl
     by_test false = refl
 
@@ -290,3 +290,23 @@ all_there v sides got made posts a b f = record {
   orderly = subst (λ (y : ℕ × List Posting). AreOrderly y.0 (y.1 ++ posts)) (λ i. (sym b i, sym a i)) (subst (AreOrderly made) (append-nil (got ++ posts)) f.orderly);
   ended = λ route s at. let k = known_at sides route s at in ap (λ g. of route (g ++ posts)) a ∙ ap (of route) (sym (append-nil (got ++ posts))) ∙ f.ended route k.0 ∙ k.1;
 }
+
+pub if_ok-more : {A E : Type 0} (P Q : A → Type 0) (r : Result A E) → ((x : A) → P x → Q x) → IfOk r P → IfOk r Q
+if_ok-more P Q (Ok x) f h = f x h
+if_ok-more P Q (Err e) f h = tt
+
+pub closed : (v w : BusSide) (sides : List RouteSide) (posts : List Posting) (left : List Left) → w ≡ v → AreAll w sides posts → length w.boxes ≤ 3 → length posts ≤ 8 → left ≡ left_with w posts → IsClosed v sides left
+closed v w sides posts left e all three eight is = subst (λ u. IsClosed u sides left) e (record {
+  posts = posts;
+  all = all;
+  left_is = is;
+  few = subst (λ (l : List Left). length l ≤ 12) (sym is) (twelve w posts three eight);
+})
+
+pub all_drained : (v : BusSide) (sides : List RouteSide) (was u : Log) (posts : List Posting) → v.got ≡ was.got → v.routes ≡ was.made → u ≡ bus_log was.got was.made (map (λ (s : RouteSide). s.sent) sides) →
+    TotalFact (bus_log (u.got ++ posts) u.made u.known) [] → AreAll v sides posts
+all_drained v sides was u posts a b is f = all_there v sides was.got was.made posts a b (subst (λ (x : Log). TotalFact (bus_log (x.got ++ posts) x.made x.known) []) is f)
+
+pub left_as : (left : List Left) (xs ws : List Waiting) (ys ps : List Posting) (aside : Option Posting) → xs ≡ ws → ys ≡ ps → left ≡ (map as_left xs ++ lefts_in (option_to_list aside)) ++ lefts_in ys →
+    left ≡ (map as_left ws ++ lefts_in (option_to_list aside)) ++ lefts_in ps
+left_as left xs ws ys ps aside a b is = subst (λ (y : List Waiting × List Posting). left ≡ (map as_left y.0 ++ lefts_in (option_to_list aside)) ++ lefts_in y.1) (λ i. (a i, b i)) is

@@ -220,14 +220,21 @@ pub seated-sends : (q : List Waiting) (r m n : ℕ) (f : FrameValue) → on_bus_
 seated-sends [] r m n f = refl
 seated-sends (w ∷ ws) r m n f = refl
 
-free_below : (claims : List (Option ℕ)) (m r : ℕ) → claims ≡ None ∷ None ∷ None ∷ [] → m < 3 → (set (set claims m (Some r)) m None ≡ None ∷ None ∷ None ∷ []) × (get_or claims m None ≡ None) × (get_or (set claims m (Some r)) m None ≡ Some r)
-free_below claims m r e lt = subst (λ (cs : List (Option ℕ)). (set (set cs m (Some r)) m None ≡ None ∷ None ∷ None ∷ []) × (get_or cs m None ≡ None) × (get_or (set cs m (Some r)) m None ≡ Some r)) (sym e) (by_place m lt)
-  where
-    by_place : (k : ℕ) → k < 3 → (set (set (None ∷ None ∷ None ∷ []) k (Some r)) k None ≡ None ∷ None ∷ None ∷ []) × (get_or (None ∷ None ∷ None ∷ []) k None ≡ None) × (get_or (set (None ∷ None ∷ None ∷ []) k (Some r)) k None ≡ Some r)
-    by_place zero l = (refl, refl, refl)
-    by_place (suc zero) l = (refl, refl, refl)
-    by_place (suc (suc zero)) l = (refl, refl, refl)
-    by_place (suc (suc (suc k))) l = absurd (omega (arith, l))
+abbrev none_claimed : List (Option ℕ)
+none_claimed = None ∷ None ∷ None ∷ []
+
+-- a mailbox may be claimed and left again
+abbrev IsFreeAt : ℕ → List (Option ℕ) → ℕ → Type 0
+IsFreeAt r claims m = (set (set claims m (Some r)) m None ≡ none_claimed) × (get_or claims m None ≡ None) × (get_or (set claims m (Some r)) m None ≡ Some r)
+
+free_at : (r m : ℕ) → m < 3 → IsFreeAt r none_claimed m
+free_at r zero l = (refl, refl, refl)
+free_at r (suc zero) l = (refl, refl, refl)
+free_at r (suc (suc zero)) l = (refl, refl, refl)
+free_at r (suc (suc (suc m))) l = absurd (omega (arith, l))
+
+free_below : (claims : List (Option ℕ)) (m r : ℕ) → claims ≡ none_claimed → m < 3 → IsFreeAt r claims m
+free_below claims m r e lt = subst (λ cs. IsFreeAt r cs m) (sym e) (free_at r m lt)
 
 record Seats (s : State) (r n : ℕ) (f : FrameValue) (m : ℕ) (t : State) : Type 0 where
   law : Law t
@@ -301,3 +308,31 @@ seats-run v p f m held is low past h =
       orderly = h.orderly;
       aside = tt;
     }
+
+-- the same, where the side before is told of by another name
+
+seated_by : (w : BusSide) (p : Posting) (q : List Waiting) (what : Asks) → p.what ≡ what → w.aside ≡ Some p → IsSeated w.boxes p.route p.number what true q → (past : BusPast) → Runs w past → Runs (record w { boxes = q; aside = None }) past
+seated_by w p q (Transmit f) is held s past h = subst (λ (ws : List Waiting). Runs (record w { boxes = ws; aside = None }) past) (sym s.2) (seats-run w p f s.0 held is s.1 past h)
+seated_by w p q Abort is held s past h = absurd s
+
+pub seated-past : (v w : BusSide) (p : Posting) (q : List Waiting) (b : Bool) → w ≡ v → w.aside ≡ Some p → IsSeated w.boxes p.route p.number p.what b q → b ≡ true → (past : BusPast) → Runs v past → Runs (record w { boxes = q; aside = None }) past
+seated-past v w p q b e held s so past h = seated_by w p q p.what refl held (subst (λ c. IsSeated w.boxes p.route p.number p.what c q) so s) past (subst (λ u. Runs u past) (sym e) h)
+
+sends_by : (q ws : List Waiting) (r n : ℕ) (what : Asks) (b : Bool) → IsSeated ws r n what b q → on_bus_now q ≡ on_bus_now ws
+sends_by q ws r n (Transmit f) true s = ap on_bus_now s.2 ∙ seated-sends ws r s.0 n f
+sends_by q ws r n (Transmit f) false s = ap on_bus_now s.0
+sends_by q ws r n Abort true s = absurd s
+sends_by q ws r n Abort false s = ap on_bus_now s
+
+pub seated_now : (v w : BusSide) (p : Posting) (q : List Waiting) (b : Bool) → w ≡ v → IsSeated w.boxes p.route p.number p.what b q → on_bus_now q ≡ on_bus_now v.boxes
+seated_now v w p q b e s = sends_by q w.boxes p.route p.number p.what b s ∙ ap (λ (u : BusSide). on_bus_now u.boxes) e
+
+same_by : (q ws : List Waiting) (r n : ℕ) (what : Asks) → IsSeated ws r n what false q → q ≡ ws
+same_by q ws r n (Transmit f) s = s.0
+same_by q ws r n Abort s = s
+
+pub unseated : (w : BusSide) (p : Posting) (q : List Waiting) (b : Bool) → IsSeated w.boxes p.route p.number p.what b q → b ≡ false → q ≡ w.boxes
+unseated w p q b s so = same_by q w.boxes p.route p.number p.what (subst (λ c. IsSeated w.boxes p.route p.number p.what c q) so s)
+
+pub unseated-past : (v w : BusSide) (p : Posting) (q : List Waiting) (b : Bool) → w ≡ v → IsSeated w.boxes p.route p.number p.what b q → b ≡ false → (past : BusPast) → Runs v past → Runs (record w { boxes = q }) past
+unseated-past v w p q b e s so past h = subst (λ (ws : List Waiting). Runs (record w { boxes = ws }) past) (sym (unseated w p q b s so)) (subst (λ u. Runs u past) (sym e) h)

@@ -77,6 +77,19 @@ fn leave(
 ) -> Result<Vec<Left>, AllocError>
     ensures { IfOk result (λ left. left.items ≡ (map as_left boxes.now ++ lefts_in (option_to_list aside.now)) ++ lefts_in posts.now) }
 {
+    let mut left = leave_boxes(alloc, boxes)?;
+    if let Some(posting) = aside {
+        add_left(&mut left, posting)?;
+    }
+    for posting in posts {
+        add_left(&mut left, posting)?;
+    }
+    Ok(left)
+}
+
+fn leave_boxes(alloc: Global, boxes: &[Waiting]) -> Result<Vec<Left>, AllocError>
+    ensures { IfOk result (λ left. left.items ≡ map as_left boxes.now) }
+{
     let mut left = Vec::with_capacity(alloc, 12)?;
     for waiting in boxes {
         left.push(Left {
@@ -84,12 +97,6 @@ fn leave(
             number: waiting.number,
             frame: waiting.frame,
         })?;
-    }
-    if let Some(posting) = aside {
-        add_left(&mut left, posting)?;
-    }
-    for posting in posts {
-        add_left(&mut left, posting)?;
     }
     Ok(left)
 }
