@@ -3,3 +3,4 @@ pub mod Relays
 pub mod BusSides
 pub mod Takes
 pub mod Leaving
+pub mod Begins
