@@ -4,3 +4,4 @@ pub mod BusSides
 pub mod Takes
 pub mod Leaving
 pub mod Begins
+pub mod RouteSides

@@ -95,10 +95,10 @@ impl PostRoute {
             number,
             what,
         };
-        match self.line.push_as::<Posts, R>(rt, &mut self.pass, posting) {
-            Ok(()) => true,
-            Err(_) => false,
-        }
+        let Ok(()) = self.line.push_as::<Posts, R>(rt, &mut self.pass, posting) else {
+            return false;
+        };
+        true
     }
 }
 

@@ -4,6 +4,7 @@ use Rattle.crossbeam_queue.specs.Passes.{view, ruled_capacity}
 use Rattle.bx_mail.specs.Postings.{MayFollow}
 use Rattle.bx_mail.specs.Sides.{RouteSide}
 use Rattle.bx_mail.proofs.Relays.{posts_one, learns_sent}
+use Rattle.bx_mail.proofs.RouteSides.{was_posted, was_full}
 use Rattle.bx_mail.proofs.post_route.PostRoute.post.Goals as goal
 
 pub push_as-requires-clause-rule : goal.push_as-requires-clause-rule
@@ -13,3 +14,11 @@ push_as-requires-clause-rule g c = let v = view c.self.inside.pass in let may = 
           (subst (λ (s : RouteSide). MayFollow s.sent c.args.number c.args.what) (sym c.self.view_is) c.requires),
       learns_sent _ v may,
     )
+
+pub returns : goal.returns
+returns g c = was_posted c.args.self.now _ _ (view c.self.inside.pass) (view c.push_as.new.pass) c.self.inside.route c.args.number c.args.what c.self.view_is c.in-Ok.ensures.queue.0 c.in-Ok.ensures.rule
+
+pub returns-in_default : goal.returns-in_default
+returns-in_default g c = let r = c.in_default.ensures.rule in
+    was_full c.args.self.now _ _ (view c.self.inside.pass) (view c.push_as.new.pass) c.self.inside.route c.args.number _ c.args.what c.self.view_is c.in_default.ensures.queue.0 r.1 (ap (λ v. v.from) c.self.invariant.2)
+    (ap ruled_capacity c.deref.ensures ∙ c.self.invariant.1) r.2
