@@ -237,6 +237,7 @@ fails-core s (w ∷ ws) x l e on = by_test w.abort_asked refl
   where
     y : Waiting
     y = record w { status = Scheduled }
+
     by_test : (b : Bool) → w.abort_asked ≡ b → FailsTo s (cond b (Some (w.route, w.number)) None) (cond b ws (y ∷ ws))
     by_test true asked =
         let sends = sent_first w ws x on in

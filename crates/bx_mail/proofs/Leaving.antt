@@ -239,7 +239,7 @@ all_beyond v sides left c = λ did h route le.
     let gone : of route v.got ++ of route c.posts ≡ [] = sym (of-append route v.got c.posts) ∙ c.all.orderly.beyond route le in
     let boxes : left_of route (map as_left v.boxes) ≡ [] = ap (λ (q : List Waiting). left_of route (map as_left q)) (sym h.boxes) ∙ n.none_left in
     let aside : requests_in (of route (option_to_list v.aside)) ≡ [] = append_none-right (h.asks route).requested (requests_in (of route (option_to_list v.aside)))
-        (h.requested route ∙ ap requests_in (append_none-left (of route v.got) (of route c.posts) gone)) in
+    (h.requested route ∙ ap requests_in (append_none-left (of route v.got) (of route c.posts) gone)) in
     let rest : requests_in (of route c.posts) ≡ [] = ap requests_in (append_none-right (of route v.got) (of route c.posts) gone) in
     record {
       none_started = n.none_started;

@@ -63,16 +63,22 @@ requests_past v w n f (Ok Yes) a b past h = posts_request v w n f past b h
 requests_past v w n f (Ok NotNow) a b past h = no_request v w n f past (Ok NotNow) refl b.0 h
 
 pub aborts_past : (v w : RouteSide) (n : ℕ) (answer : AbortAnswer) → IsAbortAnswer v n Abort answer w → (past : RoutePast) → RouteRuns v past → (asks : Bool) × RouteRuns w (after_abort past n answer asks)
-aborts_past v w n Asked a past h = (true, subst (λ s. RouteRuns s (after_abort past n Asked true)) (sym a) (record {
-  requested = h.requested ∙ sym (requests_in-append v.sent (record { route = v.route; number = n; what = Abort } ∷ []) ∙ append-nil (requests_in v.sent));
-  aborted = append-nil past.aborted ∙ h.aborted;
-  asked = ap (λ l. l ++ n ∷ []) h.asked ∙ sym (aborts_in-append v.sent (record { route = v.route; number = n; what = Abort } ∷ []));
-}))
-aborts_past v w n NotAsked a past h = (true, subst (λ s. RouteRuns s (after_abort past n NotAsked true)) (sym a.0) (record {
-  requested = h.requested;
-  aborted = append-nil past.aborted ∙ h.aborted;
-  asked = append-nil past.asked ∙ h.asked;
-}))
+aborts_past v w n Asked a past h = (
+  true,
+  subst (λ s. RouteRuns s (after_abort past n Asked true)) (sym a) (record {
+    requested = h.requested ∙ sym (requests_in-append v.sent (record { route = v.route; number = n; what = Abort } ∷ []) ∙ append-nil (requests_in v.sent));
+    aborted = append-nil past.aborted ∙ h.aborted;
+    asked = ap (λ l. l ++ n ∷ []) h.asked ∙ sym (aborts_in-append v.sent (record { route = v.route; number = n; what = Abort } ∷ []));
+  }),
+)
+aborts_past v w n NotAsked a past h = (
+  true,
+  subst (λ s. RouteRuns s (after_abort past n NotAsked true)) (sym a.0) (record {
+    requested = h.requested;
+    aborted = append-nil past.aborted ∙ h.aborted;
+    asked = append-nil past.asked ∙ h.asked;
+  }),
+)
 aborts_past v w n Ended a past h = absurd a
 aborts_past v w n Gone a past h = absurd a
 

@@ -3,10 +3,9 @@ ghost use Rattle.std.specs.Prelude.{◌≡◌, ◌≤◌, true, IfOk, length};
 ghost use Rattle.bx_core.specs.Ties.{AreSides, AllTied, NothingBeyond};
 ghost use Rattle.bx_mail.specs.Sides.{Runs, RouteRuns, IsNewBus, AreNewSides, IsSideOf};
 
-use crate::closing;
-use crate::opening;
 use crate::post_bus::PostBus;
 use crate::post_route::PostRoute;
+use crate::{closing, opening};
 use bx_core::{Left, Mailboxes};
 use can_frame::Memory;
 use std::alloc::Global;
@@ -68,7 +67,12 @@ impl<R: Wait> Mailboxes<R, PostBus, PostRoute> for Post {
 
     ghost room = { 12 };
 
-    fn open(_rt: &R, alloc: Global, routes: u8, _txfp: bool) -> Result<(PostBus, Vec<PostRoute>), Memory>
+    fn open(
+        _rt: &R,
+        alloc: Global,
+        routes: u8,
+        _txfp: bool,
+    ) -> Result<(PostBus, Vec<PostRoute>), Memory>
         requires some { 1 ≤ routes }
         requires few { routes ≤ 8 }
         requires priority { _txfp ≡ true }
@@ -84,7 +88,12 @@ impl<R: Wait> Mailboxes<R, PostBus, PostRoute> for Post {
         Post::new(alloc, routes)
     }
 
-    fn close(_rt: &R, alloc: Global, bus: PostBus, sides: Vec<PostRoute>) -> Result<Vec<Left>, Memory>
+    fn close(
+        _rt: &R,
+        alloc: Global,
+        bus: PostBus,
+        sides: Vec<PostRoute>,
+    ) -> Result<Vec<Left>, Memory>
         requires all { length sides.items ≡ bus.routes }
         requires sides { AreSides IsSideOf bus sides.items }
         ensures tied { IfOk result (λ left. AllTied Runs RouteRuns true bus sides.items left.items) }
