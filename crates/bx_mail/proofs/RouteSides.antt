@@ -11,13 +11,15 @@ use Rattle.bx_core.specs.declared.answer.AbortAnswer.{AbortAnswer}
 use Rattle.bx_core.specs.declared.answer.AbortAnswer.TheVariants.{Ended, Asked, Gone, NotNow as NotAsked}
 use Rattle.bx_core.specs.declared.point.Point.{Point}
 use Rattle.bx_core.specs.declared.point.Point.TheVariants.{Post, Answered}
+use Rattle.bx_core.specs.declared.entry.Entry.{Entry}
+use Rattle.bx_core.specs.Steps.{last_of, last_number}
 use Rattle.bx_core.specs.Gate.{Passes, HearsAnswer, IsHeard}
 use Rattle.bx_core.specs.RouteTx.{RoutePast, after_request, after_abort}
 use Rattle.bx_mail.specs.declared.log.Log.{Log}
 use Rattle.bx_mail.specs.declared.posting.Posting.{Posting}
 use Rattle.bx_mail.specs.declared.posting.Asks.{Asks}
 use Rattle.bx_mail.specs.declared.posting.Asks.TheVariants.{Transmit, Abort}
-use Rattle.bx_mail.specs.Postings.{of, requests_in, aborts_in}
+use Rattle.bx_mail.specs.Postings.{of, request_by, requests_in, aborts_in, newest_by}
 use Rattle.bx_mail.specs.Rule.{route_log, SentFact}
 use Rattle.bx_mail.specs.Sides.{RouteSide, RouteRuns, IsPosted, IsAbortAnswer, AreLastOf, posted, is_yes, heard_as}
 use Rattle.bx_mail.proofs.Postings.{requests_in-append, aborts_in-append}
@@ -96,3 +98,23 @@ hears_post may_have_heard sent old new h = record {
   is_heard = heard_so sent;
   passes = h;
 }
+
+-- the newest number after a post
+
+last_of-more : (es : List Entry) (e : Entry) (n : ℕ) → last_of n (es ++ e ∷ []) ≡ e.number
+last_of-more [] e n = refl
+last_of-more (x ∷ xs) e n = last_of-more xs e x.number
+
+newest_is : (es : List Entry) (number : ℕ) (what : Asks) → newest_by (last_number es) number what ≡ last_number (es ++ request_by number what)
+newest_is es number (Transmit f) = sym (last_of-more es (record { number = number; frame = f }) 0)
+newest_is es number Abort = ap last_number (sym (append-nil es))
+
+pub newest_posted : (u n : Log) (route number last newer : ℕ) (what : Asks) → last ≡ last_number (requests_in u.sent) → newer ≡ newest_by last number what →
+    n ≡ route_log u.from (u.sent ++ record { route = route; number = number; what = what } ∷ []) → newer ≡ last_number (requests_in n.sent)
+newest_posted u n route number last newer what was is e =
+    is ∙ ap (λ l. newest_by l number what) was ∙ newest_is (requests_in u.sent) number what
+    ∙ ap (λ es. last_number (requests_in u.sent ++ es)) (sym (append-nil (request_by number what)))
+    ∙ ap last_number (sym (requests_in-append u.sent (record { route = route; number = number; what = what } ∷ []))) ∙ ap (λ (x : Log). last_number (requests_in x.sent)) (sym e)
+
+pub posted_form : (u n : Log) (x : Posting) (route : ℕ) → u.from ≡ route → n ≡ route_log u.from (u.sent ++ x ∷ []) → n ≡ route_log route n.sent
+posted_form u n x route own e = e ∙ ap (λ r. route_log r (u.sent ++ x ∷ [])) own ∙ ap (λ (y : Log). route_log route y.sent) (sym e)

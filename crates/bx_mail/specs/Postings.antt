@@ -50,6 +50,11 @@ abbrev pub lefts_in : List Posting → List Left
 lefts_in [] = []
 lefts_in (p ∷ ps) = left_by p.route p.number p.what ++ lefts_in ps
 
+-- the newest number requested, where it was `last` before the post
+abbrev pub newest_by : ℕ → ℕ → Asks → ℕ
+newest_by last number (Transmit frame) = number
+newest_by last number Abort = last
+
 -- what may be posted behind these: an abort, or a request of a number above theirs and not too great
 abbrev pub MayFollow : List Posting → ℕ → Asks → Type 0
 MayFollow sent number (Transmit frame) = (last_number (requests_in sent) < number) × (number ≤ greatest_number)

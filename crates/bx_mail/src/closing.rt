@@ -31,6 +31,7 @@ fn join(line: &Line, pass: &mut Pass<Posting, Log>, side: PostRoute)
         line: _,
         pass: posting,
         route: _,
+        last: _,
     } = side;
     line.absorb::<Sides>(pass, posting);
 }

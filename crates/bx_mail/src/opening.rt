@@ -27,6 +27,7 @@ pub(crate) fn open(alloc: Global, routes: u8) -> Result<(PostBus, Vec<PostRoute>
             line: theirs,
             pass: posting,
             route,
+            last: 0,
         })?;
     }
     let bus = PostBus {

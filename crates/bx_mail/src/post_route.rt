@@ -4,7 +4,7 @@ ghost use Rattle.bx_core.specs.declared.point.Point.TheVariants.{Post, Answered}
 ghost use Rattle.bx_core.specs.Gate.{Passes};
 ghost use Rattle.bx_core.specs.Steps.{greatest_number, last_number};
 ghost use Rattle.bx_mail.specs.declared.posting.Asks.TheVariants.{Transmit, Abort};
-ghost use Rattle.bx_mail.specs.Postings.{requests_in, MayFollow};
+ghost use Rattle.bx_mail.specs.Postings.{requests_in, MayFollow, newest_by};
 ghost use Rattle.bx_mail.specs.Sides.{IsPosted, IsAbortAnswer, is_yes, heard_as};
 
 use crate::log::Log;
@@ -24,6 +24,8 @@ pub struct PostRoute {
     pub(crate) line: Arc<Line, Global>,
     pub(crate) pass: Pass<Posting, Log>,
     pub(crate) route: u8,
+    // the newest number requested, or 0
+    pub(crate) last: u32,
 }
 
 impl Model for PostRoute {
@@ -39,6 +41,13 @@ impl Model for PostRoute {
 }
 
 impl PostRoute {
+    /// The newest number that was requested, or 0: the test for the condition of `request`.
+    pub fn last(&self) -> u32
+        ensures { result ≡ last_number (requests_in self.now.sent) }
+    {
+        self.last
+    }
+
     /// Posts the request of a frame under a number above the route's last one. `Yes` where it was posted, and
     /// `NotNow` only where the queue held eight posts at one moment of the call; then nothing changed.
     /// `NumberTooLarge` comes above 16,777,215, before any step: nothing changed, and the gate wasn't passed. The
@@ -98,7 +107,18 @@ impl PostRoute {
         let Ok(()) = self.line.push_as::<Posts, R>(rt, &mut self.pass, posting) else {
             return false;
         };
+        self.last = newest(self.last, number, &what);
         true
+    }
+}
+
+/// The newest number after a post.
+fn newest(last: u32, number: u32, what: &Asks) -> u32
+    ensures { result ≡ newest_by last number what.now }
+{
+    match what {
+        Asks::Transmit(_) => number,
+        Asks::Abort => last,
     }
 }
 
