@@ -1,0 +1,7 @@
+pub mod Postings
+pub mod Relays
+pub mod BusSides
+pub mod Takes
+pub mod Leaving
+pub mod Begins
+pub mod RouteSides

@@ -1,0 +1,20 @@
+//! Transmit mailboxes of one bxCAN controller over a queue of posts.
+#![tactic(auto)]
+
+mod boxes;
+mod closing;
+mod log;
+mod opening;
+mod post;
+mod post_bus;
+mod post_route;
+mod posting;
+mod rule;
+
+pub use crate::post::Post;
+pub use crate::post_bus::PostBus;
+pub use crate::post_route::PostRoute;
+pub use crate::posting::{Asks, Posting};
+
+#[cfg(test)]
+mod tests;
