@@ -9,8 +9,9 @@ use std::alloc::{AllocError, Global};
 use std::marker::Model;
 use std::sync::Arc;
 
-/// A seat at the clock table of a run, which the threads of that run share: a clock for each segment, the number of bits
-/// that it made, and a stop word. A thread's seat is let go where the thread ends, and the table with the last seat.
+/// A seat at the clock table of a run, which the threads of that run share: a clock for each segment, the number of
+/// bits that it made, and a stop word. A thread's seat is let go where the thread ends, and the table with the last
+/// seat.
 #[derive(Drop)]
 pub(crate) struct ClockSeat {
     clocks: Arc<ClockTable, Global>,

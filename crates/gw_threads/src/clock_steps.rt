@@ -1,6 +1,7 @@
 //! The steps on the words of the clock table.
 ghost use Rattle.std.specs.Prelude.{◌≡◌, ◌+◌, ◌<◌};
-ghost use Rattle.gw_threads.specs.Clocks.{clock_of, pacer_of, looked_at, ticked, one_of, rest_of, watcher_of, MayTick, IsAtTable};
+ghost use Rattle.gw_threads.specs.Clocks.{clock_of, pacer_of, looked_at, ticked, one_of, rest_of, watcher_of};
+ghost use Rattle.gw_threads.specs.Clocks.{MayTick, IsAtTable};
 
 use crate::plays::{Deal, Lend, Look, Paced, Stop, Tick, Watch};
 use crate::views::{Pace, Pacer};

@@ -6,8 +6,8 @@ ghost use Rattle.gw_site.specs.Pairs.{Pairs};
 use crate::thread_fault::ThreadFault;
 use std::thread::{Promise, PromisedHandle, Threads};
 
-/// Joins all these threads, also where one of them failed. What they made, in their order, goes into this list, which has
-/// room for it.
+/// Joins all these threads, also where one of them failed. What they made, in their order, goes into this list, which
+/// has room for it.
 pub(crate) fn join_all<R: Threads, T: Drop, P: Promise<Result<T, ThreadFault>>>(
     rt: &R,
     threads: Vec<PromisedHandle<Result<T, ThreadFault>, P>>,

@@ -44,8 +44,8 @@ fn start_site<R: Threads + Wait + Copy + Send + 'static, P: RxSink<R> + Drop + S
     }
 }
 
-/// Each segment runs in a thread of its own, with a seat for its clock that this one deals. The threads, also those that
-/// were started before one could not be, go into this list, which has room for them.
+/// Each segment runs in a thread of its own, with a seat for its clock that this one deals. The threads, also those
+/// that were started before one could not be, go into this list, which has room for them.
 pub(crate) fn start_sites<
     R: Threads + Wait + Copy + Send + 'static,
     P: RxSink<R> + Drop + Send + 'static,

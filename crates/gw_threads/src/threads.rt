@@ -78,9 +78,10 @@ fn clocks_of(alloc: Global, segments: usize, bits: u32) -> Result<ClockSeat, Thr
     )
 }
 
-/// Runs each segment and each route in a thread of its own: each segment makes all its bits, and each route turns until
-/// 32 turns in a row, each begun once all segments had made their bits, came to nothing. Each thread that was started is
-/// joined before this returns, whatever the others came to. The segments and the routes come back in their order.
+/// Runs each segment and each route in a thread of its own: each segment makes all its bits, and each route turns
+/// until 32 turns in a row, each begun once all segments had made their bits, came to nothing. Each thread that was
+/// started is joined before this returns, whatever the others came to. The segments and the routes come back in their
+/// order.
 ///
 /// `Memory` comes where a growth was refused, in any thread; `Spawn` where a thread could not be started, for want of
 /// memory too. Either way the other threads are told to stop.

@@ -10,8 +10,8 @@ pub struct Pace {
     pub bits: u64,
 }
 
-/// A seat of the clock table: the clocks that it alone ticks, from `first` up to `end`, the number at which each of them
-/// stands, and the number last seen of each clock. No value of it is made.
+/// A seat of the clock table: the clocks that it alone ticks, from `first` up to `end`, the number at which each of
+/// them stands, and the number last seen of each clock. No value of it is made.
 pub struct Pacer {
     pub first: u64,
     pub end: u64,
