@@ -17,6 +17,5 @@ pub use crate::threaded::{all_by_order, run_threads};
 
 #[cfg(test)]
 mod tests;
-
 #[cfg(test)]
 mod threaded_tests;

@@ -50,13 +50,21 @@ fn no_gate(alloc: Global) -> Result<Vec<NoGate>, AllocError> {
 /// Whether accepted equals completed, aborted, overrun and held.
 fn is_balanced(route: &RouteReport) -> bool {
     let ended = (route.completed.len() as u64).saturating_add(route.aborted.len() as u64);
-    route.accepted == ended.saturating_add(route.overrun).saturating_add(route.held)
+    route.accepted
+        == ended
+            .saturating_add(route.overrun)
+            .saturating_add(route.held)
 }
 
 #[test]
 fn three_frames_are_accepted_in_threads(rt: HostRuntime) -> Result<(), Fail> {
     let report = report_on(rt, rt.alloc(), THREE_FRAMES, no_gate(rt.alloc())?)?;
-    assert!(rt; report.segments.iter().all(|record| record.levels.len() == 300));
+    assert!(rt;
+        report
+            .segments
+            .iter()
+            .all(|record| record.levels.len() == 300)
+    );
     assert!(rt; report.routes.iter().map(|route| route.accepted).eq([3]));
     assert!(rt; report.routes.iter().all(is_balanced));
     Ok(())
@@ -68,7 +76,12 @@ fn three_frames_are_sent_while_segments_run(rt: HostRuntime) -> Result<(), Fail>
     for _run in 0..20 {
         let report = report_on(rt, rt.alloc(), LONG, no_gate(rt.alloc())?)?;
         assert!(rt; report.routes.iter().all(is_balanced));
-        if report.routes.iter().map(|route| route.completed.len()).eq([3]) {
+        if report
+            .routes
+            .iter()
+            .map(|route| route.completed.len())
+            .eq([3])
+        {
             return Ok(());
         }
     }
