@@ -168,7 +168,7 @@ fn hosts(alloc: Global, meeting: &Arc<Meeting, Global>) -> Result<Vec<Host>, All
     Ok(gates)
 }
 
-fn meeting(alloc: Global) -> Result<Arc<Meeting, Global>, AllocError> {
+fn make_meeting(alloc: Global) -> Result<Arc<Meeting, Global>, AllocError> {
     Ok(Arc::new(
         alloc,
         Meeting {
@@ -183,7 +183,7 @@ fn meeting(alloc: Global) -> Result<Arc<Meeting, Global>, AllocError> {
 /// A route that is held at its post doesn't keep another from its own: each has a thread.
 #[test]
 fn a_route_that_is_held_keeps_no_other(rt: HostRuntime) -> Result<(), Fail> {
-    let meeting = meeting(rt.alloc())?;
+    let meeting = make_meeting(rt.alloc())?;
     let report = report_on(rt, rt.alloc(), TWO_ROUTES, hosts(rt.alloc(), &meeting)?)?;
     assert_eq!(rt; meeting.in_vain.load(Ordering::SeqCst), 0);
     assert_eq!(rt; meeting.posted.load(Ordering::SeqCst), 2);
