@@ -46,10 +46,22 @@ void *realloc(void *p, size_t size) { REAL(void *, realloc, void *, size_t) retu
 void *aligned_alloc(size_t a, size_t size) { REAL(void *, aligned_alloc, size_t, size_t) return is_refused() ? NULL : real(a, size); }
 int posix_memalign(void **p, size_t a, size_t size) { REAL(int, posix_memalign, void **, size_t, size_t) return is_refused() ? ENOMEM : real(p, a, size); }
 
-__attribute__((destructor)) static void tell(void) {
+static void tell(void) {
     const char *name = getenv("COUNT_FILE");
     if (!name) return;
     inside++;
     FILE *file = fopen(name, "w");
     if (file) { fprintf(file, "%ld\n", count); fclose(file); }
 }
+
+/* a program that may start threads ends by this, and runs no destructors */
+void _exit(int status) {
+    static void (*real)(int);
+    tell();
+    inside++;
+    real = (void (*)(int))dlsym(RTLD_NEXT, "_exit");
+    real(status);
+    __builtin_unreachable();
+}
+
+__attribute__((destructor)) static void end(void) { tell(); }

@@ -1,3 +1,5 @@
+//! Mailboxes over a post, by hand.
+
 use crate::{Post, PostRoute};
 use bx_core::{AbortAnswer, Gate, Heard, NoGate, Point, Sent, TxBus};
 use can_frame::{Frame, Id};

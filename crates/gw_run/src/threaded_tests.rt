@@ -1,5 +1,5 @@
-//! Worked runs of gateways in threads. Which turns fall between which bits is left to the machine: no value here depends on
-//! that, but that of many long runs one sends all frames.
+//! Worked runs of gateways in threads. Which turns fall between which bits is left to the machine: no value here depends
+//! on that, but that of many long runs one sends all frames.
 
 use crate::tests::THREE_FRAMES;
 use crate::{RunFault, all_by_order, run_threads};

@@ -104,8 +104,8 @@ fn close_sites<R, B: TxBus<R> + Drop, S: RouteTx<R> + Drop, M: Mailboxes<R, B, S
 }
 
 /// Closes the mailboxes of all controllers of a run, given the sides of all of them, each at its place: that of each
-/// route, in the order of the script, then one for each controller that no route leads into. `Memory` where a growth was
-/// refused: then the mailboxes are gone.
+/// route, in the order of the script, then one for each controller that no route leads into. `Memory` where a growth
+/// was refused: then the mailboxes are gone.
 pub fn close_all<R, B: TxBus<R> + Drop, S: RouteTx<R> + Drop, M: Mailboxes<R, B, S>>(
     rt: &R,
     alloc: Global,

@@ -1,5 +1,5 @@
-//! The mailboxes of a run's controllers as sets whose sides may stand in threads of their own: how they are opened, and how
-//! they are closed once all sides are together again.
+//! The mailboxes of a run's controllers as sets whose sides may stand in threads of their own: how they are opened, and
+//! how they are closed once all sides are together again.
 #![tactic(auto)]
 
 mod closing;

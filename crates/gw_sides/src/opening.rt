@@ -77,8 +77,8 @@ fn open_ports<R, B: TxBus<R> + Drop, S: RouteTx<R> + Drop, M: Mailboxes<R, B, S>
 }
 
 /// All segments of a script with their controllers before the first bit, whose mailboxes are opened as these sets; and
-/// the sides of all mailboxes: first that of each route in the order of the script, then one for each controller that no
-/// route leads into. `Memory` where a growth was refused.
+/// the sides of all mailboxes: first that of each route in the order of the script, then one for each controller that
+/// no route leads into. `Memory` where a growth was refused.
 pub fn open_all<R, B: TxBus<R> + Drop, S: RouteTx<R> + Drop, M: Mailboxes<R, B, S>>(
     rt: &R,
     alloc: Global,

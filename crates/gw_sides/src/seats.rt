@@ -1,6 +1,6 @@
-//! Where the sides of all mailboxes of a run are kept while they are together: a place for each route in the order of the
-//! script, and behind these one for each controller, whose mailboxes have a side that nobody uses where no route leads
-//! into it.
+//! Where the sides of all mailboxes of a run are kept while they are together: a place for each route in the order of
+//! the script, and behind these one for each controller, whose mailboxes have a side that nobody uses where no route
+//! leads into it.
 
 ghost use Rattle.std.specs.Prelude.{◌≡◌, ◌≢◌, ◌<◌, ◌≤◌, ◌+◌, ℕ, Some, IfOk, OnOk, length, slice_get};
 ghost use Rattle.gw_config.specs.SoundScripts.{IsSound};

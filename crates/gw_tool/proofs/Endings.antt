@@ -5,7 +5,9 @@ use Rattle.std.specs.Io.KnownBytes.{Appends, Keeps}
 use Rattle.gw_fields.specs.declared.script_fault.ScriptFault.TheVariants as fault
 use Rattle.gw_fields.specs.Faults.{Fault, UnlessMemory, not_json, missing, wrong_kind, out_of_range, unknown_name, double_name, fifo_twice, too_many, wrong_version}
 use Rattle.gw_fields.specs.Documents.{IsNoDocument, in_text}
-use Rattle.gw_tool.specs.Outcomes.{Answers, Begins, Ends, EndsWith, IsAnswer, IsFailureOn, IsRefusal, status_of}
+use Rattle.gw_tool.specs.Outcomes.{Answers, Begins, Ends, EndsWith, IsAnswer, IsFailureOn, IsRefusal, IsWant, status_of}
+use Rattle.gw_run.specs.declared.run_fault.RunFault.{RunFault}
+use Rattle.gw_run.specs.declared.run_fault.RunFault.TheVariants as run_fault
 use Rattle.gw_tool.specs.declared.failure.Failure.{Failure}
 use Rattle.gw_tool.specs.declared.failure.Failure.TheVariants as failure
 use Rattle.gw_tool.specs.declared.task.Task.{Task}
@@ -15,6 +17,18 @@ use Rattle.gw_tool.specs.declared.task.Task.TheVariants as task
 pub no_document : (t : Task) (bytes : List ℕ) (f : Fault) → IsNoDocument bytes f → IsRefusal t bytes f
 no_document task.Core bytes f is = in_text is
 no_document (task.Run turn) bytes f is = in_text is
+no_document (task.RunThreads threads turn) bytes f is = in_text is
+
+-- memory may be wanted, whatever was asked for
+pub wants_memory : (t : Task) → IsWant t run_fault.Memory
+wants_memory task.Core = refl
+wants_memory (task.Run turn) = refl
+wants_memory (task.RunThreads threads turn) = inl refl
+
+-- a run in threads may want either
+pub wants_either : (threads turn : ℕ) (e : RunFault) → IsWant (task.RunThreads threads turn) e
+wants_either threads turn run_fault.Memory = inl refl
+wants_either threads turn run_fault.Spawn = inr refl
 
 -- what nobody wrote to is as it was
 pub keeps_all : (known : Option (List ℕ)) → Keeps known known

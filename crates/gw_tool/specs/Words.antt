@@ -5,24 +5,31 @@ use Rattle.clap.specs.declared.error.Error.{Error}
 use Rattle.clap.specs.declared.error.kind.ErrorKind.TheVariants.{OutOfMemory}
 use Rattle.clap.specs.declared.builder.value_parser.ValueParser.TheVariants.{Signed}
 use Rattle.gw_tool.specs.declared.task.Task.{Task}
-use Rattle.gw_tool.specs.declared.task.Task.TheVariants.{Core, Run}
+use Rattle.gw_tool.specs.declared.task.Task.TheVariants.{Core, Run, RunThreads}
 
 -- so many bits may lie between two turns of a route
 abbrev pub IsTurn : ℕ → Type 0
 IsTurn n = (0 < n) × (n ≤ 1000000)
 
+-- so many threads may be asked for
+abbrev pub IsThreads : ℕ → Type 0
+IsThreads n = (0 < n) × (n ≤ 16)
+
 abbrev pub HasTurn : Task → Type 0
 HasTurn Core = Unit {0}
 HasTurn (Run turn) = IsTurn turn
+HasTurn (RunThreads threads turn) = IsThreads threads × IsTurn turn
 
 abbrev pub IsRunTask : Task → Type 0
 IsRunTask Core = ⊥
 IsRunTask (Run turn) = IsTurn turn
+IsRunTask (RunThreads threads turn) = IsThreads threads × IsTurn turn
 
 -- the word for what is asked
 abbrev pub name_of : Task → List ℕ
 name_of Core = codes "core"
 name_of (Run turn) = codes "run"
+name_of (RunThreads threads turn) = codes "run"
 
 -- The commands: `core`, and `run` with the option `--turn`, whose number is 1 where it isn't given.
 abbrev pub turn_rule : Rule
@@ -33,11 +40,22 @@ turn_rule = record (new_rule (codes "turn")) {
   parser = Some (Signed (pos 1) (pos 1000000));
 }
 
+-- `--threads`, which need not be given
+abbrev pub threads_rule : Rule
+threads_rule = record (new_rule (codes "threads")) {
+  long = Some (codes "threads");
+  value_names = 1;
+  parser = Some (Signed (pos 1) (pos 16));
+}
+
 abbrev pub core_app : App
 core_app = new_app (codes "core")
 
+abbrev pub turns_app : App
+turns_app = with_rule (new_app (codes "run")) turn_rule
+
 abbrev pub run_app : App
-run_app = with_rule (new_app (codes "run")) turn_rule
+run_app = with_rule turns_app threads_rule
 
 abbrev pub bxgate_app : App
 bxgate_app = with_subcommand (with_subcommand (new_app (codes "bxgate")) core_app.top) run_app.top

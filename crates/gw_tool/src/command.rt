@@ -4,7 +4,7 @@ ghost use Rattle.std.specs.Prelude.{◌≡◌, ◌∷◌, [], List, ℕ, Some, N
 ghost use Rattle.std.specs.Fmt.{decimal};
 ghost use Rattle.clap.specs.Words.{app_of, kind_of, found_of, one_of, rows_of, subcommand_name_of, subcommand_rows_of, HasMatchesOf, Row, takes};
 ghost use Rattle.clap.specs.declared.builder.command.Command.TheViews.{out-Command};
-ghost use Rattle.gw_tool.specs.Words.{bxgate_app, run_app, name_of, IsTurn, HasTurn, IsRunTask, IsTakenAs};
+ghost use Rattle.gw_tool.specs.Words.{bxgate_app, turns_app, run_app, name_of, IsTurn, IsThreads, HasTurn, IsRunTask, IsTakenAs};
 
 use crate::task::Task;
 use clap::error::ErrorKind;
@@ -15,9 +15,12 @@ use std::convert::AsStr;
 /// The most bits that may lie between two turns of a route.
 const MOST_BITS: u32 = 1_000_000;
 
-/// The subcommand that runs a script.
-fn run_command<'a>(alloc: Global) -> Result<Command<'a>, AllocError>
-    ensures app { IfOk result (λ command. app_of command ≡ run_app) }
+/// The most threads that may be asked for.
+const MOST_THREADS: u32 = 16;
+
+/// The subcommand that runs a script, with the option that says when turns are made.
+fn turns_command<'a>(alloc: Global) -> Result<Command<'a>, AllocError>
+    ensures app { IfOk result (λ command. app_of command ≡ turns_app) }
     ensures local { IfOk result (λ command. (out-Command command).has_globals ≡ false) }
 {
     let turn = Arg::new(alloc, "turn")
@@ -31,6 +34,20 @@ fn run_command<'a>(alloc: Global) -> Result<Command<'a>, AllocError>
             "Reads a script of segments, controllers and routes (JSON) from standard input, runs it, and reports on the run",
         )
         .arg(turn)
+}
+
+/// The subcommand that runs a script.
+fn run_command<'a>(alloc: Global) -> Result<Command<'a>, AllocError>
+    ensures app { IfOk result (λ command. app_of command ≡ run_app) }
+    ensures local { IfOk result (λ command. (out-Command command).has_globals ≡ false) }
+{
+    let threads = Arg::new(alloc, "threads")
+        .long("threads")
+        .value_name("N")
+        .help("Runs each segment and each route in a thread of its own; N, 1 to 16, isn't used yet")
+        .value_parser(value_parser!(u32).range(1..=i64::from(MOST_THREADS)));
+    let command = turns_command(alloc)?;
+    command.arg(threads)
 }
 
 /// The matches of the words, the program's name first.
@@ -48,31 +65,55 @@ fn matches_of<'a, S: AsStr>(alloc: Global, words: &'a [S]) -> Result<ArgMatches<
     command.try_get_matches_from(words)
 }
 
+/// A run in one thread, or in threads where so many are asked for that may be.
+fn with_threads(turn: u32, threads: Option<u32>) -> Option<Task>
+    requires { IsTurn turn }
+    ensures alone { threads ≡ None → result ≡ Some (Task.Run turn) }
+    ensures threads { (n : ℕ) → threads ≡ Some n → IsThreads n → result ≡ Some (Task.RunThreads n turn) }
+    ensures run { IfSome result IsRunTask }
+{
+    match threads {
+        None => Some(Task::Run { turn }),
+        Some(threads) if 0 < threads && threads <= MOST_THREADS => {
+            Some(Task::RunThreads { threads, turn })
+        }
+        _ => None,
+    }
+}
+
 /// A run with so many bits between two turns of a route, if that many may lie there.
 // clap refuses other numbers before, but its contract says so of a command's own options alone
-fn run_of(turn: Option<u32>) -> Option<Task>
-    ensures asked { (n : ℕ) → turn ≡ Some n → IsTurn n → result ≡ Some (Task.Run n) }
+fn run_of(turn: Option<u32>, threads: Option<u32>) -> Option<Task>
+    ensures asked { (n : ℕ) → turn ≡ Some n → IsTurn n → threads ≡ None → result ≡ Some (Task.Run n) }
+    ensures threads { (n m : ℕ) → turn ≡ Some m → IsTurn m → threads ≡ Some n → IsThreads n → result ≡ Some (Task.RunThreads n m) }
     ensures run { IfSome result IsRunTask }
 {
     match turn {
-        Some(turn) if 0 < turn && turn <= MOST_BITS => Some(Task::Run { turn }),
+        Some(turn) if 0 < turn && turn <= MOST_BITS => with_threads(turn, threads),
         _ => None,
     }
 }
 
 /// What the options of `run` ask for.
 fn options_of(options: &ArgMatches<'_>) -> Option<Task>
-    ensures asked { (n : ℕ) → IsTurn n → one_of (codes "turn") (rows_of (found_of options.now)) ≡ Some (decimal n) → result ≡ Some (Task.Run n) }
+    ensures asked { (n : ℕ) → IsTurn n → one_of (codes "turn") (rows_of (found_of options.now)) ≡ Some (decimal n)
+        → one_of (codes "threads") (rows_of (found_of options.now)) ≡ None → result ≡ Some (Task.Run n) }
+    ensures threads { (n m : ℕ) → IsTurn m → one_of (codes "turn") (rows_of (found_of options.now)) ≡ Some (decimal m) → IsThreads n
+        → one_of (codes "threads") (rows_of (found_of options.now)) ≡ Some (decimal n) → result ≡ Some (Task.RunThreads n m) }
     ensures run { IfSome result IsRunTask }
 {
-    run_of(options.get_one::<u32>("turn"))
+    let turn = options.get_one::<u32>("turn");
+    let threads = options.get_one::<u32>("threads");
+    run_of(turn, threads)
 }
 
 /// What the matches ask for.
 fn asked_by(matches: &ArgMatches<'_>) -> Option<Task>
     ensures core { subcommand_name_of matches.now ≡ Some (codes "core") → result ≡ Some Task.Core }
     ensures run { (rows : List Row) (n : ℕ) → subcommand_rows_of matches.now ≡ Some (codes "run", rows) → IsTurn n
-        → one_of (codes "turn") rows ≡ Some (decimal n) → result ≡ Some (Task.Run n) }
+        → one_of (codes "turn") rows ≡ Some (decimal n) → one_of (codes "threads") rows ≡ None → result ≡ Some (Task.Run n) }
+    ensures threads { (rows : List Row) (n m : ℕ) → subcommand_rows_of matches.now ≡ Some (codes "run", rows) → IsTurn m
+        → one_of (codes "turn") rows ≡ Some (decimal m) → IsThreads n → one_of (codes "threads") rows ≡ Some (decimal n) → result ≡ Some (Task.RunThreads n m) }
     ensures turn { IfSome result HasTurn }
     ensures nothing { subcommand_name_of matches.now ≡ None → result ≡ None }
     ensures name { IfSome result (λ task. subcommand_name_of matches.now ≡ Some (name_of task)) }
@@ -87,13 +128,16 @@ fn asked_by(matches: &ArgMatches<'_>) -> Option<Task>
     }
 }
 
-/// What the words ask for, the program's name first: `None` where they name no command. The words `core`, `run`
-/// and `run --turn N`, with N from 1 to 1,000,000, are taken, unless memory runs out.
+/// What the words ask for, the program's name first: `None` where they name no command. The words `core`, `run`,
+/// `run --turn N`, with N from 1 to 1,000,000, and `run --threads N`, with N from 1 to 16, are taken, unless memory runs
+/// out.
 pub fn task_of<S: AsStr>(alloc: Global, words: &[S]) -> Result<Option<Task>, Error>
     ensures core { (name : List ℕ) → map S.text words.now ≡ name ∷ codes "core" ∷ [] → IsTakenAs (Some Task.Core) result }
     ensures run { (name : List ℕ) → map S.text words.now ≡ name ∷ codes "run" ∷ [] → IsTakenAs (Some (Task.Run 1)) result }
     ensures turns { (name : List ℕ) (n : ℕ) → IsTurn n
         → map S.text words.now ≡ name ∷ codes "run" ∷ codes "--turn" ∷ decimal n ∷ [] → IsTakenAs (Some (Task.Run n)) result }
+    ensures threads { (name : List ℕ) (n : ℕ) → IsThreads n
+        → map S.text words.now ≡ name ∷ codes "run" ∷ codes "--threads" ∷ decimal n ∷ [] → IsTakenAs (Some (Task.RunThreads n 1)) result }
     ensures nothing { (name : List ℕ) → map S.text words.now ≡ name ∷ [] → IsTakenAs None result }
     ensures turn { IfOk result (λ task. IfSome task HasTurn) }
 {

@@ -10,6 +10,7 @@ mod program;
 mod report;
 mod run_command;
 mod task;
+mod threads_command;
 
 pub use crate::program::{refused_arguments, tool};
 

@@ -7,7 +7,7 @@ ghost use Rattle.std.specs.IoError.{error_kind};
 ghost use Rattle.std.specs.declared.io.ErrorKind.TheVariants.{OutOfMemory};
 ghost use Rattle.clap.specs.Words.{kind_of};
 ghost use Rattle.gw_tool.specs.Outcomes.{IsAnswer, IsFailureOn, Ends, EndsWith};
-ghost use Rattle.gw_tool.specs.Words.{IsTurn, HasTurn};
+ghost use Rattle.gw_tool.specs.Words.{IsTurn, IsThreads, HasTurn};
 
 use crate::command::task_of;
 use crate::core_command::core_text;
@@ -16,6 +16,7 @@ use crate::input::{InputFault, read_input};
 use crate::output::{WriteFault, write_output};
 use crate::run_command::run_text;
 use crate::task::Task;
+use crate::threads_command::threaded_text;
 use clap::error::ErrorKind;
 use gw_run::RunFault;
 use gw_script::ScriptFault;
@@ -24,9 +25,15 @@ use std::convert::AsStr;
 use std::io;
 use std::io::{Read, Write};
 use std::sync::Wait;
+use std::thread::Threads;
 
 /// The answer to the bytes of the input.
-fn text_of<H: Wait>(rt: &H, alloc: Global, task: Task, bytes: &[u8]) -> Result<Vec<u8>, Failure>
+fn text_of<H: Threads + Wait + Copy + Send + 'static>(
+    rt: &H,
+    alloc: Global,
+    task: Task,
+    bytes: &[u8],
+) -> Result<Vec<u8>, Failure>
     requires { HasTurn task }
     ensures ok { IfOk result (λ text. IsAnswer task bytes.now text.items) }
     ensures err { IfErr result (IsFailureOn task bytes.now) }
@@ -34,11 +41,12 @@ fn text_of<H: Wait>(rt: &H, alloc: Global, task: Task, bytes: &[u8]) -> Result<V
     match task {
         Task::Core => core_text(alloc, bytes),
         Task::Run { turn } => run_text(rt, alloc, bytes, turn),
+        Task::RunThreads { threads, turn } => threaded_text(rt, alloc, bytes, threads, turn),
     }
 }
 
 /// Reads all there is, and writes the answer to it and nothing else.
-fn carry_out<H: Wait, R: Read, W: Write>(
+fn carry_out<H: Threads + Wait + Copy + Send + 'static, R: Read, W: Write>(
     rt: &H,
     alloc: Global,
     task: Task,
@@ -65,7 +73,7 @@ fn carry_out<H: Wait, R: Read, W: Write>(
 }
 
 /// Does what was asked for, and answers the status that the program then ends with.
-fn status_after<H: Wait, R: Read, W: Write, E: Write>(
+fn status_after<H: Threads + Wait + Copy + Send + 'static, R: Read, W: Write, E: Write>(
     rt: &H,
     alloc: Global,
     task: Task,
@@ -89,7 +97,7 @@ fn status_after<H: Wait, R: Read, W: Write, E: Write>(
 /// 0 done, 2 the input is refused, 3 memory ran out or a thread could not be started, 64 the words ask for
 /// nothing, 74 a read or a write fault. What went wrong is told on `faults`, and then nothing is written to
 /// `output`, but that a write fault may come in the middle. The text of help and usage is clap's.
-pub fn tool<H: Wait, S: AsStr, R: Read, W: Write, E: Write>(
+pub fn tool<H: Threads + Wait + Copy + Send + 'static, S: AsStr, R: Read, W: Write, E: Write>(
     rt: &H,
     alloc: Global,
     words: &[S],
@@ -104,6 +112,9 @@ pub fn tool<H: Wait, S: AsStr, R: Read, W: Write, E: Write>(
     ensures turns { (name : List ℕ) (n : ℕ) → IsTurn n
         → map S.text words.now ≡ name ∷ codes "run" ∷ codes "--turn" ∷ decimal n ∷ []
         → EndsWith (Task.Run n) (R.remaining input.old) (W.contents output.old) (W.contents output.new) result }
+    ensures threads { (name : List ℕ) (n : ℕ) → IsThreads n
+        → map S.text words.now ≡ name ∷ codes "run" ∷ codes "--threads" ∷ decimal n ∷ []
+        → EndsWith (Task.RunThreads n 1) (R.remaining input.old) (W.contents output.old) (W.contents output.new) result }
     ensures nothing { (name : List ℕ) → map S.text words.now ≡ name ∷ []
         → ((result ≡ 64) ⊎ (result ≡ 3)) × Keeps (W.contents output.old) (W.contents output.new) }
     ensures usage { result ≡ 64 → Keeps (W.contents output.old) (W.contents output.new) }

@@ -7,6 +7,7 @@ use std::alloc::AllocError;
 use std::io;
 use std::io::{Error, ErrorKind, Read, Write};
 use std::sync::Wait;
+use std::thread::Threads;
 
 mod errors;
 mod event_lists;
@@ -24,7 +25,11 @@ struct Run {
     faults: Vec<u8>,
 }
 
-fn run_of<H: Wait + AllocGlobal>(rt: &H, words: &[&str], mut input: &[u8]) -> Run {
+fn run_of<H: Threads + Wait + AllocGlobal + Copy + Send + 'static>(
+    rt: &H,
+    words: &[&str],
+    mut input: &[u8],
+) -> Run {
     let alloc = rt.alloc();
     let mut output = Vec::new(alloc);
     let mut faults = Vec::new(alloc);
@@ -37,7 +42,7 @@ fn run_of<H: Wait + AllocGlobal>(rt: &H, words: &[&str], mut input: &[u8]) -> Ru
 }
 
 /// Whether a command refuses this input for this fault, and writes nothing.
-fn is_refused<H: Wait + AllocGlobal>(
+fn is_refused<H: Threads + Wait + AllocGlobal + Copy + Send + 'static>(
     rt: &H,
     command: &str,
     input: &[u8],
@@ -203,6 +208,12 @@ fn asks_for_a_number_of_bits(rt: HostRuntime) {
         ["bxgate", "run", "--turn", "1", "1"].as_slice(),
         ["bxgate", "run", "1"].as_slice(),
         ["bxgate", "run", "--turns", "1"].as_slice(),
+        ["bxgate", "run", "--threads"].as_slice(),
+        ["bxgate", "run", "--threads", "0"].as_slice(),
+        ["bxgate", "run", "--threads", "17"].as_slice(),
+        ["bxgate", "run", "--threads", "four"].as_slice(),
+        ["bxgate", "run", "--threads", "4", "--threads", "4"].as_slice(),
+        ["bxgate", "run", "--threads", "4", "--turn", "0"].as_slice(),
     ] {
         let run = run_of(&rt, words, runs::ONE_FRAME.as_bytes());
         assert_eq!(rt; run.status, 64);
@@ -213,6 +224,8 @@ fn asks_for_a_number_of_bits(rt: HostRuntime) {
     for words in [
         ["bxgate", "run", "--turn", "1"].as_slice(),
         ["bxgate", "run", "--turn=1000000"].as_slice(),
+        ["bxgate", "run", "--threads", "16"].as_slice(),
+        ["bxgate", "run", "--turn", "2", "--threads", "1"].as_slice(),
     ] {
         let run = run_of(&rt, words, b"{}");
         assert_eq!(rt; run.status, 2);

@@ -4,6 +4,7 @@ use crate::tests::run_of;
 use std::alloc::{AllocError, Global};
 use std::sync::Wait;
 use std::test::Fail;
+use std::thread::Threads;
 
 /// A talker with one frame, and a listener.
 pub const ONE_FRAME: &str =
@@ -106,7 +107,7 @@ const LAST_BUT_ONE_REPORT: &str = "a 11 t started 000 data -\n\
      a node l tec 0 rec 0 active\n\
      a end 131\n";
 
-pub fn is_reported<H: Wait + AllocGlobal>(
+pub fn is_reported<H: Threads + Wait + AllocGlobal + Copy + Send + 'static>(
     rt: &H,
     words: &[&str],
     script: &str,

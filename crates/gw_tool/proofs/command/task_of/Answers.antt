@@ -1,9 +1,9 @@
 -- The words are those that clap takes.
-use Rattle.std.proofs.Common.{ap, sym, option_map, arith, ◌∙◌, Some}
+use Rattle.std.proofs.Common.{ap, sym, option_map, arith, ◌∙◌, Some, refl}
 use Rattle.std.proofs.lemmas.Fmt.{decimal_digit}
 use Rattle.clap.specs.Words.{subcommand_of, takes}
 use Rattle.gw_tool.specs.Words.{bxgate_app, IsTurn}
-use Rattle.gw_tool.proofs.CommandLine.{is_simple_app, name_from_rows, core_is_met, core_is_taken, nothing_is_met, nothing_is_taken, run_is_met, run_is_taken, turns_are_met}
+use Rattle.gw_tool.proofs.CommandLine.{is_simple_app, name_from_rows, core_is_met, core_is_taken, nothing_is_met, nothing_is_taken, run_is_met, run_is_taken, turns_are_met, threads_are_met, alone_at_first}
 use Rattle.gw_tool.proofs.command.task_of.Goals as goal
 
 pub returns-in-Ok-clause-core : goal.returns-in-Ok-clause-core
@@ -15,7 +15,7 @@ pub returns-in-Ok-clause-run : goal.returns-in-Ok-clause-run
 returns-in-Ok-clause-run g c name words_are =
     let met = (c.in-Ok.ensures.matches is_simple_app).1 ∙ ap (subcommand_of bxgate_app) words_are in
     let turn : IsTurn 1 = (omega arith, omega arith) in
-    c.asked_by.ensures.run _ 1 (met ∙ run_is_met name) turn (sym (ap Some (decimal_digit 1 (omega arith))))
+    c.asked_by.ensures.run _ 1 (met ∙ run_is_met name) turn (sym (ap Some (decimal_digit 1 (omega arith)))) alone_at_first
 
 pub returns-in-Err-clause-core : goal.returns-in-Err-clause-core
 returns-in-Err-clause-core g c name words_are = c.in-Err.ensures.fails (ap (takes bxgate_app) words_are ∙ core_is_taken name)
@@ -26,10 +26,20 @@ returns-in-Err-clause-run g c name words_are = c.in-Err.ensures.fails (ap (takes
 pub returns-in-Ok-clause-turns : goal.returns-in-Ok-clause-turns
 returns-in-Ok-clause-turns g c name n turn words_are =
     let met = (c.in-Ok.ensures.matches is_simple_app).1 ∙ ap (subcommand_of bxgate_app) words_are in
-    c.asked_by.ensures.run _ n (met ∙ (turns_are_met name n turn).met) turn (turns_are_met name n turn).one
+    c.asked_by.ensures.run _ n (met ∙ (turns_are_met name n turn).met) turn (turns_are_met name n turn).one (turns_are_met name n turn).alone
 
 pub returns-in-Err-clause-turns : goal.returns-in-Err-clause-turns
 returns-in-Err-clause-turns g c name n turn words_are = c.in-Err.ensures.fails (ap (takes bxgate_app) words_are ∙ (turns_are_met name n turn).taken)
+
+pub returns-in-Ok-clause-threads : goal.returns-in-Ok-clause-threads
+returns-in-Ok-clause-threads g c name n some words_are =
+    let met = (c.in-Ok.ensures.matches is_simple_app).1 ∙ ap (subcommand_of bxgate_app) words_are in
+    let turn : IsTurn 1 = (omega arith, omega arith) in
+    let given = threads_are_met name n some in
+    c.asked_by.ensures.threads _ n 1 (met ∙ given.met) turn (given.turn ∙ sym (ap Some (decimal_digit 1 (omega arith)))) some given.one
+
+pub returns-in-Err-clause-threads : goal.returns-in-Err-clause-threads
+returns-in-Err-clause-threads g c name n some words_are = c.in-Err.ensures.fails (ap (takes bxgate_app) words_are ∙ (threads_are_met name n some).taken)
 
 pub returns-in-Ok-clause-nothing : goal.returns-in-Ok-clause-nothing
 returns-in-Ok-clause-nothing g c name words_are =

@@ -1,10 +1,10 @@
 -- An input that is too long has that as its first fault. Else what comes is the answer to the bytes that were read, which
 -- are the whole input.
-use Rattle.std.proofs.Common.{rules, refl, subst, ℕ, List, take}
+use Rattle.std.proofs.Common.{rules, subst, ℕ, List, take}
 use Rattle.std.specs.Io.KnownBytes.{Appends}
 use Rattle.std.proofs.lemmas.Option.{IfSome_then}
 use Rattle.gw_fields.specs.Documents.{too_long}
-use Rattle.gw_tool.proofs.Endings.{answered, begun, fails_on, keeps_all, no_document, shown_whole}
+use Rattle.gw_tool.proofs.Endings.{answered, begun, fails_on, keeps_all, no_document, shown_whole, wants_memory}
 use Rattle.gw_tool.proofs.program.carry_out.Goals as goal
 
 pub returns-in-Err-TooLong : goal.returns-in-Err-TooLong
@@ -15,7 +15,7 @@ returns-in-Err-TooLong g c = (
 )
 
 pub returns-in-Err-Memory : goal.returns-in-Err-Memory
-returns-in-Err-Memory g c = (refl, keeps_all (g.W.Write.contents c.args.output.now))
+returns-in-Err-Memory g c = (wants_memory c.args.task, keeps_all (g.W.Write.contents c.args.output.now))
 
 pub returns-in-Err-Read : goal.returns-in-Err-Read
 returns-in-Err-Read g c = keeps_all (g.W.Write.contents c.args.output.now)

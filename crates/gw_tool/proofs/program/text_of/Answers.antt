@@ -16,3 +16,9 @@ returns-in-Core-clause-err g c = search rules
 
 pub returns-in-Run-clause-err : goal.returns-in-Run-clause-err
 returns-in-Run-clause-err g c = search rules
+
+pub returns-in-RunThreads-clause-ok : goal.returns-in-RunThreads-clause-ok
+returns-in-RunThreads-clause-ok g c = search rules
+
+pub returns-in-RunThreads-clause-err : goal.returns-in-RunThreads-clause-err
+returns-in-RunThreads-clause-err g c = search rules
