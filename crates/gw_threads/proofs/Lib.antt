@@ -2,4 +2,3 @@ pub mod Joins
 pub mod Pacing
 pub mod Seats
 pub mod Turns
-pub mod Doubles

@@ -1,3 +1,2 @@
 pub mod Clocks
 pub mod Workers
-pub mod Doubles

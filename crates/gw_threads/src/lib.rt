@@ -19,6 +19,3 @@ mod worker_threads;
 pub use crate::thread_fault::ThreadFault;
 pub use crate::threads::run_in_threads;
 pub use crate::worker::Worker;
-
-#[cfg(test)]
-mod tests;
