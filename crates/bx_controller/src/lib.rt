@@ -6,6 +6,3 @@ mod port;
 
 pub use crate::intake::Intake;
 pub use crate::port::Port;
-
-#[cfg(test)]
-mod tests;

@@ -37,8 +37,3 @@ pub use crate::route_tx::RouteTx;
 pub use crate::status::Status;
 pub use crate::tx_bus::TxBus;
 pub use crate::waiting::Waiting;
-
-#[cfg(test)]
-mod priority_tests;
-#[cfg(test)]
-mod tests;

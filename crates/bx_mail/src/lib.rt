@@ -15,6 +15,3 @@ pub use crate::post::Post;
 pub use crate::post_bus::PostBus;
 pub use crate::post_route::PostRoute;
 pub use crate::posting::{Asks, Posting};
-
-#[cfg(test)]
-mod tests;

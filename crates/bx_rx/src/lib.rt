@@ -25,6 +25,3 @@ pub use crate::rx_in::RxIn;
 pub use crate::rx_out::RxOut;
 pub use crate::scale::Scale;
 pub use can_frame::Memory;
-
-#[cfg(test)]
-mod tests;

@@ -26,6 +26,3 @@ pub use crate::reader::Reader;
 pub use crate::rewrite::{Rewrite, rewritten};
 pub use crate::sending::wire;
 pub use crate::step::{FaultKind, Step};
-
-#[cfg(test)]
-mod tests;

@@ -22,6 +22,3 @@ pub use crate::record::Record;
 pub use crate::rx_sink::RxSink;
 pub use crate::seg_fault::SegFault;
 pub use crate::segment::Segment;
-
-#[cfg(test)]
-mod tests;

@@ -10,6 +10,3 @@ pub use crate::log::Log;
 pub use crate::planned_abort::PlannedAbort;
 pub use crate::route_hand::RouteHand;
 pub use crate::turn_answer::TurnAnswer;
-
-#[cfg(test)]
-mod tests;

@@ -14,8 +14,3 @@ mod world;
 pub use crate::inline::run_inline;
 pub use crate::run_fault::RunFault;
 pub use crate::threaded::{all_by_order, run_threads};
-
-#[cfg(test)]
-mod tests;
-#[cfg(test)]
-mod threaded_tests;

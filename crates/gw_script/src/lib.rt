@@ -22,8 +22,3 @@ pub use gw_config::{
     Controller, NodePlace, PlannedAbort, PlannedFault, Route, Script, Segment, Talker, read,
 };
 pub use gw_fields::{LIMIT, ScriptFault};
-
-#[cfg(test)]
-mod report_tests;
-#[cfg(test)]
-mod tests;

@@ -48,62 +48,12 @@ fn reports_on_a_route_that_rewrites(rt: HostRuntime) -> Result<(), Fail> {
 }
 
 #[test]
-fn tells_what_is_wrong_with_rewriting(rt: HostRuntime) -> Result<(), Fail> {
+fn takes_a_route_that_rewrites(rt: HostRuntime) -> Result<(), Fail> {
     let alloc = rt.alloc();
     let old = r#""to":"d""#;
     let new = r#""to":"d","rewrite":[{"id":13,"ext":false,"new_id":14,"new_ext":true}]"#;
     let one = changed(alloc, EACH_FIELD, old, new)?;
     let two = changed(alloc, one.as_str(), r#""version":1"#, r#""version":2"#)?;
-    for (old, new, fault) in [
-        (
-            r#""rewrite":[{"#,
-            r#""rewrite":{},"x":[{"#,
-            "J3 Kind rewrite",
-        ),
-        (
-            r#""rewrite":[{"#,
-            r#""rewrite":null,"x":[{"#,
-            "J3 Kind rewrite",
-        ),
-        (r#""rewrite":[{"#, r#""rewrite":[0,{"#, "J3 Kind rewrite"),
-        // a target that is not there is told first
-        (
-            r#""to":"d","rewrite":["#,
-            r#""to":"b","rewrite":[0,"#,
-            "J5 UnknownName to",
-        ),
-        (r#""id":13"#, r#""x":13"#, "J2 Missing id"),
-        (r#""id":13"#, r#""id":-1"#, "J3 Kind id"),
-        (r#""id":13"#, r#""id":2048"#, "J4 Range id"),
-        // its range stands behind the other fields
-        (r#"13,"ext":false"#, r#"2048,"ext":0"#, "J3 Kind ext"),
-        (
-            r#"13,"ext":false,"new_id":14"#,
-            r#"2048,"ext":false,"x":0"#,
-            "J2 Missing new_id",
-        ),
-        (
-            r#"13,"ext":false"#,
-            r#"536870912,"ext":true"#,
-            "J4 Range id",
-        ),
-        (r#"13,"ext":false"#, r#"13,"x":false"#, "J2 Missing ext"),
-        (r#""new_id":14"#, r#""new_id":"14""#, "J3 Kind new_id"),
-        (r#""new_id":14"#, r#""new_id":536870912"#, "J4 Range new_id"),
-        (
-            r#"14,"new_ext":true"#,
-            r#"2048,"new_ext":false"#,
-            "J4 Range new_id",
-        ),
-        (r#""new_ext":true"#, r#""x":true"#, "J2 Missing new_ext"),
-        (r#""new_ext":true"#, r#""new_ext":1"#, "J3 Kind new_ext"),
-    ] {
-        let script = changed(alloc, two.as_str(), old, new)?;
-        assert!(rt;
-            is_refused(&rt, "run", script.as_str().as_bytes(), fault)?,
-            "{new}"
-        );
-    }
     // in version 1 the field says nothing
     let nothing = changed(alloc, one.as_str(), r#""rewrite":["#, r#""rewrite":[0,"#)?;
     for script in [one, two, nothing] {

@@ -1,0 +1,78 @@
+//! `Segment::bit`: node-bits a second of segments of 2, 8 and 16 talkers, on an idle line and on one where all of them
+//! always have frames to send; and how many bytes a line of a record takes.
+
+ghost use Rattle.std.specs.Prelude.{◌≡◌, IfOk, length};
+ghost use Rattle.can_segment.specs.Segments.{Fit};
+
+use crate::nodes::frame_of;
+use crate::rate::millions;
+use bx_controller::Port;
+use bx_core::PlainMail;
+use can_segment::{Event, RxSink, SegFault, Segment, SegmentPlan, Talker};
+use std::alloc::{AllocError, Global};
+use std::io;
+use std::mem::size_of;
+use std::time::Instant;
+
+const BITS: u64 = 1_000_000;
+
+fn talker(alloc: Global, id: u16, times: u32) -> Result<Talker, AllocError> {
+    let mut frames = Vec::new(alloc);
+    for _ in 0..times {
+        frames.push(frame_of(id))?;
+    }
+    Ok(Talker { on: 0, frames })
+}
+
+fn plan_of(alloc: Global, size: u16, times: u32) -> Result<SegmentPlan, AllocError> {
+    let mut talkers = Vec::new(alloc);
+    for id in 0..size {
+        talkers.push(talker(alloc, id, times)?)?;
+    }
+    Ok(SegmentPlan {
+        bits: BITS,
+        talkers,
+        controllers: Vec::new(alloc),
+        node_faults: Vec::new(alloc),
+        line_faults: Vec::new(alloc),
+    })
+}
+
+/// A segment without controllers.
+fn segment_of(alloc: Global, plan: SegmentPlan) -> Result<Segment, SegFault>
+    ensures { IfOk result (λ segment. length segment.sending ≡ 0) }
+{
+    if !plan.controllers.is_empty() || plan.talkers.len() > 16 {
+        return Err(SegFault::Ended);
+    }
+    Segment::new(alloc, plan)
+}
+
+fn make_bits<P: RxSink<()>>(segment: &mut Segment, ports: &mut [P]) -> Result<(), SegFault>
+    requires { Fit P.transmitting segment.old ports.old }
+{
+    for _ in 0..BITS {
+        segment.bit(&(), ports)?;
+    }
+    Ok(())
+}
+
+/// Prints the rate of each segment.
+pub fn measure(rt: &HostRuntime) -> io::Result<()> {
+    println!(rt; "a line of a record takes {} bytes", size_of::<Event>())?;
+    for size in [2u16, 8, 16] {
+        for (name, times) in [("idle", 0u32), ("busy", 10_000)] {
+            let plan = plan_of(rt.alloc(), size, times)?;
+            let Ok(mut segment) = segment_of(rt.alloc(), plan) else {
+                return println!(rt; "no memory");
+            };
+            let mut ports: [Port<PlainMail>; 0] = [];
+            let start = Instant::now(rt)?;
+            let done = make_bits(&mut segment, &mut ports).is_ok();
+            let rate = millions(rt.alloc(), BITS * u64::from(size), start.elapsed(rt)?)?;
+            let lines = segment.record().events.len();
+            println!(rt; "{size} nodes, {name}: {rate} node-bits a second, {lines} lines, {done}")?;
+        }
+    }
+    Ok(())
+}

@@ -1,0 +1,147 @@
+//! Worked cases of a controller that sends requests.
+
+ghost use Rattle.std.specs.Prelude.{◌≡◌, None, IfSome};
+ghost use Rattle.bx_core.specs.PlainMail.{core_of, sending};
+
+use super::{Port, completed, data_frame, make_bits, plan_of, started, talker, took};
+use bx_core::{NoGate, PlainMail, PlainRoute, RouteTx, Sent};
+use can_frame::{Frame, Id};
+use can_segment::{Controller, Event, Label, SegFault, Segment, SegmentPlan, Told};
+use std::alloc::{AllocError, Global};
+use std::test::Fail;
+
+/// A controller with one request of its only route, unless memory is refused.
+fn port_with(alloc: Global, frame: Frame) -> Option<Port>
+    ensures { IfSome result (λ port. sending (core_of port.mail) ≡ None) }
+{
+    let mut mail = PlainMail::new(alloc, 1);
+    let mut side = PlainRoute {
+        mail: &mut mail,
+        route: 0,
+    };
+    if side.request(&(), 1, frame, &mut NoGate) == Ok(Sent::Yes) {
+        return Some(Port { mail, taken: 0 });
+    }
+    None
+}
+
+/// A talker's frame loses arbitration against a controller's request. The controller's sink is offered the
+/// talker's frame, and not its own.
+#[test]
+fn a_request_is_sent_and_a_frame_is_taken(rt: HostRuntime) -> Result<(), Fail> {
+    let frame = data_frame()?;
+    let second = Frame::with_bytes(Id::standard(1)?, &[])?;
+    let mut plan = plan_of(rt.alloc(), 113);
+    plan.talkers.push(talker(rt.alloc(), 0, second, 1)?)?;
+    plan.controllers.push(Controller { on: 0 })?;
+    if plan.talkers.len() != 1 || plan.controllers.len() != 1 {
+        return Err(SegFault::Ended.into());
+    }
+    let Some(port) = port_with(rt.alloc(), frame) else {
+        return Err(SegFault::Memory.into());
+    };
+    let mut ports = [port];
+    match Segment::new(rt.alloc(), plan) {
+        Ok(mut segment) => {
+            make_bits(&mut segment, &mut ports, 113)?;
+            let label = Some(Label {
+                route: 0,
+                number: 1,
+            });
+            assert!(rt;
+                segment.record().events.as_slice()
+                    == [
+                        started(11, 0, second),
+                        Event {
+                            bit: 11,
+                            node: 1,
+                            told: Told::Started { frame, label }
+                        },
+                        Event {
+                            bit: 24,
+                            node: 0,
+                            told: Told::Lost { start: 11 }
+                        },
+                        took(59, 0, 11, frame),
+                        Event {
+                            bit: 60,
+                            node: 1,
+                            told: Told::Completed {
+                                start: 11,
+                                frame,
+                                label
+                            }
+                        },
+                        started(64, 0, second),
+                        took(109, 1, 64, second),
+                        completed(110, 0, 64, second),
+                    ]
+                    .as_slice()
+            );
+            assert_eq!(rt; ports[0].taken, 1);
+            assert!(rt; ports[0].mail.core().waiting(0).is_empty());
+            Ok(())
+        }
+        Err(fault) => Err(fault.into()),
+    }
+}
+
+/// A plan of a listener and a controller.
+fn listener_and_controller(alloc: Global, frame: Frame) -> Result<SegmentPlan, AllocError> {
+    let mut plan = plan_of(alloc, 64);
+    plan.talkers.push(talker(alloc, 0, frame, 0)?)?;
+    plan.controllers.push(Controller { on: 0 })?;
+    Ok(plan)
+}
+
+/// Whether a request that is sent to a listener gives the record that it gives with ample memory; `None` where memory
+/// was refused before the first bit.
+fn sends_in_spite(alloc: Global, frame: Frame) -> Option<bool> {
+    let Ok(plan) = listener_and_controller(alloc, frame) else {
+        return None;
+    };
+    if plan.talkers.len() != 1 || plan.controllers.len() != 1 {
+        return Some(false);
+    }
+    let mut ports = [port_with(alloc, frame)?];
+    let Ok(mut segment) = Segment::new(alloc, plan) else {
+        return None;
+    };
+    if make_bits(&mut segment, &mut ports, 64).is_err() {
+        return Some(false);
+    }
+    let label = Some(Label {
+        route: 0,
+        number: 1,
+    });
+    let lines = [
+        Event {
+            bit: 11,
+            node: 1,
+            told: Told::Started { frame, label },
+        },
+        took(59, 0, 11, frame),
+        Event {
+            bit: 60,
+            node: 1,
+            told: Told::Completed {
+                start: 11,
+                frame,
+                label,
+            },
+        },
+    ];
+    let same = segment.record().events.as_slice() == lines.as_slice();
+    Some(same && segment.record().levels.len() == 64 && ports[0].taken == 0)
+}
+
+/// With any one growth refused, a plan or a segment is not made, or a bit that was refused has changed nothing: it
+/// is made again, and the record is the same as ever.
+#[test]
+fn a_bit_that_is_refused_memory_changes_nothing(rt: HostRuntime) -> Result<(), Fail> {
+    let frame = data_frame()?;
+    if let Some(same) = sends_in_spite(rt.alloc(), frame) {
+        assert!(rt; same);
+    }
+    Ok(())
+}

@@ -1,0 +1,131 @@
+ghost use Rattle.std.specs.Prelude.{◌≡◌, ◌<◌, length};
+ghost use Rattle.bx_core.specs.PlainMail.{core_of};
+ghost use Rattle.bx_core.specs.Stands.{RouteStands};
+ghost use Rattle.gw_route.specs.RouteHand.{hand_value, IsLinked};
+
+use arrayvec::ArrayVec;
+use bx_core::{Entry, NoGate, PlainMail, PlainRoute, TxBus};
+use bx_rx::{Memory, RxFifo, RxFrame};
+use can_frame::{Frame, Id, Rewrite};
+use gw_route::{PlannedAbort, RouteHand, TurnAnswer};
+use std::sync::Wait;
+use std::test::Fail;
+
+/// A data frame of this identifier, with no bytes.
+fn data(number: u16) -> Result<Frame, Fail> {
+    Ok(Frame::with_bytes(Id::standard(number)?, &[])?)
+}
+
+fn received(frame: Frame) -> RxFrame {
+    RxFrame {
+        frame,
+        filter_number: 0,
+    }
+}
+
+/// A turn of a hand into route 0 of a mail.
+fn turns<R: Wait>(rt: &R, hand: &mut RouteHand, mail: &mut PlainMail) -> Result<TurnAnswer, Memory>
+    requires route { 0 < length (core_of mail.old).routes }
+    requires linked { IsLinked (RouteStands (core_of mail.old) 0) (hand_value hand.old) }
+    ensures route { 0 < length (core_of mail.new).routes }
+    ensures linked { IsLinked (RouteStands (core_of mail.new) 0) (hand_value hand.new) }
+{
+    let mut side = PlainRoute { mail, route: 0 };
+    hand.turn(rt, &mut side, &mut NoGate)
+}
+
+#[test]
+fn a_frame_is_released_and_requested(rt: HostRuntime) -> Result<(), Fail> {
+    let (mut rxin, rxout) = RxFifo::pair(rt.alloc())?;
+    let mut mail = PlainMail::new(rt.alloc(), 1);
+    let mut hand = RouteHand::new(rt.alloc(), rxout, Vec::new(rt.alloc()), ArrayVec::new());
+    let frame = data(5)?;
+    rxin.offer(&rt, received(frame));
+    assert_eq!(rt; turns(&rt, &mut hand, &mut mail), Ok(TurnAnswer::Requested));
+    assert!(rt; hand.hand.is_none());
+    assert_eq!(rt; turns(&rt, &mut hand, &mut mail), Ok(TurnAnswer::Idle));
+    assert_eq!(rt; (hand.tickets, hand.turns), (1, 2));
+    Ok(())
+}
+
+#[test]
+fn a_refused_frame_waits_until_an_abort(rt: HostRuntime) -> Result<(), Fail> {
+    let (mut rxin, rxout) = RxFifo::pair(rt.alloc())?;
+    let mut mail = PlainMail::new(rt.alloc(), 1);
+    let mut aborts = Vec::new(rt.alloc());
+    aborts.push(PlannedAbort { number: 2, turn: 5 })?;
+    aborts.push(PlannedAbort { number: 2, turn: 1 })?;
+    let mut hand = RouteHand::new(rt.alloc(), rxout, aborts, ArrayVec::new());
+    let frame = data(5)?;
+    rxin.offer(&rt, received(frame));
+    rxin.offer(&rt, received(frame));
+    rxin.offer(&rt, received(frame));
+    assert_eq!(rt; turns(&rt, &mut hand, &mut mail), Ok(TurnAnswer::Requested));
+    assert_eq!(rt; turns(&rt, &mut hand, &mut mail), Ok(TurnAnswer::Requested));
+    assert_eq!(rt; turns(&rt, &mut hand, &mut mail), Ok(TurnAnswer::Requested));
+    rxin.offer(&rt, received(frame));
+    assert_eq!(rt; turns(&rt, &mut hand, &mut mail), Ok(TurnAnswer::Waiting));
+    assert!(rt; hand.hand == Some(Entry { number: 4, frame }));
+    // turn 5 ends number 2, and in turn 6 that number is gone
+    assert_eq!(rt; turns(&rt, &mut hand, &mut mail), Ok(TurnAnswer::AbortDone));
+    assert_eq!(rt; turns(&rt, &mut hand, &mut mail), Ok(TurnAnswer::AbortDone));
+    assert!(rt; hand.log.aborted.as_slice() == [2].as_slice());
+    assert_eq!(rt; turns(&rt, &mut hand, &mut mail), Ok(TurnAnswer::Requested));
+    assert!(rt; mail.core().waiting(0).as_slice() == [1, 3, 4].as_slice());
+    Ok(())
+}
+
+/// The first entry for an identifier counts, and once: 5 becomes 6, and not 7.
+#[test]
+fn a_frame_is_requested_under_its_new_identifier(rt: HostRuntime) -> Result<(), Fail> {
+    let (mut rxin, rxout) = RxFifo::pair(rt.alloc())?;
+    let mut mail = PlainMail::new(rt.alloc(), 1);
+    let mut rewrites = ArrayVec::new();
+    for (from, to) in [(5u16, 6u16), (5, 8), (6, 7)] {
+        if !rewrites.is_full() {
+            let from = Id::standard(from)?;
+            let to = Id::standard(to)?;
+            rewrites.push(Rewrite { from, to });
+        }
+    }
+    let mut hand = RouteHand::new(rt.alloc(), rxout, Vec::new(rt.alloc()), rewrites);
+    let frame = data(5)?;
+    rxin.offer(&rt, received(frame));
+    assert_eq!(rt; turns(&rt, &mut hand, &mut mail), Ok(TurnAnswer::Requested));
+    let sent = data(6)?;
+    assert!(rt; mail.ready(&rt));
+    assert!(rt; mail.start(&rt) == Some((0, 1, sent)));
+    assert!(rt; hand.log.released.as_slice() == [frame].as_slice());
+    Ok(())
+}
+
+/// What the FIFO has is released by the first turn that memory isn't refused to.
+#[test]
+fn a_turn_that_is_refused_memory_changes_nothing(rt: HostRuntime) -> Result<(), Fail> {
+    let Ok((mut rxin, rxout)) = RxFifo::pair(rt.alloc()) else {
+        return Ok(());
+    };
+    let mut mail = PlainMail::new(rt.alloc(), 1);
+    let mut hand = RouteHand::new(rt.alloc(), rxout, Vec::new(rt.alloc()), ArrayVec::new());
+    let frame = data(5)?;
+    rxin.offer(&rt, received(frame));
+    let first = turns(&rt, &mut hand, &mut mail);
+    if first == Err(Memory) {
+        assert!(rt; hand.hand.is_none() && hand.log.released.is_empty());
+        assert_eq!(rt; (hand.tickets, hand.turns), (0, 0));
+    }
+    let second = turns(&rt, &mut hand, &mut mail);
+    if first == Ok(TurnAnswer::Requested) {
+        assert_eq!(rt; second, Ok(TurnAnswer::Idle));
+        return Ok(());
+    }
+    if first == Ok(TurnAnswer::Waiting) {
+        assert!(rt; mail.short());
+    } else {
+        assert_eq!(rt; first, Err(Memory));
+    }
+    assert_eq!(rt; second, Ok(TurnAnswer::Requested));
+    assert!(rt; hand.log.released.as_slice() == [frame].as_slice());
+    assert_eq!(rt; hand.tickets, 1);
+    Ok(())
+}
