@@ -3,8 +3,10 @@
 
 mod lanes;
 mod orders;
+mod payloads;
 
 pub use crate::lanes::{
     fail_mask, lane, lane_mask, with_abort, with_claim, with_request, with_schedule, with_start,
 };
 pub use crate::orders::{least, oldest};
+pub use crate::payloads::{key, pack, unpack};
