@@ -1,0 +1,4 @@
+pub mod Bits
+pub mod Cases
+pub mod LaneSteps
+pub mod Unpacking
