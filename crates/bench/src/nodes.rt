@@ -13,8 +13,10 @@ const BITS: u64 = 1_000_000;
 /// Eight bytes, so that most bits of the bus are data.
 pub fn frame_of(id: u16) -> Frame {
     match Id::standard(id % 2048) {
-        Ok(id) => Frame::with_bytes(id, &[0x12, 0x34, 0x56, 0x78, 0x9A, 0xBC, 0xDE, 0xF0])
-            .unwrap_or_default(),
+        Ok(id) => Frame::with_bytes(
+            id,
+            &[0x12, 0x34, 0x56, 0x78, 0x9A, 0xBC, 0xDE, 0xF0],
+        ).unwrap_or_default(),
         Err(_) => Frame::default(),
     }
 }

@@ -48,11 +48,15 @@ fn segment_of(alloc: Global, plan: SegmentPlan) -> Result<Segment, SegFault>
     Segment::new(alloc, plan)
 }
 
-fn make_bits<P: RxSink<()>>(segment: &mut Segment, ports: &mut [P]) -> Result<(), SegFault>
+fn make_bits<R, P: RxSink<R>>(
+    rt: &R,
+    segment: &mut Segment,
+    ports: &mut [P],
+) -> Result<(), SegFault>
     requires { Fit P.transmitting segment.old ports.old }
 {
     for _ in 0..BITS {
-        segment.bit(&(), ports)?;
+        segment.bit(rt, ports)?;
     }
     Ok(())
 }
@@ -68,7 +72,7 @@ pub fn measure(rt: &HostRuntime) -> io::Result<()> {
             };
             let mut ports: [Port<PlainMail>; 0] = [];
             let start = Instant::now(rt)?;
-            let done = make_bits(&mut segment, &mut ports).is_ok();
+            let done = make_bits(rt, &mut segment, &mut ports).is_ok();
             let rate = millions(rt.alloc(), BITS * u64::from(size), start.elapsed(rt)?)?;
             let lines = segment.record().events.len();
             println!(rt; "{size} nodes, {name}: {rate} node-bits a second, {lines} lines, {done}")?;
