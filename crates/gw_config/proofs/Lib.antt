@@ -1,6 +1,5 @@
-pub mod Snoc
+pub mod Lists
 pub mod NameLaws
-pub mod BankLaws
 pub mod NodeLaws
 pub mod WhereLaws
 pub mod SoundLaws

@@ -1,15 +1,18 @@
 //! The filter banks that a script lists for a controller.
 
-ghost use Rattle.std.specs.Prelude.{◌≡◌, ◌<◌, ◌==◌, IfOk};
+ghost use Rattle.std.specs.Prelude.{◌≡◌, ◌<◌, ◌==◌, All, IfOk, replicate};
 ghost use Rattle.std.specs.List.{list_any};
 ghost use Rattle.serde_json.specs.View.{view, items_view};
+ghost use Rattle.bx_rx.specs.Bank.{unlisted};
 ghost use Rattle.bx_rx.specs.Banks.{bank_count};
 ghost use Rattle.gw_fields.specs.Faults.{Reads, ReadsUnlessMemory};
-ghost use Rattle.gw_config.specs.BankLists.{scale_with, scale_of, mode_with, mode_of, settings_of, number_of, listed_bank, banks_with, banks_of};
+ghost use Rattle.gw_config.specs.BankLists.{scale_with, scale_of, mode_with, mode_of, settings_of, number_of, set_all, banks_with, banks_of};
 
 use crate::version::Version;
 use bx_rx::{Bank, Banks, Mode, Scale};
-use gw_fields::{ScriptFault, list, natural, object_of, text, truth, whole};
+use gw_fields::{
+    ReadsElement, ScriptFault, list, natural, object_of, read_each, text, truth, whole,
+};
 use serde_json::Value;
 use std::alloc::Global;
 
@@ -91,41 +94,58 @@ fn number_of(from: &Value, version: Version, front: &[ListedBank]) -> Result<u8,
     }
 }
 
-/// An element of the list, behind those in front of it.
-#[tactic(auto, unfolding(crate::specs::BankLists::listed_bank))]
-fn listed_bank(
-    value: &Value,
+/// Reads the banks that a script of this version lists.
+#[derive(Drop)]
+struct BankReader {
     version: Version,
-    front: &[ListedBank],
-) -> Result<ListedBank, ScriptFault>
-    ensures value { Reads (λ b. b) result (listed_bank version front.now (view value.now)) }
-    ensures range { IfOk result (λ b. b.number < bank_count) }
-{
-    let from = object_of(value, "banks")?;
-    let number = number_of(from, version, front)?;
-    match settings_of(from) {
-        Ok(settings) => Ok(ListedBank { number, settings }),
-        Err(fault) => Err(fault),
+}
+
+impl ReadsElement for BankReader {
+    ghost use Rattle.std.specs.Prelude.{◌<◌};
+    ghost use Rattle.bx_rx.specs.Banks.{bank_count};
+    ghost use Rattle.gw_config.specs.BankLists.{listed_bank};
+
+    type Element = ListedBank;
+
+    ghost reading = { λ s. listed_bank s.version };
+
+    ghost keeps = { λ s b. b.number < bank_count };
+
+    #[tactic(auto, unfolding(crate::specs::BankLists::listed_bank))]
+    fn read(
+        &self,
+        _alloc: Global,
+        value: &Value,
+        front: &[ListedBank],
+    ) -> Result<ListedBank, ScriptFault> {
+        let from = object_of(value, "banks")?;
+        let number = number_of(from, self.version, front)?;
+        match settings_of(from) {
+            Ok(settings) => Ok(ListedBank { number, settings }),
+            Err(fault) => Err(fault),
+        }
     }
 }
 
 /// All banks of a controller, after these are set.
+fn set_all(listed: &[ListedBank]) -> Banks
+    requires { All (λ b. b.number < bank_count) listed.now }
+    ensures { result ≡ set_all (replicate bank_count unlisted) listed.now }
+{
+    let mut banks = Banks::new();
+    for bank in listed {
+        banks.set(bank.number, bank.settings);
+    }
+    banks
+}
+
+/// All banks of a controller, after the listed ones are set.
+#[tactic(auto, unfolding(crate::specs::BankLists::banks_with))]
 fn banks_with(alloc: Global, items: &[Value], version: Version) -> Result<Banks, ScriptFault>
     ensures { ReadsUnlessMemory (λ banks. banks) result (banks_with version (items_view items.now)) }
 {
-    let mut banks = Banks::new();
-    let mut front = Vec::new(alloc);
-    for item in items {
-        let bank = match listed_bank(item, version, front.as_slice()) {
-            Ok(bank) => bank,
-            Err(fault) => return Err(fault),
-        };
-        banks.set(bank.number, bank.settings);
-        if front.push(bank).is_err() {
-            return Err(ScriptFault::Memory);
-        }
-    }
-    Ok(banks)
+    let listed = read_each(alloc, items, &BankReader { version })?;
+    Ok(set_all(listed.as_slice()))
 }
 
 /// All banks of a controller, by its list of as many as the version allows.

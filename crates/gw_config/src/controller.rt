@@ -1,12 +1,11 @@
 //! A controller of a script.
 
-ghost use Rattle.std.specs.Prelude.{◌≡◌, ◌+◌, ◌<◌, ◌≤◌, ◌==◌, [], length, count_by, nat_lt, slice_get, IfOk};
+ghost use Rattle.std.specs.Prelude.{◌≡◌, ◌+◌, ◌<◌, ◌≤◌, ◌==◌, length, count_by, nat_lt, slice_get, IfOk};
 ghost use Rattle.bx_core.specs.Lists.{Each};
-ghost use Rattle.serde_json.specs.View.{view, items_view};
+ghost use Rattle.serde_json.specs.View.{view};
 ghost use Rattle.gw_fields.specs.Faults.{ReadsUnlessMemory};
-ghost use Rattle.gw_fields.specs.Fields.{each_after};
 ghost use Rattle.gw_config.specs.Talkers.{most_nodes};
-ghost use Rattle.gw_config.specs.Controllers.{node_count, controller_with, controller_of, controllers_of};
+ghost use Rattle.gw_config.specs.Controllers.{node_count, controller_with, controllers_of};
 ghost use Rattle.gw_config.specs.SoundScripts.{IsControllerIn};
 
 use crate::bank_list::banks_of;
@@ -14,7 +13,10 @@ use crate::segment::{Segment, node_name};
 use crate::talker::MOST_NODES;
 use crate::version::Version;
 use bx_rx::Banks;
-use gw_fields::{Named, ScriptFault, list, object_of, optional_truth, owned, place_named, whole};
+use gw_fields::{
+    Named, ReadsElement, ScriptFault, list, object_of, optional_truth, owned, place_named,
+    read_each, whole,
+};
 use serde_json::Value;
 use std::alloc::Global;
 use std::marker::Model;
@@ -110,101 +112,78 @@ fn has_room(segments: &[Segment], place: usize, controllers: &[Controller]) -> b
     talkers + on_it < MOST_NODES
 }
 
-/// A controller with this name and at this segment, in a run of so many bits.
-#[tactic(auto, unfolding(crate::specs::Controllers::controller_with))]
-fn controller_with(
-    alloc: Global,
-    from: &Value,
+/// Reads the controllers on these segments, in a run of so many bits.
+#[derive(Drop)]
+struct ControllerReader<'a> {
     version: Version,
     bits: u32,
-    segments: &[Segment],
-    front: &[Controller],
-    name: &str,
-    segment: usize,
-) -> Result<Controller, ScriptFault>
-    requires some { 1 ≤ bits }
-    requires placed { segment < length segments.now }
-    ensures value { ReadsUnlessMemory (λ c. c) result
-        (controller_with version bits segments.now front.now name.now segment (view from.now)) }
-    ensures range { IfOk result (IsControllerIn bits segments.now) }
-{
-    let on = whole(from, "on", 0, u64::from(bits - 1))? as u32;
-    let txfp = optional_truth(from, "txfp", true)?;
-    let banks = match banks_of(alloc, from, version) {
-        Ok(banks) => banks,
-        Err(fault) => return Err(fault),
-    };
-    if has_room(segments, segment, front) {
-        let name = owned(alloc, name)?;
-        Ok(Controller {
-            name,
-            segment,
-            on,
-            txfp,
-            banks,
-        })
-    } else {
-        Err(ScriptFault::TooMany("controllers"))
-    }
+    segments: &'a [Segment],
+    ghost some: { 1 ≤ bits },
 }
 
-/// A controller in a run of so many bits, behind those in front of it.
-#[tactic(auto, unfolding(crate::specs::Controllers::controller_of, gw_fields::specs::Fields::object_of, gw_fields::specs::Names::new_name))]
-fn controller_of(
-    alloc: Global,
-    value: &Value,
-    version: Version,
-    bits: u32,
-    segments: &[Segment],
-    front: &[Controller],
-) -> Result<Controller, ScriptFault>
-    requires { 1 ≤ bits }
-    ensures value { ReadsUnlessMemory (λ c. c) result
-        (controller_of version bits segments.now front.now (view value.now)) }
-    ensures range { IfOk result (IsControllerIn bits segments.now) }
-{
-    let from = object_of(value, "controllers")?;
-    let name = node_name(from, "controllers", segments, front)?;
-    let segment = place_named(from, "segment", segments)?;
-    controller_with(alloc, from, version, bits, segments, front, name, segment)
-}
-
-/// The elements of the list of controllers, front to back.
-fn listed_controllers(
-    alloc: Global,
-    items: &[Value],
-    version: Version,
-    bits: u32,
-    segments: &[Segment],
-) -> Result<Vec<Controller>, ScriptFault>
-    requires { 1 ≤ bits }
-    ensures value { ReadsUnlessMemory (λ v. v.items) result
-        (each_after (controller_of version bits segments.now) [] (items_view items.now)) }
-    ensures range { IfOk result (λ v. Each (IsControllerIn bits segments.now) v.items) }
-    ensures count { IfOk result (λ v. length v.items ≡ length items.now) }
-{
-    let mut controllers = Vec::new(alloc);
-    for item in items {
-        let controller = match controller_of(
-            alloc,
-            item,
-            version,
-            bits,
-            segments,
-            controllers.as_slice(),
-        ) {
-            Ok(controller) => controller,
+impl<'a> ControllerReader<'a> {
+    /// A controller with this name and at this segment.
+    #[tactic(auto, unfolding(crate::specs::Controllers::controller_with))]
+    fn controller_with(
+        &self,
+        alloc: Global,
+        from: &Value,
+        front: &[Controller],
+        name: &str,
+        segment: usize,
+    ) -> Result<Controller, ScriptFault>
+        requires { segment < length self.now.segments.now }
+        ensures value { ReadsUnlessMemory (λ c. c) result
+            (controller_with self.now.version self.now.bits self.now.segments.now front.now name.now segment (view from.now)) }
+        ensures range { IfOk result (IsControllerIn self.now.bits self.now.segments.now) }
+    {
+        let on = whole(from, "on", 0, u64::from(self.bits - 1))? as u32;
+        let txfp = optional_truth(from, "txfp", true)?;
+        let banks = match banks_of(alloc, from, self.version) {
+            Ok(banks) => banks,
             Err(fault) => return Err(fault),
         };
-        if controllers.push(controller).is_err() {
-            return Err(ScriptFault::Memory);
+        if has_room(self.segments, segment, front) {
+            let name = owned(alloc, name)?;
+            Ok(Controller {
+                name,
+                segment,
+                on,
+                txfp,
+                banks,
+            })
+        } else {
+            Err(ScriptFault::TooMany("controllers"))
         }
     }
-    Ok(controllers)
+}
+
+impl<'a> ReadsElement for ControllerReader<'a> {
+    ghost use Rattle.gw_config.specs.Controllers.{controller_of};
+    ghost use Rattle.gw_config.specs.SoundScripts.{IsControllerIn};
+
+    type Element = Controller;
+
+    ghost reading = { λ s. controller_of s.version s.bits s.segments.now };
+
+    ghost keeps = { λ s. IsControllerIn s.bits s.segments.now };
+
+    #[tactic(auto, unfolding(crate::specs::Controllers::controller_of, gw_fields::specs::Fields::object_of, gw_fields::specs::Names::new_name))]
+    fn read(
+        &self,
+        alloc: Global,
+        value: &Value,
+        front: &[Controller],
+    ) -> Result<Controller, ScriptFault> {
+        let from = object_of(value, "controllers")?;
+        let name = node_name(from, "controllers", self.segments, front)?;
+        let segment = place_named(from, "segment", self.segments)?;
+        self.controller_with(alloc, from, front, name, segment)
+    }
 }
 
 /// The controllers of a script, at most 16.
-#[tactic(auto, unfolding(crate::specs::Controllers::controllers_of))]
+#[tactic(auto, unfolding(crate::specs::Controllers::controllers_of), using(crate::proofs::Lists::each_from_all))]
 pub fn controllers_of(
     alloc: Global,
     from: &Value,
@@ -218,5 +197,10 @@ pub fn controllers_of(
     ensures few { IfOk result (λ v. length v.items ≤ 16) }
 {
     let items = list(from, "controllers", MOST_CONTROLLERS)?;
-    listed_controllers(alloc, items, version, bits, segments)
+    let reader = ControllerReader {
+        version,
+        bits,
+        segments,
+    };
+    read_each(alloc, items, &reader)
 }

@@ -1,15 +1,16 @@
 //! An abort that a script plans.
 
-ghost use Rattle.std.specs.Prelude.{◌≡◌, IfOk, length, ◌≤◌};
+ghost use Rattle.std.specs.Prelude.{IfOk, length, ◌≤◌};
 ghost use Rattle.bx_core.specs.Lists.{Each};
-ghost use Rattle.serde_json.specs.View.{view, items_view};
-ghost use Rattle.gw_fields.specs.Faults.{Reads, ReadsUnlessMemory};
-ghost use Rattle.gw_fields.specs.Fields.{each};
-ghost use Rattle.gw_config.specs.PlannedAborts.{planned_abort_of, planned_aborts_of};
+ghost use Rattle.serde_json.specs.View.{view};
+ghost use Rattle.gw_fields.specs.Faults.{ReadsUnlessMemory};
+ghost use Rattle.gw_config.specs.PlannedAborts.{planned_aborts_of};
 ghost use Rattle.gw_config.specs.SoundScripts.{IsAbortIn};
 
 use crate::route::Route;
-use gw_fields::{ScriptFault, object_of, optional_list, place_named, whole};
+use gw_fields::{
+    ReadsElement, ScriptFault, object_of, optional_list, place_named, read_each, whole,
+};
 use serde_json::Value;
 use std::alloc::Global;
 
@@ -25,49 +26,43 @@ pub struct PlannedAbort {
     pub turn: u32,
 }
 
-/// An element of the list of aborts.
-#[tactic(auto, unfolding(crate::specs::PlannedAborts::planned_abort_of))]
-fn planned_abort_of(value: &Value, routes: &[Route]) -> Result<PlannedAbort, ScriptFault>
-    ensures value { Reads (λ a. a) result (planned_abort_of routes.now (view value.now)) }
-    ensures range { IfOk result (IsAbortIn routes.now) }
-{
-    let from = object_of(value, "aborts")?;
-    let route = place_named(from, "route", routes)?;
-    let number = whole(from, "number", 1, 16_777_215)? as u32;
-    let turn = whole(from, "turn", 1, 1_000_000)? as u32;
-    Ok(PlannedAbort {
-        route,
-        number,
-        turn,
-    })
+/// Reads the aborts of requests of these routes.
+#[derive(Drop)]
+struct AbortReader<'a> {
+    routes: &'a [Route],
 }
 
-/// The elements of the list of aborts, front to back.
-fn listed_aborts(
-    alloc: Global,
-    items: &[Value],
-    routes: &[Route],
-) -> Result<Vec<PlannedAbort>, ScriptFault>
-    ensures value { ReadsUnlessMemory (λ v. v.items) result
-        (each (planned_abort_of routes.now) (items_view items.now)) }
-    ensures range { IfOk result (λ v. Each (IsAbortIn routes.now) v.items) }
-    ensures count { IfOk result (λ v. length v.items ≡ length items.now) }
-{
-    let mut aborts = Vec::new(alloc);
-    for item in items {
-        let abort = match planned_abort_of(item, routes) {
-            Ok(abort) => abort,
-            Err(fault) => return Err(fault),
-        };
-        if aborts.push(abort).is_err() {
-            return Err(ScriptFault::Memory);
-        }
+impl<'a> ReadsElement for AbortReader<'a> {
+    ghost use Rattle.gw_config.specs.PlannedAborts.{planned_abort_of};
+    ghost use Rattle.gw_config.specs.SoundScripts.{IsAbortIn};
+
+    type Element = PlannedAbort;
+
+    ghost reading = { λ s front. planned_abort_of s.routes.now };
+
+    ghost keeps = { λ s. IsAbortIn s.routes.now };
+
+    #[tactic(auto, unfolding(crate::specs::PlannedAborts::planned_abort_of))]
+    fn read(
+        &self,
+        _alloc: Global,
+        value: &Value,
+        _front: &[PlannedAbort],
+    ) -> Result<PlannedAbort, ScriptFault> {
+        let from = object_of(value, "aborts")?;
+        let route = place_named(from, "route", self.routes)?;
+        let number = whole(from, "number", 1, 16_777_215)? as u32;
+        let turn = whole(from, "turn", 1, 1_000_000)? as u32;
+        Ok(PlannedAbort {
+            route,
+            number,
+            turn,
+        })
     }
-    Ok(aborts)
 }
 
 /// The aborts of a script, at most 1,000.
-#[tactic(auto, unfolding(crate::specs::PlannedAborts::planned_aborts_of))]
+#[tactic(auto, unfolding(crate::specs::PlannedAborts::planned_aborts_of), using(crate::proofs::Lists::each_from_all))]
 pub fn planned_aborts_of(
     alloc: Global,
     from: &Value,
@@ -78,5 +73,5 @@ pub fn planned_aborts_of(
     ensures few { IfOk result (λ v. length v.items ≤ 1000) }
 {
     let items = optional_list(from, "aborts", MOST_ABORTS)?;
-    listed_aborts(alloc, items, routes)
+    read_each(alloc, items, &AbortReader { routes })
 }

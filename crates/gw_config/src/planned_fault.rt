@@ -1,17 +1,18 @@
 //! A fault that a script plans.
 
-ghost use Rattle.std.specs.Prelude.{◌≡◌, ◌≤◌, IfOk, length};
+ghost use Rattle.std.specs.Prelude.{◌≤◌, IfOk, length};
 ghost use Rattle.bx_core.specs.Lists.{Each};
-ghost use Rattle.serde_json.specs.View.{view, items_view};
+ghost use Rattle.serde_json.specs.View.{view};
 ghost use Rattle.gw_fields.specs.Faults.{Reads, ReadsUnlessMemory};
-ghost use Rattle.gw_fields.specs.Fields.{each};
-ghost use Rattle.gw_config.specs.PlannedFaults.{node_fault, line_fault, planned_fault_of, planned_faults_of};
+ghost use Rattle.gw_config.specs.PlannedFaults.{node_fault, line_fault, planned_faults_of};
 ghost use Rattle.gw_config.specs.SoundScripts.{IsFaultIn};
 
 use crate::controller::Controller;
 use crate::node_place::{NodePlace, find_node};
 use crate::segment::Segment;
-use gw_fields::{ScriptFault, object_of, optional_list, place_named, text_of, whole};
+use gw_fields::{
+    ReadsElement, ScriptFault, object_of, optional_list, place_named, read_each, text_of, whole,
+};
 use serde_json::Value;
 use std::alloc::Global;
 
@@ -74,55 +75,43 @@ fn line_fault(from: &Value, bits: u32, segments: &[Segment]) -> Result<PlannedFa
     })
 }
 
-/// A fault at a node where `node` is given, else one on the line.
-#[tactic(auto, unfolding(crate::specs::PlannedFaults::planned_fault_of))]
-fn planned_fault_of(
-    value: &Value,
+/// Reads the faults on these segments and at their nodes, in a run of so many bits.
+#[derive(Drop)]
+struct FaultReader<'a> {
     bits: u32,
-    segments: &[Segment],
-    controllers: &[Controller],
-) -> Result<PlannedFault, ScriptFault>
-    requires { 1 ≤ bits }
-    ensures value { Reads (λ f. f) result
-        (planned_fault_of bits segments.now controllers.now (view value.now)) }
-    ensures range { IfOk result (IsFaultIn bits segments.now) }
-{
-    let from = object_of(value, "faults")?;
-    match from.get("node") {
-        Some(value) => node_fault(value, from, bits, segments, controllers),
-        None => line_fault(from, bits, segments),
-    }
+    segments: &'a [Segment],
+    controllers: &'a [Controller],
+    ghost some: { 1 ≤ bits },
 }
 
-/// The elements of the list of faults, front to back.
-fn listed_faults(
-    alloc: Global,
-    items: &[Value],
-    bits: u32,
-    segments: &[Segment],
-    controllers: &[Controller],
-) -> Result<Vec<PlannedFault>, ScriptFault>
-    requires { 1 ≤ bits }
-    ensures value { ReadsUnlessMemory (λ v. v.items) result
-        (each (planned_fault_of bits segments.now controllers.now) (items_view items.now)) }
-    ensures range { IfOk result (λ v. Each (IsFaultIn bits segments.now) v.items) }
-    ensures count { IfOk result (λ v. length v.items ≡ length items.now) }
-{
-    let mut faults = Vec::new(alloc);
-    for item in items {
-        let planned = match planned_fault_of(item, bits, segments, controllers) {
-            Ok(planned) => planned,
-            Err(fault) => return Err(fault),
-        };
-        if faults.push(planned).is_err() {
-            return Err(ScriptFault::Memory);
+impl<'a> ReadsElement for FaultReader<'a> {
+    ghost use Rattle.gw_config.specs.PlannedFaults.{planned_fault_of};
+    ghost use Rattle.gw_config.specs.SoundScripts.{IsFaultIn};
+
+    type Element = PlannedFault;
+
+    ghost reading = { λ s front. planned_fault_of s.bits s.segments.now s.controllers.now };
+
+    ghost keeps = { λ s. IsFaultIn s.bits s.segments.now };
+
+    /// A fault at a node where `node` is given, else one on the line.
+    #[tactic(auto, unfolding(crate::specs::PlannedFaults::planned_fault_of))]
+    fn read(
+        &self,
+        _alloc: Global,
+        value: &Value,
+        _front: &[PlannedFault],
+    ) -> Result<PlannedFault, ScriptFault> {
+        let from = object_of(value, "faults")?;
+        match from.get("node") {
+            Some(value) => node_fault(value, from, self.bits, self.segments, self.controllers),
+            None => line_fault(from, self.bits, self.segments),
         }
     }
-    Ok(faults)
 }
 
 /// The faults of a script, at most 10,000.
-#[tactic(auto, unfolding(crate::specs::PlannedFaults::planned_faults_of))]
+#[tactic(auto, unfolding(crate::specs::PlannedFaults::planned_faults_of), using(crate::proofs::Lists::each_from_all))]
 pub fn planned_faults_of(
     alloc: Global,
     from: &Value,
@@ -137,5 +126,10 @@ pub fn planned_faults_of(
     ensures few { IfOk result (λ v. length v.items ≤ 10000) }
 {
     let items = optional_list(from, "faults", MOST_FAULTS)?;
-    listed_faults(alloc, items, bits, segments, controllers)
+    let reader = FaultReader {
+        bits,
+        segments,
+        controllers,
+    };
+    read_each(alloc, items, &reader)
 }

@@ -1,12 +1,11 @@
 //! A route of a script.
 
-ghost use Rattle.std.specs.Prelude.{◌≡◌, [], IfOk, length, ◌≤◌};
+ghost use Rattle.std.specs.Prelude.{◌≡◌, IfOk, length, ◌≤◌};
 ghost use Rattle.std.specs.List.{list_any};
 ghost use Rattle.bx_core.specs.Lists.{Each};
-ghost use Rattle.serde_json.specs.View.{view, items_view};
+ghost use Rattle.serde_json.specs.View.{view};
 ghost use Rattle.gw_fields.specs.Faults.{ReadsUnlessMemory};
-ghost use Rattle.gw_fields.specs.Fields.{each_after};
-ghost use Rattle.gw_config.specs.Routes.{takes_from, routes_into, route_with, route_of, routes_of};
+ghost use Rattle.gw_config.specs.Routes.{takes_from, routes_into, route_with, routes_of};
 ghost use Rattle.gw_config.specs.Rewrites.{most_rewrites};
 ghost use Rattle.gw_config.specs.SoundScripts.{IsRouteIn};
 
@@ -15,7 +14,10 @@ use crate::rewrites::{MOST_REWRITES, rewrites_of};
 use crate::version::Version;
 use arrayvec::ArrayVec;
 use can_frame::Rewrite;
-use gw_fields::{Named, ScriptFault, list, new_name, object_of, owned, place_named, whole};
+use gw_fields::{
+    Named, ReadsElement, ScriptFault, list, new_name, object_of, owned, place_named, read_each,
+    whole,
+};
 use serde_json::Value;
 use std::alloc::Global;
 use std::marker::Model;
@@ -152,50 +154,33 @@ fn route_with(
     }
 }
 
-/// A route behind those in front of it.
-#[tactic(auto, unfolding(crate::specs::Routes::route_of))]
-fn route_of(
-    alloc: Global,
-    value: &Value,
+/// Reads the routes between these controllers.
+#[derive(Drop)]
+struct RouteReader<'a> {
     version: Version,
-    controllers: &[Controller],
-    front: &[Route],
-) -> Result<Route, ScriptFault>
-    ensures value { ReadsUnlessMemory (λ r. r) result (route_of version controllers.now front.now (view value.now)) }
-    ensures range { IfOk result (IsRouteIn controllers.now) }
-{
-    let from = object_of(value, "routes")?;
-    let name = new_name(from, "routes", front)?;
-    route_with(alloc, from, version, controllers, front, name)
+    controllers: &'a [Controller],
 }
 
-/// The elements of the list of routes, front to back.
-fn listed_routes(
-    alloc: Global,
-    items: &[Value],
-    version: Version,
-    controllers: &[Controller],
-) -> Result<Vec<Route>, ScriptFault>
-    ensures value { ReadsUnlessMemory (λ v. v.items) result
-        (each_after (route_of version controllers.now) [] (items_view items.now)) }
-    ensures range { IfOk result (λ v. Each (IsRouteIn controllers.now) v.items) }
-    ensures count { IfOk result (λ v. length v.items ≡ length items.now) }
-{
-    let mut routes = Vec::new(alloc);
-    for item in items {
-        let route = match route_of(alloc, item, version, controllers, routes.as_slice()) {
-            Ok(route) => route,
-            Err(fault) => return Err(fault),
-        };
-        if routes.push(route).is_err() {
-            return Err(ScriptFault::Memory);
-        }
+impl<'a> ReadsElement for RouteReader<'a> {
+    ghost use Rattle.gw_config.specs.Routes.{route_of};
+    ghost use Rattle.gw_config.specs.SoundScripts.{IsRouteIn};
+
+    type Element = Route;
+
+    ghost reading = { λ s. route_of s.version s.controllers.now };
+
+    ghost keeps = { λ s. IsRouteIn s.controllers.now };
+
+    #[tactic(auto, unfolding(crate::specs::Routes::route_of))]
+    fn read(&self, alloc: Global, value: &Value, front: &[Route]) -> Result<Route, ScriptFault> {
+        let from = object_of(value, "routes")?;
+        let name = new_name(from, "routes", front)?;
+        route_with(alloc, from, self.version, self.controllers, front, name)
     }
-    Ok(routes)
 }
 
 /// The routes of a script, at most 16.
-#[tactic(auto, unfolding(crate::specs::Routes::routes_of))]
+#[tactic(auto, unfolding(crate::specs::Routes::routes_of), using(crate::proofs::Lists::each_from_all))]
 pub fn routes_of(
     alloc: Global,
     from: &Value,
@@ -207,5 +192,9 @@ pub fn routes_of(
     ensures few { IfOk result (λ v. length v.items ≤ 16) }
 {
     let items = list(from, "routes", MOST_ROUTES)?;
-    listed_routes(alloc, items, version, controllers)
+    let reader = RouteReader {
+        version,
+        controllers,
+    };
+    read_each(alloc, items, &reader)
 }

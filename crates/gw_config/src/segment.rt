@@ -1,17 +1,17 @@
 //! A segment of a script.
 
-ghost use Rattle.std.specs.Prelude.{◌≡◌, ◌≤◌, [], ◌++◌, map, IfOk, length};
+ghost use Rattle.std.specs.Prelude.{◌≡◌, ◌≤◌, ◌++◌, map, IfOk, length};
 ghost use Rattle.bx_core.specs.Lists.{Each};
-ghost use Rattle.serde_json.specs.View.{view, items_view};
+ghost use Rattle.serde_json.specs.View.{view};
 ghost use Rattle.gw_fields.specs.Faults.{Reads, ReadsUnlessMemory};
-ghost use Rattle.gw_fields.specs.Fields.{each_after};
 ghost use Rattle.gw_fields.specs.Names.{is_among, new_name};
-ghost use Rattle.gw_config.specs.Segments.{all_talker_names, segment_of, segments_of};
+ghost use Rattle.gw_config.specs.Segments.{all_talker_names, segments_of};
 ghost use Rattle.gw_config.specs.SoundScripts.{IsSegmentIn};
 
 use crate::talker::{Talker, talkers_of};
 use gw_fields::{
-    Named, ScriptFault, filled_list, formed_name, is_among, new_name, object_of, owned, some_list,
+    Named, ReadsElement, ScriptFault, filled_list, formed_name, is_among, new_name, object_of,
+    owned, read_each, some_list,
 };
 use serde_json::Value;
 use std::alloc::Global;
@@ -104,49 +104,42 @@ pub fn node_name<'v, T: Named>(
     }
 }
 
-/// The name of a segment that none in front of it has, and its talkers.
-#[tactic(auto, unfolding(crate::specs::Segments::segment_of))]
-fn segment_of(
-    alloc: Global,
-    value: &Value,
+/// Reads the segments of a run of so many bits.
+#[derive(Drop)]
+struct SegmentReader {
     bits: u32,
-    front: &[Segment],
-) -> Result<Segment, ScriptFault>
-    requires { 1 ≤ bits }
-    ensures value { ReadsUnlessMemory (λ s. s) result (segment_of bits front.now (view value.now)) }
-    ensures range { IfOk result (IsSegmentIn bits) }
-{
-    let from = object_of(value, "segments")?;
-    let name = new_name(from, "segments", front)?;
-    let items = some_list(from, "talkers")?;
-    let talkers = talkers_of(alloc, items, bits, front)?;
-    let name = owned(alloc, name)?;
-    Ok(Segment { name, talkers })
+    ghost some: { 1 ≤ bits },
 }
 
-/// The elements of the list of segments, front to back.
-fn listed_segments(alloc: Global, items: &[Value], bits: u32) -> Result<Vec<Segment>, ScriptFault>
-    requires { 1 ≤ bits }
-    ensures value { ReadsUnlessMemory (λ v. v.items) result
-        (each_after (segment_of bits) [] (items_view items.now)) }
-    ensures range { IfOk result (λ v. Each (IsSegmentIn bits) v.items) }
-    ensures count { IfOk result (λ v. length v.items ≡ length items.now) }
-{
-    let mut segments = Vec::new(alloc);
-    for item in items {
-        let segment = match segment_of(alloc, item, bits, segments.as_slice()) {
-            Ok(segment) => segment,
-            Err(fault) => return Err(fault),
-        };
-        if segments.push(segment).is_err() {
-            return Err(ScriptFault::Memory);
-        }
+impl ReadsElement for SegmentReader {
+    ghost use Rattle.gw_config.specs.Segments.{segment_of};
+    ghost use Rattle.gw_config.specs.SoundScripts.{IsSegmentIn};
+
+    type Element = Segment;
+
+    ghost reading = { λ s. segment_of s.bits };
+
+    ghost keeps = { λ s. IsSegmentIn s.bits };
+
+    /// The name of a segment that none in front of it has, and its talkers.
+    #[tactic(auto, unfolding(crate::specs::Segments::segment_of))]
+    fn read(
+        &self,
+        alloc: Global,
+        value: &Value,
+        front: &[Segment],
+    ) -> Result<Segment, ScriptFault> {
+        let from = object_of(value, "segments")?;
+        let name = new_name(from, "segments", front)?;
+        let items = some_list(from, "talkers")?;
+        let talkers = talkers_of(alloc, items, self.bits, front)?;
+        let name = owned(alloc, name)?;
+        Ok(Segment { name, talkers })
     }
-    Ok(segments)
 }
 
 /// The segments of a script, 1 to 8.
-#[tactic(auto, unfolding(crate::specs::Segments::segments_of))]
+#[tactic(auto, unfolding(crate::specs::Segments::segments_of), using(crate::proofs::Lists::each_from_all))]
 pub fn segments_of(alloc: Global, from: &Value, bits: u32) -> Result<Vec<Segment>, ScriptFault>
     requires { 1 ≤ bits }
     ensures value { ReadsUnlessMemory (λ v. v.items) result (segments_of bits (view from.now)) }
@@ -154,5 +147,5 @@ pub fn segments_of(alloc: Global, from: &Value, bits: u32) -> Result<Vec<Segment
     ensures count { IfOk result (λ v. (1 ≤ length v.items) × (length v.items ≤ 8)) }
 {
     let items = filled_list(from, "segments", MOST_SEGMENTS)?;
-    listed_segments(alloc, items, bits)
+    read_each(alloc, items, &SegmentReader { bits })
 }

@@ -2,16 +2,18 @@
 
 ghost use Rattle.std.specs.Prelude.{◌≡◌, ◌≤◌, [], IfOk};
 ghost use Rattle.bx_core.specs.Lists.{Each};
-ghost use Rattle.serde_json.specs.View.{view, items_view};
-ghost use Rattle.gw_fields.specs.Faults.{Reads, ReadsUnlessMemory};
-ghost use Rattle.gw_fields.specs.Fields.{each, each_after};
+ghost use Rattle.serde_json.specs.View.{items_view};
+ghost use Rattle.gw_fields.specs.Faults.{ReadsUnlessMemory};
+ghost use Rattle.gw_fields.specs.Fields.{each_after};
 ghost use Rattle.gw_config.specs.Segments.{all_talker_names};
-ghost use Rattle.gw_config.specs.Talkers.{listed_frame, talker_of};
+ghost use Rattle.gw_config.specs.Talkers.{talker_of};
 ghost use Rattle.gw_config.specs.SoundScripts.{IsTalkerIn};
 
 use crate::segment::{Segment, node_name};
 use can_frame::Frame;
-use gw_fields::{Named, ScriptFault, frame_of, list, object_of, owned, whole};
+use gw_fields::{
+    Named, ReadsElement, ScriptFault, frame_of, list, object_of, owned, read_each, whole,
+};
 use serde_json::Value;
 use std::alloc::Global;
 use std::marker::Model;
@@ -72,59 +74,62 @@ impl Named for Talker {
     }
 }
 
-/// An element of the list of frames.
-#[tactic(auto, unfolding(crate::specs::Talkers::listed_frame))]
-fn listed_frame(value: &Value) -> Result<Frame, ScriptFault>
-    ensures { Reads (λ frame. frame) result (listed_frame (view value.now)) }
-{
-    let from = object_of(value, "frames")?;
-    frame_of(from)
-}
+/// Reads the frames of a talker.
+#[derive(Drop)]
+struct FrameReader;
 
-/// The elements of the list of frames, front to back.
-fn frames_of(alloc: Global, items: &[Value]) -> Result<Vec<Frame>, ScriptFault>
-    ensures { ReadsUnlessMemory (λ v. v.items) result (each listed_frame (items_view items.now)) }
-{
-    let mut frames = Vec::new(alloc);
-    for item in items {
-        let frame = match listed_frame(item) {
-            Ok(frame) => frame,
-            Err(fault) => return Err(fault),
-        };
-        if frames.push(frame).is_err() {
-            return Err(ScriptFault::Memory);
-        }
+impl ReadsElement for FrameReader {
+    ghost use Rattle.gw_config.specs.Talkers.{listed_frame};
+
+    type Element = Frame;
+
+    ghost reading = { λ s front. listed_frame };
+
+    ghost keeps = { λ s frame. Unit {0} };
+
+    #[tactic(auto, unfolding(crate::specs::Talkers::listed_frame))]
+    fn read(&self, _alloc: Global, value: &Value, _front: &[Frame]) -> Result<Frame, ScriptFault> {
+        let from = object_of(value, "frames")?;
+        frame_of(from)
     }
-    Ok(frames)
 }
 
-/// A talker in a run of so many bits, behind those in front of it and behind these segments.
-#[tactic(auto, unfolding(crate::specs::Talkers::talker_of))]
-fn talker_of(
-    alloc: Global,
-    value: &Value,
+/// Reads the talkers of a segment behind these, in a run of so many bits.
+#[derive(Drop)]
+struct TalkerReader<'a> {
     bits: u32,
-    segments: &[Segment],
-    front: &[Talker],
-) -> Result<Talker, ScriptFault>
-    requires { 1 ≤ bits }
-    ensures value { ReadsUnlessMemory (λ t. t) result
-        (talker_of bits (all_talker_names segments.now) front.now (view value.now)) }
-    ensures range { IfOk result (IsTalkerIn bits) }
-{
-    let from = object_of(value, "talkers")?;
-    let name = node_name(from, "talkers", segments, front)?;
-    let on = whole(from, "on", 0, u64::from(bits - 1))? as u32;
-    let items = list(from, "frames", MOST_FRAMES)?;
-    let frames = frames_of(alloc, items)?;
-    if front.len() >= MOST_NODES {
-        return Err(ScriptFault::TooMany("talkers"));
+    segments: &'a [Segment],
+    ghost some: { 1 ≤ bits },
+}
+
+impl<'a> ReadsElement for TalkerReader<'a> {
+    ghost use Rattle.gw_config.specs.Segments.{all_talker_names};
+    ghost use Rattle.gw_config.specs.Talkers.{talker_of};
+    ghost use Rattle.gw_config.specs.SoundScripts.{IsTalkerIn};
+
+    type Element = Talker;
+
+    ghost reading = { λ s. talker_of s.bits (all_talker_names s.segments.now) };
+
+    ghost keeps = { λ s. IsTalkerIn s.bits };
+
+    #[tactic(auto, unfolding(crate::specs::Talkers::talker_of))]
+    fn read(&self, alloc: Global, value: &Value, front: &[Talker]) -> Result<Talker, ScriptFault> {
+        let from = object_of(value, "talkers")?;
+        let name = node_name(from, "talkers", self.segments, front)?;
+        let on = whole(from, "on", 0, u64::from(self.bits - 1))? as u32;
+        let items = list(from, "frames", MOST_FRAMES)?;
+        let frames = read_each(alloc, items, &FrameReader)?;
+        if front.len() >= MOST_NODES {
+            return Err(ScriptFault::TooMany("talkers"));
+        }
+        let name = owned(alloc, name)?;
+        Ok(Talker { name, on, frames })
     }
-    let name = owned(alloc, name)?;
-    Ok(Talker { name, on, frames })
 }
 
 /// The talkers of a segment behind these, front to back.
+#[tactic(auto, using(crate::proofs::Lists::each_from_all))]
 pub fn talkers_of(
     alloc: Global,
     items: &[Value],
@@ -136,15 +141,5 @@ pub fn talkers_of(
         (each_after (talker_of bits (all_talker_names segments.now)) [] (items_view items.now)) }
     ensures range { IfOk result (λ v. Each (IsTalkerIn bits) v.items) }
 {
-    let mut talkers = Vec::new(alloc);
-    for item in items {
-        let talker = match talker_of(alloc, item, bits, segments, talkers.as_slice()) {
-            Ok(talker) => talker,
-            Err(fault) => return Err(fault),
-        };
-        if talkers.push(talker).is_err() {
-            return Err(ScriptFault::Memory);
-        }
-    }
-    Ok(talkers)
+    read_each(alloc, items, &TalkerReader { bits, segments })
 }

@@ -1,10 +1,10 @@
 -- From the fault that the code answers to the first fault of the input.
-use Rattle.std.proofs.Common.{◌≡◌, ◌<◌, ℕ, List, length, drop, get_or, Result, Ok, Err, IfErr, Option, Some, None, IfSome, IsSomeAnd, sym, ap, ◌∙◌}
+use Rattle.std.proofs.Common.{◌≡◌, ◌<◌, ℕ, List, length, drop, get_or, Result, Ok, Err, IfErr, Option, Some, None, IfSome, sym, ap, ◌∙◌}
 use Rattle.serde_json.specs.Data.{Data}
 use Rattle.serde_json.specs.View.{items_view, view}
 use Rattle.serde_json.specs.declared.value.Value.{Value}
 use Rattle.gw_fields.specs.declared.script_fault.ScriptFault.{ScriptFault}
-use Rattle.gw_fields.specs.Faults.{Fault, fault_of, IsOfInput, UnlessMemory, ReadsUnlessMemory}
+use Rattle.gw_fields.specs.Faults.{Fault, fault_of, UnlessMemory, ReadsUnlessMemory}
 use Rattle.gw_fields.specs.Fields.{each_after}
 use Rattle.gw_fields.specs.Documents.{IsDocument, IsNoDocument, FirstFault, in_text, in_fields}
 use Rattle.gw_fields.proofs.Lists.{each-stops}
@@ -13,7 +13,7 @@ if_some-weaker : (o : Option Fault) (P Q : Fault → Type 0) → ((f : Fault) �
 if_some-weaker None P Q goes h = tt
 if_some-weaker (Some f) P Q goes h = goes f h
 
-pub fault-weaker : (e : ScriptFault) (P Q : Fault → Type 0) → ((f : Fault) → P f → Q f) → UnlessMemory e P → UnlessMemory e Q
+fault-weaker : (e : ScriptFault) (P Q : Fault → Type 0) → ((f : Fault) → P f → Q f) → UnlessMemory e P → UnlessMemory e Q
 fault-weaker e = if_some-weaker (fault_of e)
 
 -- a fault before the fields is the first one
@@ -27,14 +27,6 @@ pub field_fault_is_first : {X A : Type 0} (view : X → A) (reading : Data → R
 field_fault_is_first view reading bytes d document (Ok x) reads = tt
 field_fault_is_first view reading bytes d document (Err e) reads =
     fault-weaker e (λ f. reading d ≡ Err f) (FirstFault reading bytes) (λ f is. in_fields d document is) reads
-
-if_some-from : (o : Option Fault) (P : Fault → Type 0) → IsSomeAnd o P → IfSome o P
-if_some-from None P h = tt
-if_some-from (Some f) P h = h
-
--- a fault of the input is one unless memory was wanting
-pub unless-of_input : (e : ScriptFault) (P : Fault → Type 0) → IsOfInput e P → UnlessMemory e P
-unless-of_input e = if_some-from (fault_of e)
 
 -- the first element that is refused is the list's fault
 pub each_refused : {A : Type 0} (read : List A → Data → Result A Fault) (old front : List A) (all : Result (List A) Fault) (vs : List Value) (i : ℕ) (v : Value) (e : ScriptFault) →

@@ -1,6 +1,5 @@
 -- Laws of lists in an input.
-use Rattle.std.proofs.Common.{◌≡◌, ℕ, suc, ◌+◌, ◌<◌, ◌≤◌, List, [], ◌∷◌, ◌++◌, length, drop, get_or, refl, sym, ap, ◌∙◌, Result, Ok, Err, is_ok, is_err, false, if◌then◌else◌, drop-cons, add-one, length-append}
-use Rattle.std.proofs.lemmas.List.{drop_all}
+use Rattle.std.proofs.Common.{◌≡◌, ℕ, suc, ◌+◌, ◌<◌, List, [], ◌∷◌, ◌++◌, length, drop, get_or, refl, sym, ap, ◌∙◌, Result, Ok, Err, is_ok, is_err, false, if◌then◌else◌, drop-cons, add-one, length-append}
 use Rattle.serde_json.specs.Data.{Data, item}
 use Rattle.serde_json.specs.View.{items_view, view}
 use Rattle.serde_json.specs.declared.value.Value.{Value}
@@ -40,11 +39,6 @@ pub each_grows : {A : Type 0} (read : List A → Data → Result A Fault) (old n
 each_grows read old new front x all vs i v lt is front_is e new_is so_far =
     ap (λ xs. each_after read xs (items_view (drop (i + 1) vs))) new_is
     ∙ each-step read old x vs i v lt is (ap (λ xs. read xs (view v)) (sym front_is) ∙ e) ∙ so_far
-
--- all elements were read
-pub each-ends : {A : Type 0} (read : List A → Data → Result A Fault) (front : List A) (vs : List Value) (i : ℕ) → length vs ≤ i →
-    each_after read front (items_view (drop i vs)) ≡ Ok front
-each-ends read front vs i beyond = ap (λ ws. each_after read front (items_view ws)) (drop_all i vs beyond)
 
 -- a push that is not refused keeps the element
 pub push_keeps : {A T E : Type 0} (r : Result T E) (old new : List A) (x : A) → new ≡ (if is_ok r then old ++ x ∷ [] else old) → false ≡ is_err r → new ≡ old ++ x ∷ []

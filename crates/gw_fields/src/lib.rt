@@ -5,6 +5,7 @@ mod document;
 mod fields;
 mod frames;
 mod name;
+mod reads_element;
 mod script_fault;
 
 pub use crate::document::{LIMIT, read_document};
@@ -16,4 +17,5 @@ pub use crate::frames::{frame_of, identifier_with};
 pub use crate::name::{
     Named, formed_name, is_among, is_name, new_name, owned, place_named, place_of,
 };
+pub use crate::reads_element::{ReadsElement, read_each};
 pub use crate::script_fault::ScriptFault;

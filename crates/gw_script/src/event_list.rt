@@ -1,17 +1,17 @@
 //! An event list: its JSON text, and the events in it.
 
 ghost use Rattle.std.specs.Prelude.{◌≡◌, ◌≤◌, ◌<◌, codes, length, IfOk, IfErr, vec_len};
-ghost use Rattle.serde_json.specs.View.{view, items_view};
+ghost use Rattle.serde_json.specs.View.{view};
 ghost use Rattle.bx_core.specs.Lists.{Each};
 ghost use Rattle.bx_core.specs.Steps.{InRoutes};
 ghost use Rattle.gw_fields.specs.Faults.{Reads, ReadsUnlessMemory, UnlessMemory};
-ghost use Rattle.gw_fields.specs.Fields.{each};
-ghost use Rattle.gw_script.specs.EventLists.{list_view, name_of, mailbox_of, route_of, claim_in, request_in, withdraw_in, abort_in, named_event, event_of, event_list_of};
+ghost use Rattle.gw_script.specs.EventLists.{list_view, name_of, mailbox_of, route_of, claim_in, request_in, withdraw_in, abort_in, named_event, event_list_of};
 ghost use Rattle.gw_fields.specs.Documents.{IsTextOf, FirstFault};
 
 use bx_core::Event;
 use gw_fields::{
-    ScriptFault, field, frame_of, list, object_of, optional_truth, read_document, text, whole,
+    ReadsElement, ScriptFault, field, frame_of, list, object_of, optional_truth, read_document,
+    read_each, text, whole,
 };
 use serde_json::Value;
 use std::alloc::Global;
@@ -162,41 +162,34 @@ fn named_event(from: &Value, routes: u8, name: EventName) -> Result<Event, Scrip
     }
 }
 
-/// An element of the list.
-#[tactic(auto, unfolding(crate::specs::EventLists::event_of))]
-fn event_of(value: &Value, routes: u8) -> Result<Event, ScriptFault>
-    requires { 1 ≤ routes }
-    ensures value { Reads (λ e. e) result (event_of routes (view value.now)) }
-    ensures range { IfOk result (InRoutes routes) }
-{
-    let from = object_of(value, "events")?;
-    let word = text(from, "event")?;
-    let name = name_of(word)?;
-    named_event(from, routes, name)
+/// Reads the events over this many routes.
+#[derive(Drop)]
+struct EventReader {
+    routes: u8,
+    ghost some: { 1 ≤ routes },
 }
 
-/// The elements of the list, front to back.
-fn events_of(alloc: Global, items: &[Value], routes: u8) -> Result<Vec<Event>, ScriptFault>
-    requires { 1 ≤ routes }
-    ensures value { ReadsUnlessMemory (λ v. v.items) result
-        (each (event_of routes) (items_view items.now)) }
-    ensures range { IfOk result (λ v. Each (InRoutes routes) v.items) }
-{
-    let mut events = Vec::new(alloc);
-    for item in items {
-        let event = match event_of(item, routes) {
-            Ok(event) => event,
-            Err(fault) => return Err(fault),
-        };
-        if events.push(event).is_err() {
-            return Err(ScriptFault::Memory);
-        }
+impl ReadsElement for EventReader {
+    ghost use Rattle.bx_core.specs.Steps.{InRoutes};
+    ghost use Rattle.gw_script.specs.EventLists.{event_of};
+
+    type Element = Event;
+
+    ghost reading = { λ s front. event_of s.routes };
+
+    ghost keeps = { λ s. InRoutes s.routes };
+
+    #[tactic(auto, unfolding(crate::specs::EventLists::event_of))]
+    fn read(&self, _alloc: Global, value: &Value, _front: &[Event]) -> Result<Event, ScriptFault> {
+        let from = object_of(value, "events")?;
+        let word = text(from, "event")?;
+        let name = name_of(word)?;
+        named_event(from, self.routes, name)
     }
-    Ok(events)
 }
 
 /// The whole list, up to its first fault.
-#[tactic(auto, unfolding(crate::specs::EventLists::event_list_of))]
+#[tactic(auto, unfolding(crate::specs::EventLists::event_list_of), using(gw_config::proofs::Lists::each_from_all))]
 fn event_list_of(alloc: Global, value: &Value) -> Result<EventList, ScriptFault>
     ensures value { ReadsUnlessMemory list_view result (event_list_of (view value.now)) }
     ensures routes { IfOk result (λ l. (1 ≤ l.routes) × (l.routes ≤ 8)) }
@@ -206,7 +199,7 @@ fn event_list_of(alloc: Global, value: &Value) -> Result<EventList, ScriptFault>
     let routes = whole(from, "routes", 1, 8)? as u8;
     let txfp = optional_truth(from, "txfp", true)?;
     let items = list(from, "events", MOST_EVENTS)?;
-    let events = events_of(alloc, items, routes)?;
+    let events = read_each(alloc, items, &EventReader { routes })?;
     Ok(EventList {
         routes,
         txfp,
