@@ -31,7 +31,7 @@ pub name_from_rows : (m : ArgMatches) → subcommand_name_of m ≡ option_map (�
 name_from_rows m = composed _ (λ p. p.0) _
 
 -- `core`
-pub core_is_met : (name : Text) → option_map (λ p. p.0) (subcommand_of bxgate_app (name ∷ codes "core" ∷ [])) ≡ Some (codes "core")
+pub core_is_met : (name : Text) → subcommand_of bxgate_app (name ∷ codes "core" ∷ []) ≡ Some (codes "core", [])
 unfolding clap_on_literals
 core_is_met name = refl
 

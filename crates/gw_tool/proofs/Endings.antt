@@ -1,11 +1,14 @@
 -- From what a run read, answered and wrote to how it ends, and from the failure that it ends with to its status.
-use Rattle.std.proofs.Common.{◌≡◌, ◌∙◌, inl, inr, ℕ, List, Option, None, Some, Err, IfSome, refl, subst, take}
+use Rattle.std.proofs.Common.{◌≡◌, ◌∙◌, inl, inr, ℕ, List, Option, None, Some, Err, IfSome, ap, option_map, refl, subst, sym, take}
+use Rattle.std.specs.Prelude.{unwrap_or}
 use Rattle.std.proofs.lemmas.Option.{IfSome_then}
 use Rattle.std.specs.Io.KnownBytes.{Appends, Keeps}
 use Rattle.gw_fields.specs.declared.script_fault.ScriptFault.TheVariants as fault
 use Rattle.gw_fields.specs.Faults.{Fault, UnlessMemory, not_json, missing, wrong_kind, out_of_range, unknown_name, double_name, fifo_twice, too_many, wrong_version}
 use Rattle.gw_fields.specs.Documents.{IsNoDocument, in_text}
-use Rattle.gw_tool.specs.Outcomes.{Answers, Begins, Ends, EndsWith, IsAnswer, IsFailureOn, IsRefusal, IsWant, status_of}
+use Rattle.gw_tool.specs.Outcomes.{Answers, Begins, Ends, EndsWith, IsAnswer, IsFailureOn, IsRefusal, IsWant, input_of, status_of}
+use Rattle.gw_tool.specs.Words.{Asked, asked_of}
+use Rattle.gw_tool.specs.declared.order.Order.{Order}
 use Rattle.gw_run.specs.declared.run_fault.RunFault.{RunFault}
 use Rattle.gw_run.specs.declared.run_fault.RunFault.TheVariants as run_fault
 use Rattle.gw_tool.specs.declared.failure.Failure.{Failure}
@@ -83,3 +86,14 @@ ends_with t input old new status (failure.Script fault.Memory) is h = inr (inr (
 ends_with t input old new status (failure.Run e) is h = inr (inr (inl (is, h.1)))
 ends_with t input old new status failure.Read is keeps = inr (inr (inr (is, inl keeps)))
 ends_with t input old new status failure.Write is begins = inr (inr (inr (is, inr begins)))
+
+-- and it does what was asked for with the input that was
+pub as_asked : (contents : List ℕ → Option (List ℕ)) (standard old new : Option (List ℕ)) (taken : Option Order) (order : Order) (asked : Asked) (status : ℕ) → taken ≡ Some order →
+    option_map asked_of taken ≡ Some asked → EndsWith order.task (input_of contents standard (asked_of order).1) old new status → EndsWith asked.0 (input_of contents standard asked.1) old new status
+as_asked contents standard old new taken order asked status is taken_as ends =
+    let same : asked_of order ≡ asked = ap (λ o. unwrap_or o asked) (ap (option_map asked_of) (sym is) ∙ taken_as) in
+    subst (λ (a : Asked). EndsWith a.0 (input_of contents standard a.1) old new status) same ends
+
+-- what was asked for is taken
+pub not_taken : (taken : Option Order) (asked : Asked) → taken ≡ None → option_map asked_of taken ≡ Some asked → ⊥
+not_taken taken asked is taken_as = let differs : None ≡ Some asked = sym (ap (option_map asked_of) is) ∙ taken_as in cc

@@ -2,4 +2,5 @@ pub mod ReportLaws
 pub mod Endings
 pub mod Turns
 pub mod CommandLine
+pub mod FileWords
 pub mod Outputs

@@ -1,5 +1,5 @@
 -- How a run of the program may end, by what it was asked to do.
-use Rattle.std.specs.Prelude.{◌≡◌, ◌⊎◌, ℕ, List, Option, Some, IfSome, Result, Ok, Err, slice_get, take}
+use Rattle.std.specs.Prelude.{◌≡◌, ◌⊎◌, ℕ, List, Option, None, Some, IfSome, Result, Ok, Err, slice_get, take}
 use Rattle.std.specs.Io.KnownBytes.{Appends, Keeps}
 use Rattle.bx_core.specs.declared.entry.Entry.{Entry}
 use Rattle.bx_core.specs.Lists.{Each}
@@ -97,6 +97,11 @@ IsFailureOn t bytes (failure.Script e) = UnlessMemory e (IsRefusal t bytes)
 IsFailureOn t bytes (failure.Run e) = IsWant t e
 IsFailureOn t bytes failure.Read = ⊥
 IsFailureOn t bytes failure.Write = ⊥
+
+-- the bytes of the input: those of the file that is named, or what standard input gives
+abbrev pub input_of : (List ℕ → Option (List ℕ)) → Option (List ℕ) → Option (List ℕ) → Option (List ℕ)
+input_of contents standard None = standard
+input_of contents standard (Some name) = contents name
 
 -- The output grows by an answer to the input and by nothing else, where the reader and the writer tell their bytes.
 abbrev pub Answers : Task → Option (List ℕ) → Option (List ℕ) → Option (List ℕ) → Type 0

@@ -1,22 +1,47 @@
 //! The command line.
 
-ghost use Rattle.std.specs.Prelude.{◌≡◌, ◌∷◌, [], List, ℕ, Some, None, codes, map, true, false, IfOk, IfErr, IfSome};
+ghost use Rattle.std.specs.Prelude.{◌≡◌, ◌∷◌, [], List, ℕ, Some, None, codes, map, true, false, option_map, IfOk, IfErr, IfSome};
 ghost use Rattle.std.specs.Fmt.{decimal};
-ghost use Rattle.clap.specs.Words.{app_of, kind_of, found_of, one_of, rows_of, subcommand_name_of, subcommand_rows_of, HasMatchesOf, Row, takes};
+ghost use Rattle.clap.specs.Words.{app_of, kind_of, first_of, found_of, one_of, rows_of, rule_of, subcommand_name_of, subcommand_rows_of, HasMatchesOf, Row, Text, takes};
 ghost use Rattle.clap.specs.declared.builder.command.Command.TheViews.{out-Command};
-ghost use Rattle.gw_tool.specs.Words.{bxgate_app, turns_app, run_app, name_of, IsTurn, IsThreads, HasTurn, IsRunTask, IsTakenAs};
+ghost use Rattle.gw_tool.specs.Words.{bxgate_app, core_app, turns_app, threads_app, run_app, file_rule, file_named, name_of, IsTurn, IsThreads, HasTurn, IsRunTask, IsFileName, IsTakenAs, asked_of};
 
+use crate::order::Order;
 use crate::task::Task;
 use clap::error::ErrorKind;
 use clap::{Arg, ArgMatches, Command, Error, value_parser};
 use std::alloc::{AllocError, Global};
 use std::convert::AsStr;
 
+/// The version that `--version` tells.
+const VERSION: &str = "0.1.0";
+
 /// The most bits that may lie between two turns of a route.
 const MOST_BITS: u32 = 1_000_000;
 
 /// The most threads that may be asked for.
 const MOST_THREADS: u32 = 16;
+
+/// The file that a command reads in place of standard input.
+fn file_argument<'a>(alloc: Global) -> Arg<'a>
+    ensures rule { rule_of result ≡ file_rule }
+    ensures local { result.global ≡ false }
+{
+    Arg::new(alloc, "file").value_name("FILE").help(
+        "The file to read; standard input where it is - or isn't given",
+    )
+}
+
+/// The subcommand that reports on a list of events.
+fn core_command<'a>(alloc: Global) -> Result<Command<'a>, AllocError>
+    ensures app { IfOk result (λ command. app_of command ≡ core_app) }
+    ensures local { IfOk result (λ command. (out-Command command).has_globals ≡ false) }
+{
+    let core = Command::new(alloc, "core").about(
+        "Reads a list of mailbox events (JSON) from FILE, and reports what becomes of them",
+    );
+    core.arg(file_argument(alloc))
+}
 
 /// The subcommand that runs a script, with the option that says when turns are made.
 fn turns_command<'a>(alloc: Global) -> Result<Command<'a>, AllocError>
@@ -31,14 +56,14 @@ fn turns_command<'a>(alloc: Global) -> Result<Command<'a>, AllocError>
         .default_value("1");
     Command::new(alloc, "run")
         .about(
-            "Reads a script of segments, controllers and routes (JSON) from standard input, runs it, and reports on the run",
+            "Reads a script of segments, controllers and routes (JSON) from FILE, runs it, and reports on the run",
         )
         .arg(turn)
 }
 
-/// The subcommand that runs a script.
-fn run_command<'a>(alloc: Global) -> Result<Command<'a>, AllocError>
-    ensures app { IfOk result (λ command. app_of command ≡ run_app) }
+/// The subcommand that runs a script, with the options that say how.
+fn threads_command<'a>(alloc: Global) -> Result<Command<'a>, AllocError>
+    ensures app { IfOk result (λ command. app_of command ≡ threads_app) }
     ensures local { IfOk result (λ command. (out-Command command).has_globals ≡ false) }
 {
     let threads = Arg::new(alloc, "threads")
@@ -50,16 +75,24 @@ fn run_command<'a>(alloc: Global) -> Result<Command<'a>, AllocError>
     command.arg(threads)
 }
 
+/// The subcommand that runs a script.
+fn run_command<'a>(alloc: Global) -> Result<Command<'a>, AllocError>
+    ensures app { IfOk result (λ command. app_of command ≡ run_app) }
+    ensures local { IfOk result (λ command. (out-Command command).has_globals ≡ false) }
+{
+    let command = threads_command(alloc)?;
+    command.arg(file_argument(alloc))
+}
+
 /// The matches of the words, the program's name first.
 fn matches_of<'a, S: AsStr>(alloc: Global, words: &'a [S]) -> Result<ArgMatches<'a>, Error>
     ensures matches { IfOk result (HasMatchesOf bxgate_app (map S.text words.entry.now)) }
     ensures fails { IfErr result (λ e. takes bxgate_app (map S.text words.entry.now) ≡ true → kind_of e ≡ ErrorKind.OutOfMemory) }
 {
-    let core = Command::new(alloc, "core").about(
-        "Reads a list of mailbox events (JSON) from standard input, and reports what becomes of them",
-    );
+    let core = core_command(alloc)?;
     let run = run_command(alloc)?;
     let command = Command::new(alloc, "bxgate")
+        .version(VERSION)
         .subcommand(core)?
         .subcommand(run)?;
     command.try_get_matches_from(words)
@@ -128,21 +161,57 @@ fn asked_by(matches: &ArgMatches<'_>) -> Option<Task>
     }
 }
 
+/// The file that the matches name; `-` stands for standard input, as no file does.
+fn file_of<'a>(matches: &ArgMatches<'a>) -> Option<&'a str>
+    ensures { (name : Text) (rows : List Row) → subcommand_rows_of matches.now ≡ Some (name, rows)
+        → option_map (λ file. file.now) result ≡ file_named (first_of (codes "file") rows) }
+{
+    let (_, options) = matches.subcommand()?;
+    let name = options.get_str("file")?;
+    if name == "-" { None } else { Some(name) }
+}
+
+/// What the matches ask for, and of which input.
+fn order_of<'a>(matches: &ArgMatches<'a>) -> Option<Order<'a>>
+    ensures core { (rows : List Row) → subcommand_rows_of matches.now ≡ Some (codes "core", rows)
+        → option_map asked_of result ≡ Some (Task.Core, file_named (first_of (codes "file") rows)) }
+    ensures run { (rows : List Row) (n : ℕ) → subcommand_rows_of matches.now ≡ Some (codes "run", rows) → IsTurn n
+        → one_of (codes "turn") rows ≡ Some (decimal n) → one_of (codes "threads") rows ≡ None
+        → option_map asked_of result ≡ Some (Task.Run n, file_named (first_of (codes "file") rows)) }
+    ensures threads { (rows : List Row) (n m : ℕ) → subcommand_rows_of matches.now ≡ Some (codes "run", rows) → IsTurn m
+        → one_of (codes "turn") rows ≡ Some (decimal m) → IsThreads n → one_of (codes "threads") rows ≡ Some (decimal n)
+        → option_map asked_of result ≡ Some (Task.RunThreads n m, file_named (first_of (codes "file") rows)) }
+    ensures turn { IfSome result (λ order. HasTurn order.task) }
+    ensures nothing { subcommand_name_of matches.now ≡ None → result ≡ None }
+{
+    let task = asked_by(matches)?;
+    let file = file_of(matches);
+    Some(Order { task, file })
+}
+
 /// What the words ask for, the program's name first: `None` where they name no command. The words `core`, `run`,
 /// `run --turn N`, with N from 1 to 1,000,000, and `run --threads N`, with N from 1 to 16, are taken, unless memory runs
-/// out.
-pub fn task_of<S: AsStr>(alloc: Global, words: &[S]) -> Result<Option<Task>, Error>
-    ensures core { (name : List ℕ) → map S.text words.now ≡ name ∷ codes "core" ∷ [] → IsTakenAs (Some Task.Core) result }
-    ensures run { (name : List ℕ) → map S.text words.now ≡ name ∷ codes "run" ∷ [] → IsTakenAs (Some (Task.Run 1)) result }
+/// out, and so are `core FILE` and `run FILE`, with a FILE that doesn't begin with a hyphen or is `-`.
+pub fn task_of<'a, S: AsStr>(alloc: Global, words: &'a [S]) -> Result<Option<Order<'a>>, Error>
+    ensures core { (name : List ℕ) → map S.text words.entry.now ≡ name ∷ codes "core" ∷ [] → IsTakenAs (Some (Task.Core, None)) result }
+    ensures run { (name : List ℕ) → map S.text words.entry.now ≡ name ∷ codes "run" ∷ [] → IsTakenAs (Some (Task.Run 1, None)) result }
     ensures turns { (name : List ℕ) (n : ℕ) → IsTurn n
-        → map S.text words.now ≡ name ∷ codes "run" ∷ codes "--turn" ∷ decimal n ∷ [] → IsTakenAs (Some (Task.Run n)) result }
+        → map S.text words.entry.now ≡ name ∷ codes "run" ∷ codes "--turn" ∷ decimal n ∷ [] → IsTakenAs (Some (Task.Run n, None)) result }
     ensures threads { (name : List ℕ) (n : ℕ) → IsThreads n
-        → map S.text words.now ≡ name ∷ codes "run" ∷ codes "--threads" ∷ decimal n ∷ [] → IsTakenAs (Some (Task.RunThreads n 1)) result }
-    ensures nothing { (name : List ℕ) → map S.text words.now ≡ name ∷ [] → IsTakenAs None result }
-    ensures turn { IfOk result (λ task. IfSome task HasTurn) }
+        → map S.text words.entry.now ≡ name ∷ codes "run" ∷ codes "--threads" ∷ decimal n ∷ [] → IsTakenAs (Some (Task.RunThreads n 1, None)) result }
+    ensures nothing { (name : List ℕ) → map S.text words.entry.now ≡ name ∷ [] → IsTakenAs None result }
+    ensures turn { IfOk result (λ order. IfSome order (λ o. HasTurn o.task)) }
+    ensures core_hyphen { (name : List ℕ) → map S.text words.entry.now ≡ name ∷ codes "core" ∷ codes "-" ∷ []
+        → IsTakenAs (Some (Task.Core, None)) result }
+    ensures run_hyphen { (name : List ℕ) → map S.text words.entry.now ≡ name ∷ codes "run" ∷ codes "-" ∷ []
+        → IsTakenAs (Some (Task.Run 1, None)) result }
+    ensures core_file { (name file : List ℕ) → IsFileName file → map S.text words.entry.now ≡ name ∷ codes "core" ∷ file ∷ []
+        → IsTakenAs (Some (Task.Core, Some file)) result }
+    ensures run_file { (name file : List ℕ) → IsFileName file → map S.text words.entry.now ≡ name ∷ codes "run" ∷ file ∷ []
+        → IsTakenAs (Some (Task.Run 1, Some file)) result }
 {
     match matches_of(alloc, words) {
-        Ok(matches) => Ok(asked_by(&matches)),
+        Ok(matches) => Ok(order_of(&matches)),
         Err(error) => Err(error),
     }
 }

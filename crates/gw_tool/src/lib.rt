@@ -4,7 +4,10 @@
 mod command;
 mod core_command;
 mod failure;
+mod files;
 mod input;
+mod no_files;
+mod order;
 mod output;
 mod program;
 mod report;
@@ -12,7 +15,8 @@ mod run_command;
 mod task;
 mod threads_command;
 
-pub use crate::program::{refused_arguments, tool};
+pub use crate::files::Files;
+pub use crate::program::{refused_arguments, tool, tool_with_files};
 
 #[cfg(test)]
 mod tests;

@@ -6,13 +6,16 @@ ghost use Rattle.std.specs.Io.KnownBytes.{Keeps};
 ghost use Rattle.std.specs.IoError.{error_kind};
 ghost use Rattle.std.specs.declared.io.ErrorKind.TheVariants.{OutOfMemory};
 ghost use Rattle.clap.specs.Words.{kind_of};
-ghost use Rattle.gw_tool.specs.Outcomes.{IsAnswer, IsFailureOn, Ends, EndsWith};
-ghost use Rattle.gw_tool.specs.Words.{IsTurn, IsThreads, HasTurn};
+ghost use Rattle.gw_tool.specs.Outcomes.{IsAnswer, IsFailureOn, Ends, EndsWith, input_of};
+ghost use Rattle.gw_tool.specs.Words.{IsTurn, IsThreads, HasTurn, IsFileName, asked_of};
 
 use crate::command::task_of;
 use crate::core_command::core_text;
 use crate::failure::Failure;
+use crate::files::Files;
 use crate::input::{InputFault, read_input};
+use crate::no_files::NoFiles;
+use crate::order::Order;
 use crate::output::{WriteFault, write_output};
 use crate::run_command::run_text;
 use crate::task::Task;
@@ -72,19 +75,43 @@ fn carry_out<H: Threads + Wait + Copy + Send + 'static, R: Read, W: Write>(
     }
 }
 
-/// Does what was asked for, and answers the status that the program then ends with.
-fn status_after<H: Threads + Wait + Copy + Send + 'static, R: Read, W: Write, E: Write>(
+/// Does the same with the input that is asked for. A file that can't be opened is a read fault.
+fn fulfil<H: Threads + Wait + Copy + Send + 'static, F: Files, R: Read, W: Write>(
     rt: &H,
     alloc: Global,
-    task: Task,
+    order: Order<'_>,
+    files: &F,
+    input: &mut R,
+    output: &mut W,
+) -> Result<(), Failure>
+    requires { HasTurn order.task }
+    ensures { Ends order.entry.task (input_of (F.contents files.now) (R.remaining input.old) (asked_of order.entry).1)
+        (W.contents output.old) (W.contents output.new) result }
+{
+    let Some(path) = order.file else {
+        return carry_out(rt, alloc, order.task, input, output);
+    };
+    match files.open(path) {
+        Ok(mut file) => carry_out(rt, alloc, order.task, &mut file, output),
+        Err(_) => Err(Failure::Read),
+    }
+}
+
+/// Does what was asked for, and answers the status that the program then ends with.
+fn status_after<H: Threads + Wait + Copy + Send + 'static, F: Files, R: Read, W: Write, E: Write>(
+    rt: &H,
+    alloc: Global,
+    order: Order<'_>,
+    files: &F,
     input: &mut R,
     output: &mut W,
     faults: &mut E,
 ) -> u8
-    requires { HasTurn task }
-    ensures { EndsWith task (R.remaining input.old) (W.contents output.old) (W.contents output.new) result }
+    requires { HasTurn order.task }
+    ensures { EndsWith order.entry.task (input_of (F.contents files.now) (R.remaining input.old) (asked_of order.entry).1)
+        (W.contents output.old) (W.contents output.new) result }
 {
-    match carry_out(rt, alloc, task, input, output) {
+    match fulfil(rt, alloc, order, files, input, output) {
         Ok(()) => 0,
         Err(failure) => {
             tell(faults, failure);
@@ -96,7 +123,8 @@ fn status_after<H: Threads + Wait + Copy + Send + 'static, R: Read, W: Write, E:
 /// Runs the program on its words, the program's name first, and answers the status that it ends with:
 /// 0 done, 2 the input is refused, 3 memory ran out or a thread could not be started, 64 the words ask for
 /// nothing, 74 a read or a write fault. What went wrong is told on `faults`, and then nothing is written to
-/// `output`, but that a write fault may come in the middle. The text of help and usage is clap's.
+/// `output`, but that a write fault may come in the middle. The text of help, version and usage is clap's.
+/// There are no files here, so a word that names one is a read fault; see `tool_with_files`.
 pub fn tool<H: Threads + Wait + Copy + Send + 'static, S: AsStr, R: Read, W: Write, E: Write>(
     rt: &H,
     alloc: Global,
@@ -118,9 +146,56 @@ pub fn tool<H: Threads + Wait + Copy + Send + 'static, S: AsStr, R: Read, W: Wri
     ensures nothing { (name : List ℕ) → map S.text words.now ≡ name ∷ []
         → ((result ≡ 64) ⊎ (result ≡ 3)) × Keeps (W.contents output.old) (W.contents output.new) }
     ensures usage { result ≡ 64 → Keeps (W.contents output.old) (W.contents output.new) }
+    ensures core_hyphen { (name : List ℕ) → map S.text words.now ≡ name ∷ codes "core" ∷ codes "-" ∷ []
+        → EndsWith Task.Core (R.remaining input.old) (W.contents output.old) (W.contents output.new) result }
+    ensures run_hyphen { (name : List ℕ) → map S.text words.now ≡ name ∷ codes "run" ∷ codes "-" ∷ []
+        → EndsWith (Task.Run 1) (R.remaining input.old) (W.contents output.old) (W.contents output.new) result }
+{
+    tool_with_files(rt, alloc, words, &NoFiles, input, output, faults)
+}
+
+/// Runs the program as `tool` does, but that it reads the FILE of the words `core FILE` and `run FILE`, with or
+/// without options, in place of `input`. A FILE that can't be opened or read is a read fault; the FILE `-` is `input`.
+pub fn tool_with_files<
+    H: Threads + Wait + Copy + Send + 'static,
+    S: AsStr,
+    F: Files,
+    R: Read,
+    W: Write,
+    E: Write,
+>(
+    rt: &H,
+    alloc: Global,
+    words: &[S],
+    files: &F,
+    input: &mut R,
+    output: &mut W,
+    faults: &mut E,
+) -> u8
+    ensures core { (name : List ℕ) → map S.text words.now ≡ name ∷ codes "core" ∷ []
+        → EndsWith Task.Core (R.remaining input.old) (W.contents output.old) (W.contents output.new) result }
+    ensures run { (name : List ℕ) → map S.text words.now ≡ name ∷ codes "run" ∷ []
+        → EndsWith (Task.Run 1) (R.remaining input.old) (W.contents output.old) (W.contents output.new) result }
+    ensures turns { (name : List ℕ) (n : ℕ) → IsTurn n
+        → map S.text words.now ≡ name ∷ codes "run" ∷ codes "--turn" ∷ decimal n ∷ []
+        → EndsWith (Task.Run n) (R.remaining input.old) (W.contents output.old) (W.contents output.new) result }
+    ensures threads { (name : List ℕ) (n : ℕ) → IsThreads n
+        → map S.text words.now ≡ name ∷ codes "run" ∷ codes "--threads" ∷ decimal n ∷ []
+        → EndsWith (Task.RunThreads n 1) (R.remaining input.old) (W.contents output.old) (W.contents output.new) result }
+    ensures nothing { (name : List ℕ) → map S.text words.now ≡ name ∷ []
+        → ((result ≡ 64) ⊎ (result ≡ 3)) × Keeps (W.contents output.old) (W.contents output.new) }
+    ensures usage { result ≡ 64 → Keeps (W.contents output.old) (W.contents output.new) }
+    ensures core_hyphen { (name : List ℕ) → map S.text words.now ≡ name ∷ codes "core" ∷ codes "-" ∷ []
+        → EndsWith Task.Core (R.remaining input.old) (W.contents output.old) (W.contents output.new) result }
+    ensures run_hyphen { (name : List ℕ) → map S.text words.now ≡ name ∷ codes "run" ∷ codes "-" ∷ []
+        → EndsWith (Task.Run 1) (R.remaining input.old) (W.contents output.old) (W.contents output.new) result }
+    ensures core_file { (name file : List ℕ) → IsFileName file → map S.text words.now ≡ name ∷ codes "core" ∷ file ∷ []
+        → EndsWith Task.Core (F.contents files.now file) (W.contents output.old) (W.contents output.new) result }
+    ensures run_file { (name file : List ℕ) → IsFileName file → map S.text words.now ≡ name ∷ codes "run" ∷ file ∷ []
+        → EndsWith (Task.Run 1) (F.contents files.now file) (W.contents output.old) (W.contents output.new) result }
 {
     match task_of(alloc, words) {
-        Ok(Some(task)) => status_after(rt, alloc, task, input, output, faults),
+        Ok(Some(order)) => status_after(rt, alloc, order, files, input, output, faults),
         Ok(None) => usage(faults),
         Err(error) => refused_words(&error, output, faults),
     }
@@ -152,13 +227,14 @@ pub fn refused_arguments<E: Write>(error: &io::Error, faults: &mut E) -> u8
     64
 }
 
-/// Tells of words that were refused, or gives the help that they ask for.
+/// Tells of words that were refused, or gives the help or the version that they ask for.
 fn refused_words<W: Write, E: Write>(error: &clap::Error, output: &mut W, faults: &mut E) -> u8
     ensures memory { kind_of error.now ≡ ErrorKind.OutOfMemory
         → (result ≡ 3) × Keeps (W.contents output.old) (W.contents output.new) }
     ensures refused { kind_of error.now ≢ ErrorKind.OutOfMemory → kind_of error.now ≢ ErrorKind.DisplayHelp
-        → (result ≡ 64) × Keeps (W.contents output.old) (W.contents output.new) }
+        → kind_of error.now ≢ ErrorKind.DisplayVersion → (result ≡ 64) × Keeps (W.contents output.old) (W.contents output.new) }
     ensures help { kind_of error.now ≡ ErrorKind.DisplayHelp → result ≡ 0 }
+    ensures version { kind_of error.now ≡ ErrorKind.DisplayVersion → result ≡ 0 }
     ensures usage { result ≡ 64 → Keeps (W.contents output.old) (W.contents output.new) }
 {
     match error.kind() {
@@ -166,7 +242,7 @@ fn refused_words<W: Write, E: Write>(error: &clap::Error, output: &mut W, faults
             tell(faults, Failure::Run(RunFault::Memory));
             3
         }
-        ErrorKind::DisplayHelp => {
+        ErrorKind::DisplayHelp | ErrorKind::DisplayVersion => {
             let _ = write!(output, "{error}");
             0
         }

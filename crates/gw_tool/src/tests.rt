@@ -9,13 +9,9 @@ use std::io::{Error, ErrorKind, Read, Write};
 use std::sync::Wait;
 use std::thread::Threads;
 
-mod errors;
 mod event_lists;
-mod limits;
+mod files;
 mod runs;
-mod scripts;
-mod texts;
-mod version_two;
 
 /// What a run of the program did.
 #[derive(Drop)]
@@ -179,7 +175,7 @@ fn asks_for_a_command(rt: HostRuntime) {
     for (words, status) in [
         (["bxgate"].as_slice(), 64u8),
         (["bxgate", "cove"].as_slice(), 64),
-        (["bxgate", "core", "core"].as_slice(), 64),
+        (["bxgate", "core", "core", "core"].as_slice(), 64),
         (["bxgate", "core", "--turn", "1"].as_slice(), 64),
         (["bxgate", "--turn", "1", "run"].as_slice(), 64),
         (["bxgate", "--help"].as_slice(), 0),
@@ -205,8 +201,8 @@ fn asks_for_a_number_of_bits(rt: HostRuntime) {
         ["bxgate", "run", "--turn", "1.0"].as_slice(),
         ["bxgate", "run", "--turn", "one"].as_slice(),
         ["bxgate", "run", "--turn", "1", "--turn", "1"].as_slice(),
-        ["bxgate", "run", "--turn", "1", "1"].as_slice(),
-        ["bxgate", "run", "1"].as_slice(),
+        ["bxgate", "run", "--turn", "1", "1", "1"].as_slice(),
+        ["bxgate", "run", "1", "1"].as_slice(),
         ["bxgate", "run", "--turns", "1"].as_slice(),
         ["bxgate", "run", "--threads"].as_slice(),
         ["bxgate", "run", "--threads", "0"].as_slice(),

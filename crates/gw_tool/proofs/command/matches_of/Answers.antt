@@ -1,16 +1,17 @@
 -- The command is the one that was described.
-use Rattle.std.proofs.Common.{rules, ap, ap₂, map, true, codes, subst, ◌≡◌, ◌∙◌, IfOk, IfErr}
-use Rattle.clap.specs.Words.{App, HasMatchesOf, app_of, kind_of, new_app, takes, with_subcommand}
-use Rattle.clap.specs.Simple.{app_of_fields}
+use Rattle.std.proofs.Common.{ap, ap₂, map, true, subst, ◌≡◌, ◌∙◌, IfOk, IfErr}
+use Rattle.clap.specs.Words.{App, HasMatchesOf, app_of, kind_of, takes, with_subcommand}
+use Rattle.clap.specs.Simple.{app_of_fields, on_top}
 use Rattle.clap.specs.declared.error.kind.ErrorKind.TheVariants.{OutOfMemory}
-use Rattle.gw_tool.specs.Words.{bxgate_app, core_app}
+use Rattle.gw_tool.specs.Words.{bxgate_app, core_app, versioned_app}
 use Rattle.gw_tool.proofs.command.matches_of.Goals as goal
 
 command_is : (g : _) (c : goal.After-try_get_matches_from g) → app_of c.in_ok-command.command ≡ bxgate_app
 command_is g c =
-    let core_is : app_of c.about-core.result ≡ core_app = ap app_of_fields c.about-core.ensures ∙ c.new.ensures.app in
-    let with_core : app_of c.in_ok-subcommand.field-0 ≡ with_subcommand (new_app (codes "bxgate")) core_app.top =
-    c.in_ok-subcommand.ensures.shape (search rules) ∙ ap₂ with_subcommand c.new-2.ensures.app (ap (λ (a : App). a.top) core_is) in
+    let versioned : app_of c.version.result ≡ versioned_app =
+    ap app_of_fields c.version.ensures ∙ ap (on_top (λ top. record top { has_version = true })) c.new.ensures.app in
+    let with_core : app_of c.in_ok-subcommand.field-0 ≡ with_subcommand versioned_app core_app.top =
+    c.in_ok-subcommand.ensures.shape c.in_ok-core.ensures.local ∙ ap₂ with_subcommand versioned (ap (λ (a : App). a.top) c.in_ok-core.ensures.app) in
     c.in_ok-command.ensures.shape c.in_ok-run.ensures.local ∙ ap₂ with_subcommand with_core (ap (λ (a : App). a.top) c.in_ok-run.ensures.app)
 
 pub returns-clause-matches : goal.returns-clause-matches

@@ -1,0 +1,23 @@
+//! A place with no files.
+
+ghost use Rattle.std.specs.Prelude.{None, IsErr};
+
+use crate::files::Files;
+use std::io;
+use std::io::{Empty, Error, ErrorKind};
+
+/// A place with no files: whatever a word names can't be opened.
+#[derive(Clone, Copy, Debug, PartialEq, Eq)]
+pub struct NoFiles;
+
+impl Files for NoFiles {
+    ghost contents = { λ _ _. None };
+
+    type File = Empty;
+
+    fn open(&self, _path: &str) -> io::Result<Empty>
+        ensures { IsErr result }
+    {
+        Err(Error::from(ErrorKind::NotFound))
+    }
+}
