@@ -7,6 +7,7 @@ use std::fs::File;
 use std::io;
 
 /// The files of the host. What they hold isn't known to a proof.
+#[derive(Clone, Copy)]
 pub struct HostFiles<'a>(pub &'a HostRuntime);
 
 impl Files for HostFiles<'_> {
