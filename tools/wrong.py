@@ -62,12 +62,12 @@ def listed(name, count, rest):
 
 
 def too_long():
-    """Lists with one element too many, each behind one that is just not too long, and nodes and routes too many."""
+    """Lists that are just not too long, and lists with one element more; and a node and a route too many."""
     for text, name, most in [(ONE, "frames", 10_000), (ONE, "faults", 10_000), (ONE, "aborts", 1_000),
                              (TWO, "rewrite", 32), (TWO, "banks", 28)]:
         old = f'"{name}":[{{'
-        for more, fault in [(most - 1, f"J3 Kind {name}"), (most, f"J8 TooMany {name}")]:
-            yield fault, changed(text, old, f'"{name}":[{zeros(more)},{{')
+        for count, fault in [(most, f"J3 Kind {name}"), (most + 1, f"J8 TooMany {name}")]:
+            yield fault, changed(text, old, f'"{name}":[{zeros(count)}],"x":[{{')
     # sixteen nodes of a segment go before its talker t, and with t before its controller c
     talkers = listed("u", 16, '"on":0,"frames":[]')
     yield "J8 TooMany talkers", changed(ONE, '"talkers":[{', f'"talkers":[{talkers}{{')

@@ -160,7 +160,10 @@ fn tells_the_first_fault(rt: HostRuntime) -> Result<(), Fail> {
         assert_eq!(rt; fault_of(alloc, text), Some(fault), "{text}");
     }
     let whole = THREE_FRAMES.as_bytes();
-    assert_eq!(rt; told_of(alloc, &whole[..whole.len() - 1]), Some(ScriptFault::NotJson));
+    assert_eq!(rt;
+        told_of(alloc, &whole[..whole.len() - 1]),
+        Some(ScriptFault::NotJson)
+    );
     Ok(())
 }
 

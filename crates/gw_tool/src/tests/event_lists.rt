@@ -9,7 +9,11 @@ pub const SENDS_ONE_FRAME: &str =
 
 #[test]
 fn reports_on_an_event_list(rt: HostRuntime) {
-    let run = run_of(&rt, ["bxgate", "core"].as_slice(), SENDS_ONE_FRAME.as_bytes());
+    let run = run_of(
+        &rt,
+        ["bxgate", "core"].as_slice(),
+        SENDS_ONE_FRAME.as_bytes(),
+    );
     assert_eq!(rt; run.status, 0);
     let report = "event 2 refused C4\n\
         done 0 1 000 data - 00000100000100000100000100000100000100001111111111\n\
