@@ -53,10 +53,6 @@ fn abort(mailbox: u8) -> Event {
     Event::Abort { route: 0, mailbox }
 }
 
-fn reap(mailbox: u8) -> Event {
-    Event::Reap { mailbox }
-}
-
 /// The code's number of what an event answers, 0 where it is taken, and 99 out of range.
 pub(crate) fn answer(core: &mut Core, event: Event) -> u8 {
     if !core.is_in_range(&event) {
@@ -98,47 +94,6 @@ fn sends_one_frame(rt: HostRuntime) -> Result<(), Fail> {
     assert!(rt; core.aborted(1).is_empty() && core.reaped(1).is_empty());
     assert!(rt; core.waiting(1).is_empty());
     assert_eq!(rt; core.last_number(1), 0);
-    Ok(())
-}
-
-#[test]
-fn refuses_in_order(rt: HostRuntime) -> Result<(), Fail> {
-    let mut core = Core::new(rt.alloc(), 1);
-    let frame = empty_frame()?;
-    for (event, want) in [
-        (request(0, 1, frame), 2),
-        (claim(0), 0),
-        (claim(0), 1),
-        (request(0, 16_777_216, frame), 5),
-        (request(0, 5, frame), 0),
-        (claim(1), 0),
-        (request(1, 5, frame), 5),
-        (request(1, 6, frame), 0),
-        (schedule(1), 3),
-        (schedule(2), 4),
-        (schedule(0), 0),
-        (abort(0), 0),
-        (abort(0), 2),
-        (schedule(1), 0),
-        (start(1), 0),
-        (abort(1), 0),
-        (abort(1), 4),
-        (reap(1), 4),
-        (fail(1), 0),
-        (start(1), 4),
-        (reap(1), 0),
-        (complete(1), 4),
-        (withdraw(2), 2),
-    ] {
-        assert_eq!(rt; answer(&mut core, event), want);
-    }
-    assert!(rt; core.routes() == 1);
-    assert_eq!(rt; core.requested(0).len(), 2);
-    assert!(rt; core.done(0).is_empty());
-    assert!(rt; core.aborted(0) == [5].as_slice());
-    assert!(rt; core.reaped(0) == [6].as_slice());
-    assert!(rt; core.waiting(0).is_empty());
-    assert!(rt; !core.is_in_range(&claim(3)));
     Ok(())
 }
 

@@ -10,40 +10,6 @@ fn frame_of(number: u16) -> Result<Frame, Fail> {
     Ok(Frame::with_bytes(Id::standard(number)?, &[])?)
 }
 
-#[test]
-fn sends_the_lower_identifier_first(rt: HostRuntime) -> Result<(), Fail> {
-    let mut core = Core::with_txfp(rt.alloc(), 1, false);
-    let high = frame_of(1)?;
-    let low = frame_of(0)?;
-    for (event, want) in [
-        (claim(0), 0),
-        (request(0, 1, high), 0),
-        (claim(1), 0),
-        (request(1, 2, low), 0),
-        (schedule(0), 3),
-        (schedule(1), 0),
-        (start(1), 0),
-        (complete(1), 0),
-        (schedule(0), 0),
-        (start(0), 0),
-        (complete(0), 0),
-    ] {
-        assert_eq!(rt; answer(&mut core, event), want);
-    }
-    let first = Entry {
-        number: 2,
-        frame: low,
-    };
-    let second = Entry {
-        number: 1,
-        frame: high,
-    };
-    assert!(rt; core.routes() == 1 && !core.txfp());
-    assert!(rt; core.done(0) == [first, second].as_slice());
-    assert!(rt; core.waiting(0).is_empty());
-    Ok(())
-}
-
 /// Of equal identifiers the lower mailbox goes, also where the other is older. What is scheduled stays
 /// so, and no other is scheduled beside it, though its identifier is lower.
 #[test]

@@ -84,70 +84,6 @@ const ONE_FRAME_TEXT: &str = "a 11 t started 000 data -\n\
      a node l tec 0 rec 0 active\n\
      a end 64\n";
 
-fn three_frames_report(alloc: Global) -> Result<Report, AllocError> {
-    let sent = vec![in alloc;
-        started(11, 0, None),
-        took(59, 1, 11),
-        completed(60, 0, 11, None),
-        started(64, 0, None),
-        took(112, 1, 64),
-        completed(113, 0, 64, None),
-        started(117, 0, None),
-        took(165, 1, 117),
-        completed(166, 0, 117, None),
-    ]?;
-    let passed_on = vec![in alloc;
-        started(60, 1, of_first(1)),
-        took(108, 0, 60),
-        completed(109, 1, 60, of_first(1)),
-        started(113, 1, of_first(2)),
-        took(161, 0, 113),
-        completed(162, 1, 113, of_first(2)),
-        started(166, 1, of_first(3)),
-        took(214, 0, 166),
-        completed(215, 1, 166, of_first(3)),
-    ]?;
-    let frame = Frame::default();
-    let route = RouteReport {
-        accepted: 3,
-        overrun: 0,
-        held: 0,
-        released: vec![in alloc; frame, frame, frame]?,
-        aborted: Vec::new(alloc),
-        completed: vec![in alloc; entry(1, frame), entry(2, frame), entry(3, frame)]?,
-    };
-    Ok(Report {
-        segments: vec![in alloc; plain_record(alloc, sent)?, plain_record(alloc, passed_on)?]?,
-        routes: vec![in alloc; route]?,
-    })
-}
-
-const THREE_FRAMES_TEXT: &str = "a 11 t started 000 data -\n\
-     a 59 c took 11 000 data -\n\
-     a 60 t completed 11 000 data -\n\
-     a 64 t started 000 data -\n\
-     a 112 c took 64 000 data -\n\
-     a 113 t completed 64 000 data -\n\
-     a 117 t started 000 data -\n\
-     a 165 c took 117 000 data -\n\
-     a 166 t completed 117 000 data -\n\
-     a node t tec 0 rec 0 active\n\
-     a node c tec 0 rec 0 active\n\
-     a end 300\n\
-     b 60 d started 000 data - r 1\n\
-     b 108 l took 60 000 data -\n\
-     b 109 d completed 60 000 data - r 1\n\
-     b 113 d started 000 data - r 2\n\
-     b 161 l took 113 000 data -\n\
-     b 162 d completed 113 000 data - r 2\n\
-     b 166 d started 000 data - r 3\n\
-     b 214 l took 166 000 data -\n\
-     b 215 d completed 166 000 data - r 3\n\
-     b node l tec 0 rec 0 active\n\
-     b node d tec 0 rec 0 active\n\
-     b end 300\n\
-     route r accepted 3 overrun 0 released 3 completed 3 aborted 0 held 0\n";
-
 /// Counters after so many errors of a sender, and one of a receiver.
 fn counters_after(errors: u32) -> Counters {
     let mut counters = Counters::new();
@@ -271,26 +207,6 @@ fn is_printed(alloc: Global, script: &Script, report: &Report, text: &str) -> Re
         Ok(bytes) => Ok(bytes.as_slice() == text.as_bytes()),
         Err(why) => Err(why),
     }
-}
-
-#[test]
-fn prints_one_frame_between_talkers(rt: HostRuntime) -> Result<(), Fail> {
-    let alloc = rt.alloc();
-    let script = read(alloc, TWO_TALKERS.as_bytes())?;
-    let report = one_frame_report(alloc)?;
-    assert!(rt; names_stand(&script, &report));
-    assert!(rt; is_printed(alloc, &script, &report, ONE_FRAME_TEXT)?);
-    Ok(())
-}
-
-#[test]
-fn prints_three_frames_over_a_route(rt: HostRuntime) -> Result<(), Fail> {
-    let alloc = rt.alloc();
-    let script = read(alloc, THREE_FRAMES.as_bytes())?;
-    let report = three_frames_report(alloc)?;
-    assert!(rt; names_stand(&script, &report));
-    assert!(rt; is_printed(alloc, &script, &report, THREE_FRAMES_TEXT)?);
-    Ok(())
 }
 
 #[test]

@@ -12,14 +12,6 @@ use std::test::Fail;
 pub(crate) const THREE_FRAMES: &str =
     r#"{"version":1,"bits":300,"segments":[{"name":"a","talkers":[{"name":"t","on":0,"frames":[{"id":0,"ext":false,"data":[]},{"id":0,"ext":false,"data":[]},{"id":0,"ext":false,"data":[]}]}]},{"name":"b","talkers":[{"name":"l","on":0,"frames":[]}]}],"controllers":[{"name":"c","segment":"a","on":0,"banks":[{"bank":0,"scale":32,"mode":"mask","fifo":0,"active":true,"r1":0,"r2":0}]},{"name":"d","segment":"b","on":0,"banks":[]}],"routes":[{"name":"r","from":"c","fifo":0,"to":"d"}]}"#;
 
-/// Five frames, of which the last is taken at bit 271.
-const FIVE_FRAMES: &str =
-    r#"{"version":1,"bits":400,"segments":[{"name":"a","talkers":[{"name":"t","on":0,"frames":[{"id":0,"ext":false,"data":[]},{"id":0,"ext":false,"data":[]},{"id":0,"ext":false,"data":[]},{"id":0,"ext":false,"data":[]},{"id":0,"ext":false,"data":[]}]}]},{"name":"b","talkers":[{"name":"l","on":0,"frames":[]}]}],"controllers":[{"name":"c","segment":"a","on":0,"banks":[{"bank":0,"scale":32,"mode":"mask","fifo":0,"active":true,"r1":0,"r2":0}]},{"name":"d","segment":"b","on":0,"banks":[]}],"routes":[{"name":"r","from":"c","fifo":0,"to":"d"}]}"#;
-
-/// The target is switched on late, and the second of three frames is aborted before.
-const ABORTED: &str =
-    r#"{"version":1,"bits":320,"segments":[{"name":"a","talkers":[{"name":"t","on":0,"frames":[{"id":0,"ext":false,"data":[]},{"id":0,"ext":false,"data":[]},{"id":0,"ext":false,"data":[]}]}]},{"name":"b","talkers":[{"name":"l","on":0,"frames":[]}]}],"controllers":[{"name":"c","segment":"a","on":0,"banks":[{"bank":0,"scale":32,"mode":"mask","fifo":0,"active":true,"r1":0,"r2":0}]},{"name":"d","segment":"b","on":200,"banks":[]}],"routes":[{"name":"r","from":"c","fifo":0,"to":"d"}],"aborts":[{"route":"r","number":2,"turn":170}]}"#;
-
 /// The report, or why the run or the script gave none.
 fn outcome_of<R: Wait>(
     rt: &R,
@@ -78,37 +70,6 @@ fn three_frames_go_over_a_route(rt: HostRuntime) -> Result<(), Fail> {
     }
     assert!(rt; segments.next().is_none());
     Ok(())
-}
-
-/// One turn at the end: the FIFO held three frames, and two more were discarded.
-#[test]
-fn a_late_turn_finds_a_full_fifo(rt: HostRuntime) -> Result<(), Fail> {
-    match report_on(&rt, rt.alloc(), FIVE_FRAMES, 400) {
-        Ok(report) => {
-            assert!(rt; report.routes.iter().map(counts_of).next() == Some([5, 2, 1, 0, 0, 3]));
-            Ok(())
-        }
-        Err(fail) => Err(fail),
-    }
-}
-
-#[test]
-fn an_aborted_frame_is_left_out(rt: HostRuntime) -> Result<(), Fail> {
-    match report_on(&rt, rt.alloc(), ABORTED, 1) {
-        Ok(report) => {
-            let mut routes = report.routes.iter();
-            match routes.next() {
-                Some(route) => {
-                    assert!(rt; counts_of(route) == [3, 0, 3, 2, 1, 0]);
-                    assert!(rt; route.completed.iter().map(|entry| entry.number).eq([1, 3]));
-                    assert_eq!(rt; route.aborted.as_slice(), [2].as_slice());
-                    Ok(())
-                }
-                None => Err(RunFault::Spawn.into()),
-            }
-        }
-        Err(fail) => Err(fail),
-    }
 }
 
 /// Each growth may be refused: then there is no report, and else it is as with ample memory.
