@@ -135,7 +135,7 @@ impl<'a> ControllerReader<'a> {
         requires { segment < length self.now.segments.now }
         ensures value { ReadsUnlessMemory (λ c. c) result
             (controller_with self.now.version self.now.bits self.now.segments.now
-                front.now name.now segment (view from.now)) }
+            front.now name.now segment (view from.now)) }
         ensures range { IfOk result (IsControllerIn self.now.bits self.now.segments.now) }
     {
         let on = whole(from, "on", 0, u64::from(self.bits - 1))? as u32;
