@@ -4,6 +4,8 @@ use crate::rate::millions;
 use bx_rx::{Bank, Banks, Mode, Offered, RxFifo, RxFrame, Scale};
 use can_frame::{Frame, Id};
 use std::io;
+use std::rt::Clock;
+use std::sync::Wait;
 use std::time::Instant;
 
 const ROUNDS: u32 = 2_000_000;
@@ -38,16 +40,16 @@ fn full() -> Banks {
 }
 
 /// Looks for frames, of which these many follow each other; how many were found.
-fn find_frames(banks: &Banks, first: u16, many: u32) -> u64 {
+fn find_frames(banks: &Banks, first: u16, many: u16) -> u64 {
     let mut found = 0u64;
     for round in 0..ROUNDS {
-        let frame = frame_of(first.wrapping_add((round % many.max(1)) as u16));
+        let frame = frame_of(first.wrapping_add((round % u32::from(many.max(1))) as u16));
         found = found.wrapping_add(u64::from(banks.find(&frame).is_some()));
     }
     found
 }
 
-fn offer_and_release(rt: &HostRuntime) -> io::Result<()> {
+fn offer_and_release<H: Print + Clock + AllocGlobal + Wait>(rt: &H) -> io::Result<()> {
     let Ok((mut rxin, mut rxout)) = RxFifo::pair(rt.alloc()) else {
         return println!(rt; "no memory");
     };
@@ -71,11 +73,11 @@ fn offer_and_release(rt: &HostRuntime) -> io::Result<()> {
 }
 
 /// Prints the rates of both.
-pub fn measure(rt: &HostRuntime) -> io::Result<()> {
+pub fn measure<H: Print + Clock + AllocGlobal + Wait>(rt: &H) -> io::Result<()> {
     let banks = full();
     // identifiers up to 511 match nowhere; the last bank has those from 1024 + 4 * 13 on
     for (name, first, many) in [
-        ("no match", 0u16, 512u32),
+        ("no match", 0u16, 512u16),
         ("match in the last bank", 1078, 1),
     ] {
         let start = Instant::now(rt)?;

@@ -3,6 +3,7 @@
 use crate::rate::millions;
 use can_frame::{Frame, Id, Reader, Step, wire};
 use std::io;
+use std::rt::Clock;
 use std::time::Instant;
 
 const ROUNDS: u32 = 20_000;
@@ -69,7 +70,7 @@ fn push_bits() -> (u64, u64) {
 }
 
 /// Prints the rates of both.
-pub fn measure(rt: &HostRuntime) -> io::Result<()> {
+pub fn measure<H: Print + Clock + AllocGlobal>(rt: &H) -> io::Result<()> {
     let start = Instant::now(rt)?;
     let bits = wire_bits();
     let rate = millions(rt.alloc(), bits, start.elapsed(rt)?)?;

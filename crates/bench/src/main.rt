@@ -11,7 +11,7 @@ use std::io;
 
 /// Measures what the word names; with another word, or none, says which there are.
 fn main(rt: HostRuntime) -> io::Result<()> {
-    let words = std::env::args(&rt)?.collect(rt.alloc())?;
+    let words: Vec<String> = std::env::args(&rt)?.collect(rt.alloc())?;
     match words.get(1).map(|word| word.as_str()) {
         Some("filters") => filters::measure(&rt),
         Some("frames") => frames::measure(&rt),

@@ -6,6 +6,7 @@ use can_frame::{Frame, Id};
 use can_node::{Node, Outcome};
 use std::alloc::{AllocError, Global};
 use std::io;
+use std::rt::Clock;
 use std::time::Instant;
 
 const BITS: u64 = 1_000_000;
@@ -31,7 +32,7 @@ fn completes(node: &mut Node, level: bool) -> bool {
 fn bit(nodes: &mut [Node], senders: usize) -> u64 {
     for (place, node) in nodes.iter_mut().enumerate() {
         if place < senders && node.wants_start() {
-            node.begin(frame_of(place as u16));
+            node.begin(frame_of((place % 2048) as u16));
         }
     }
     let mut level = true;
@@ -54,7 +55,7 @@ fn bus(alloc: Global, size: u64) -> Result<Vec<Node>, AllocError> {
 }
 
 /// Prints the rate of each bus.
-pub fn measure(rt: &HostRuntime) -> io::Result<()> {
+pub fn measure<H: Print + Clock + AllocGlobal>(rt: &H) -> io::Result<()> {
     for size in [2u64, 8, 16] {
         for (name, senders) in [("idle", 0usize), ("one sends", 1), ("all send", 16)] {
             let mut nodes = bus(rt.alloc(), size)?;

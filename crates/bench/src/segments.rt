@@ -12,6 +12,8 @@ use can_segment::{Event, RxSink, SegFault, Segment, SegmentPlan, Talker};
 use std::alloc::{AllocError, Global};
 use std::io;
 use std::mem::size_of;
+use std::rt::Clock;
+use std::sync::Wait;
 use std::time::Instant;
 
 const BITS: u64 = 1_000_000;
@@ -62,7 +64,7 @@ fn make_bits<R, P: RxSink<R>>(
 }
 
 /// Prints the rate of each segment.
-pub fn measure(rt: &HostRuntime) -> io::Result<()> {
+pub fn measure<H: Print + Clock + AllocGlobal + Wait>(rt: &H) -> io::Result<()> {
     println!(rt; "a line of a record takes {} bytes", size_of::<Event>())?;
     for size in [2u16, 8, 16] {
         for (name, times) in [("idle", 0u32), ("busy", 10_000)] {
