@@ -43,6 +43,8 @@ fn with_youngest(word: u64, mailbox: u8, route: u8) -> u64
     requires filling { lane_of word mailbox ≡ filling route }
     ensures { LaneYoungest word mailbox (filling route + 2) result }
 {
+    // where an order bit is set the higher mailbox's request is the older, and else the lower one's: so the bits of
+    // higher mailboxes are set, and the mask clears those of lower ones
     match mailbox {
         0 => (word | 0x0300_0002) & 0xFFFF_FFFF_FFFF_FFFF,
         1 => (word | 0x0400_0200) & 0xFFFF_FFFF_FEFF_FFFF,
