@@ -1,0 +1,10 @@
+pub mod Reading
+pub mod Orders
+pub mod Counts
+pub mod Showing
+pub mod Knowing
+pub mod Moves
+pub mod Claiming
+pub mod Requesting
+pub mod Looking
+pub mod Dealing

@@ -1,0 +1,5 @@
+pub mod Marks
+pub mod Shown
+pub mod Ended
+pub mod Steps
+pub mod Seats
