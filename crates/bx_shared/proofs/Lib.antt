@@ -8,3 +8,4 @@ pub mod Claiming
 pub mod Requesting
 pub mod Looking
 pub mod Dealing
+pub mod Losing

@@ -1,9 +1,12 @@
 -- What the seats at a controller's mailboxes are to their callers.
-use Rattle.std.specs.Prelude.{◌≡◌, ℕ, zero, suc, ◌+◌, ◌-◌, ◌<◌, Some, List, [], ◌∷◌, ◌++◌, Bool, false, length, slice_get, slice_set}
+use Rattle.std.specs.Prelude.{◌≡◌, ◌⊎◌, ℕ, zero, suc, ◌+◌, ◌-◌, ◌<◌, Some, List, [], ◌∷◌, ◌++◌, Bool, true, false, length, slice_get, slice_set}
 use Rattle.atomic_table.specs.Seated.{TableId}
 use Rattle.atomic_table.specs.Table.{Me}
 use Rattle.can_frame.specs.Frames.{FrameValue}
 use Rattle.bx_core.specs.declared.entry.Entry.{Entry}
+use Rattle.bx_core.specs.declared.point.Point.{Point}
+use Rattle.bx_core.specs.declared.point.Point.TheVariants.{Look, Claim, Fill, Request, Withdraw}
+use Rattle.bx_core.specs.Gate.{Passes}
 use Rattle.bx_words.specs.Lanes.{lane_of, filling}
 use Rattle.bx_shared.specs.declared.said.Said.{Said}
 use Rattle.bx_shared.specs.declared.route_view.RouteView.{RouteView}
@@ -43,6 +46,26 @@ pub record Rests (p q : RouteView) : Type 0 where
 abbrev pub entry : ℕ → FrameValue → Entry
 entry number frame = record { number = number; frame = frame }
 
+-- The seat looked once, and claimed the lowest empty mailbox of that word; all else that it knows of its requests is as before.
+pub record IsClaimed (p q : RouteView) (mailbox : ℕ) : Type 0 where
+  pub route : q.route ≡ p.route
+  pub requested : q.requested ≡ p.requested
+  pub aborted : q.aborted ≡ p.aborted
+  pub asked : q.asked ≡ p.asked
+  pub last : q.last ≡ p.last
+  pub claims : q.claims ≡ true
+  pub is : q.mailbox ≡ mailbox
+  pub looks : q.looks ≡ p.looks + 1
+  pub lowest : IsLowest q.seen mailbox
+
+-- The seat looked once more, and requested what it had stored.
+pub record IsRequested (p q : RouteView) (e : Entry) : Type 0 where
+  pub rests : Rests p q
+  pub requested : q.requested ≡ p.requested ++ e ∷ []
+  pub last : q.last ≡ slice_set p.last p.mailbox e.number
+  pub looks : q.looks ≡ p.looks + 1
+  pub before : q.before ≡ p.seen
+
 -- Taken: requested grew by just this request, which was put into the lowest empty mailbox of the first of the two words looked at
 pub record IsTaken (p q : RouteView) (number : ℕ) (frame : FrameValue) (mailbox : ℕ) : Type 0 where
   pub requested : q.requested ≡ p.requested ++ entry number frame ∷ []
@@ -65,11 +88,38 @@ pub record IsContended (p q : RouteView) (word : ℕ) : Type 0 where
   pub differs : ¬ (word ≡ q.seen)
   pub same : SameFilling p.route q.seen word
 
+-- the seat looked once, or once more, and lost the exchange that followed
+pub record IsLost (p q : RouteView) (word : ℕ) : Type 0 where
+  pub rests : Rests p q
+  pub contended : IsContended p q word
+  pub looks : q.looks ≡ p.looks + 1
+
+-- the answer to a request that claimed no mailbox
+abbrev pub IsUnclaimed : RouteView → RouteView → RequestAnswer → Type 0
+IsUnclaimed p q (Taken mailbox) = ⊥
+IsUnclaimed p q NoRoom = Rests p q × IsNoRoom p q
+IsUnclaimed p q (Contended word) = IsLost p q word
+
 -- what an answer to a request says of the seat before and after
 abbrev pub Answers : RouteView → RouteView → ℕ → FrameValue → RequestAnswer → Type 0
 Answers p q number frame (Taken mailbox) = Rests p q × IsTaken p q number frame mailbox
 Answers p q number frame NoRoom = Rests p q × IsNoRoom p q
 Answers p q number frame (Contended word) = Rests p q × IsContended p q word
+
+-- the points that a request passes up to its claim, and up to its request
+abbrev pub to_claim : List Point
+to_claim = Look ∷ Claim ∷ []
+
+abbrev pub to_request : List Point
+to_request = Look ∷ Claim ∷ Fill ∷ Fill ∷ Look ∷ Request ∷ []
+
+-- what the gate heard of a request with this answer: an exchange that is lost is the claim, at the first look, or the request, at
+-- the second, and then the claim is given back
+abbrev pub Hears : {G : Type 0} → (G → List Point → Type 0) → RouteView → RouteView → RequestAnswer → G → G → Type 0
+Hears may_have_heard p q (Taken mailbox) old new = Passes may_have_heard to_request old new
+Hears may_have_heard p q NoRoom old new = Passes may_have_heard (Look ∷ []) old new
+Hears may_have_heard p q (Contended word) old new = ((q.looks ≡ p.looks + 1) × Passes may_have_heard to_claim old new)
+    ⊎ ((q.looks ≡ p.looks + 2) × Passes may_have_heard (to_request ++ Withdraw ∷ []) old new)
 
 -- a route's seat: the mailboxes that it is at, and what it knows
 pub record RoutePlace : Type 0 where
