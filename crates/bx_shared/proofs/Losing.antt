@@ -1,5 +1,7 @@
 -- What a route's seat knows where its request lost and its claim is given back.
-use Rattle.std.proofs.Common.{◌≡◌, ℕ, ◌+◌, ◌<◌, refl, sym, ap, ◌∙◌, subst, Bool, true}
+use Rattle.std.proofs.Common.{◌≡◌, ℕ, ◌+◌, ◌<◌, List, ◌++◌, refl, sym, ap, ◌∙◌, subst, append_assoc, Bool, true}
+use Rattle.bx_core.specs.declared.point.Point.{Point}
+use Rattle.bx_core.specs.Gate.{Passes}
 use Rattle.bx_words.specs.Lanes.{lane_of, filling}
 use Rattle.bx_shared.specs.declared.route_view.RouteView.{RouteView}
 use Rattle.bx_shared.specs.Steps.{looked, missed, withdrawn, IsOwn}
@@ -18,3 +20,7 @@ gives_back p seen found a b n = record {
   contended = record { requested = refl; last = refl; found = refl; differs = n; same = fills_same p seen found a b };
   looks = refl;
 }
+
+-- what a gate heard over two stretches
+pub passes_on : {G : Type 0} (may_have_heard : G → List Point → Type 0) (xs ys : List Point) (a b c : G) → Passes may_have_heard xs a b → Passes may_have_heard ys b c → Passes may_have_heard (xs ++ ys) a c
+passes_on may_have_heard xs ys a b c f g told h = subst (may_have_heard c) (append_assoc told xs ys) (g (told ++ xs) (f told h))

@@ -113,6 +113,12 @@ to_claim = Look ∷ Claim ∷ []
 abbrev pub to_request : List Point
 to_request = Look ∷ Claim ∷ Fill ∷ Fill ∷ Look ∷ Request ∷ []
 
+-- what the gate heard where no mailbox was claimed
+abbrev pub HearsUnclaimed : {G : Type 0} → (G → List Point → Type 0) → RequestAnswer → G → G → Type 0
+HearsUnclaimed may_have_heard (Taken mailbox) old new = ⊥
+HearsUnclaimed may_have_heard NoRoom old new = Passes may_have_heard (Look ∷ []) old new
+HearsUnclaimed may_have_heard (Contended word) old new = Passes may_have_heard to_claim old new
+
 -- what the gate heard of a request with this answer: an exchange that is lost is the claim, at the first look, or the request, at
 -- the second, and then the claim is given back
 abbrev pub Hears : {G : Type 0} → (G → List Point → Type 0) → RouteView → RouteView → RequestAnswer → G → G → Type 0

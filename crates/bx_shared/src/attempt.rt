@@ -1,9 +1,11 @@
 //! One try of a route's seat to request a frame.
-ghost use Rattle.std.specs.Prelude.{◌≡◌, ◌<◌, ◌^◌, true, false, MatchOption, IfSome, IfNone, IfOk, IfErr};
+ghost use Rattle.std.specs.Prelude.{◌≡◌, ◌<◌, ◌^◌, true, false, MatchOption, IfSome, IfNone, IfOk, IfErr, OnOk, OnSome, [], ◌∷◌};
+ghost use Rattle.bx_core.specs.declared.point.Point.TheVariants.{Look, Fill, Request, Withdraw};
+ghost use Rattle.bx_core.specs.Gate.{Passes};
 ghost use Rattle.bx_core.specs.Steps.{last_number};
 ghost use Rattle.bx_words.specs.Payloads.{ArePacked};
 ghost use Rattle.bx_shared.specs.Steps.{seat_of, part_of, head_stored, bytes_stored};
-ghost use Rattle.bx_shared.specs.Seats.{IsAt, IsFull, IsLowest, IsClaimed, IsUnclaimed, IsRequested, IsLost, Answers};
+ghost use Rattle.bx_shared.specs.Seats.{IsAt, IsFull, IsLowest, IsClaimed, IsUnclaimed, IsRequested, IsLost, Answers, HearsUnclaimed, Hears, to_claim};
 
 use crate::request_answer::RequestAnswer;
 use crate::route_steps::{
@@ -42,6 +44,8 @@ fn claim_lowest<G: Gate>(
     ensures route { seat.new.me ≡ seat_of (part_of seat.new.me) }
     ensures claimed { IfOk result (IsClaimed (part_of seat.old.me) (part_of seat.new.me)) }
     ensures refused { IfErr result (IsUnclaimed (part_of seat.old.me) (part_of seat.new.me)) }
+    ensures hears { OnOk result (Passes G.may_have_heard to_claim gate.old gate.new) }
+    ensures hears_none { IfErr result (λ answer. HearsUnclaimed G.may_have_heard answer gate.old gate.new) }
 {
     gate.pass(Point::Look);
     let seen = look(words, seat);
@@ -63,6 +67,7 @@ fn fill<G: Gate>(words: &Words, seat: &mut Seat, mailbox: u8, head: u64, bytes: 
     requires fills { (mailbox < 3) × ((part_of seat.old.me).claims ≡ true) × ((part_of seat.old.me).mailbox ≡ mailbox) }
     ensures table { seat.new.table_id ≡ seat.old.table_id }
     ensures filled { seat.new.me ≡ seat_of (bytes_stored (head_stored (part_of seat.old.me) head) bytes) }
+    ensures hears { Passes G.may_have_heard (Fill ∷ Fill ∷ []) gate.old gate.new }
 {
     gate.pass(Point::Fill);
     store_head(words, seat, mailbox, head);
@@ -90,6 +95,8 @@ fn request_filled<G: Gate>(
     ensures route { seat.new.me ≡ seat_of (part_of seat.new.me) }
     ensures requested { IfNone result (IsRequested (part_of seat.old.me) (part_of seat.new.me) entry) }
     ensures lost { IfSome result (IsLost (part_of seat.old.me) (part_of seat.new.me)) }
+    ensures hears { IfNone result (Passes G.may_have_heard (Look ∷ Request ∷ []) gate.old gate.new) }
+    ensures hears_lost { OnSome result (Passes G.may_have_heard (Look ∷ Request ∷ Withdraw ∷ []) gate.old gate.new) }
 {
     gate.pass(Point::Look);
     let seen = look(words, seat);
@@ -120,6 +127,7 @@ pub(crate) fn attempt<G: Gate>(
     ensures table { seat.new.table_id ≡ seat.old.table_id }
     ensures route { seat.new.me ≡ seat_of (part_of seat.new.me) }
     ensures answer { Answers (part_of seat.old.me) (part_of seat.new.me) entry.number entry.frame result }
+    ensures hears { Hears G.may_have_heard (part_of seat.old.me) (part_of seat.new.me) result gate.old gate.new }
 {
     let mailbox = match claim_lowest(words, seat, route, gate) {
         Ok(mailbox) => mailbox,
