@@ -46,24 +46,24 @@ claims-keep txfp slots id m old new p small there idle empty ls t k long me fits
     let ls' : LaneSet (get_or ws 0 0) m (filling p.route) new = subst (λ (z : ℕ). LaneSet z m (filling p.route) new) (sym e) ls in
     let within : p.route < length s.routes = let h = k.eight in omega arith in
     moves txfp t k id p (claimed p m) (set ws 0 new) next me refl
-        (leads-reached s s next next refl (leads-claim s p.route m within small (ap is_some r.claim) (ap is_some r.none.at)) refl k.reached) k.priority k.eight
-        (shows_claim ws s m (filling p.route) new (Some p.route) small k.shows law (let z = r.none.lane in omega arith) ls')
-        (record {
-          requested = f.requested;
-          aborted = f.aborted;
-          reaped = f.reaped;
-          claim = λ _. record { own = mine; head = λ h. absurd (omega arith); bytes = λ h. absurd (omega arith) };
-          only = λ j is. (refl, dite (ℕ_discrete j m) (λ e. sym e) (λ n. absurd (true≢false (sym (f.only j (sym (get_or-set_other s.claims m j (Some p.route) None n) ∙ is)).0 ∙ idle))));
-          three = f.three;
-          waiting = f.waiting;
-          ended = f.ended;
-        })
-        (λ o other g. fits_else ws (set ws 0 new) s next o refl
-            (λ j is. let n : ¬ (j ≡ m) = λ h. some_not_none o.route (sym is ∙ ap (claim_of s) h ∙ r.claim) in (get_or-set_other s.claims m j (Some p.route) None n ∙ is, (aside ws new j).0, (aside ws new j).1))
-            (λ j is. dite (ℕ_discrete j m) (λ h. absurd (apart_owners p.route o.route (claim_of next m) (λ z. other (sym z)) mine (sym (ap (claim_of next) h) ∙ is)))
-                (λ n. sym (get_or-set_other s.claims m j (Some p.route) None n) ∙ is))
-            (λ z. z) g)
-        (bus_claim s m (Some p.route) k.bus) (inl refl))
+    (leads-reached s s next next refl (leads-claim s p.route m within small (ap is_some r.claim) (ap is_some r.none.at)) refl k.reached) k.priority k.eight
+    (shows_claim ws s m (filling p.route) new (Some p.route) small k.shows law (let z = r.none.lane in omega arith) ls')
+    (record {
+      requested = f.requested;
+      aborted = f.aborted;
+      reaped = f.reaped;
+      claim = λ _. record { own = mine; head = λ h. absurd (omega arith); bytes = λ h. absurd (omega arith) };
+      only = λ j is. (refl, dite (ℕ_discrete j m) (λ e. sym e) (λ n. absurd (true≢false (sym (f.only j (sym (get_or-set_other s.claims m j (Some p.route) None n) ∙ is)).0 ∙ idle))));
+      three = f.three;
+      waiting = f.waiting;
+      ended = f.ended;
+    })
+    (λ o other g. fits_else ws (set ws 0 new) s next o refl
+    (λ j is. let n : ¬ (j ≡ m) = λ h. some_not_none o.route (sym is ∙ ap (claim_of s) h ∙ r.claim) in (get_or-set_other s.claims m j (Some p.route) None n ∙ is, (aside ws new j).0, (aside ws new j).1))
+    (λ j is. dite (ℕ_discrete j m) (λ h. absurd (apart_owners p.route o.route (claim_of next m) (λ z. other (sym z)) mine (sym (ap (claim_of next) h) ∙ is)))
+    (λ n. sym (get_or-set_other s.claims m j (Some p.route) None n) ∙ is))
+    (λ z. z) g)
+    (bus_claim s m (Some p.route) k.bus) (inl refl))
 
 -- a store of a payload word of the mailbox that the seat fills
 fills : (txfp : Bool) (t : St) (k : IsKept txfp t) (id i x : ℕ) (p q : RouteView) → get_elem? t.views id ≡ some (alone p) → p.claims ≡ true → q.route ≡ p.route →
@@ -75,12 +75,14 @@ fills txfp t k id i x p q me claims same which mine =
     let f = knows txfp t k id p me in
     let g = f.claim claims in
     moves txfp t k id p q (set ws i x) s me same k.reached k.priority k.eight (shows_fill ws s p.mailbox i x which k.shows (unrequested s p.mailbox p.route law g.own)) (mine f g)
-        (λ o other h. fits_else ws (set ws i x) s s o refl
-            (λ j is. let n : ¬ (j ≡ p.mailbox) = λ e. apart_owners p.route o.route (claim_of s j) (λ z. other (sym z)) (ap (claim_of s) e ∙ g.own) is in
-                (is, get_or-set_other ws i (1 + 2 * j) x 0 (λ e. ⊎_elim (λ (h : i ≡ 1 + 2 * p.mailbox). n (omega arith)) (λ (h : i ≡ 2 + 2 * p.mailbox). absurd (omega arith)) which),
-                 get_or-set_other ws i (2 + 2 * j) x 0 (λ e. ⊎_elim (λ (h : i ≡ 1 + 2 * p.mailbox). absurd (omega arith)) (λ (h : i ≡ 2 + 2 * p.mailbox). n (omega arith)) which)))
-            (λ j is. is) (λ z. z) h)
-        (λ b. b) (inl refl)
+    (λ o other h. fits_else ws (set ws i x) s s o refl
+    (λ j is. let n : ¬ (j ≡ p.mailbox) = λ e. apart_owners p.route o.route (claim_of s j) (λ z. other (sym z)) (ap (claim_of s) e ∙ g.own) is in (
+      is,
+      get_or-set_other ws i (1 + 2 * j) x 0 (λ e. ⊎_elim (λ (h : i ≡ 1 + 2 * p.mailbox). n (omega arith)) (λ (h : i ≡ 2 + 2 * p.mailbox). absurd (omega arith)) which),
+      get_or-set_other ws i (2 + 2 * j) x 0 (λ e. ⊎_elim (λ (h : i ≡ 1 + 2 * p.mailbox). absurd (omega arith)) (λ (h : i ≡ 2 + 2 * p.mailbox). n (omega arith)) which),
+    ))
+    (λ j is. is) (λ z. z) h)
+    (λ b. b) (inl refl)
 
 pub stores_head-keep : (txfp : Bool) (slots id x i : ℕ) (p : RouteView) → i ≡ 1 + 2 * p.mailbox → p.claims ≡ true →
     Allows (IsKept txfp) slots id (seat_of p) i (λ _. x) (λ _. StoresHead (step slots i x 0 none) (seat_of p) x)
@@ -157,9 +159,9 @@ withdraws-keep txfp slots id mask p claims clears t k long me fits =
             ended = f.ended;
           })
           (λ o other h. fits_else ws (set ws 0 new) s next o refl
-              (λ j is. let n : ¬ (j ≡ m) = λ e. apart_owners p.route o.route (claim_of s j) (λ z. other (sym z)) (ap (claim_of s) e ∙ g.own) is in (get_or-set_other s.claims m j None None n ∙ is, (aside ws new j).0, (aside ws new j).1))
-              (λ j is. dite (ℕ_discrete j m) (λ e. absurd (some_not_none o.route (sym is ∙ ap (claim_of next) e ∙ gone))) (λ n. sym (get_or-set_other s.claims m j None None n) ∙ is))
-              (λ z. z) h)
+          (λ j is. let n : ¬ (j ≡ m) = λ e. apart_owners p.route o.route (claim_of s j) (λ z. other (sym z)) (ap (claim_of s) e ∙ g.own) is in (get_or-set_other s.claims m j None None n ∙ is, (aside ws new j).0, (aside ws new j).1))
+          (λ j is. dite (ℕ_discrete j m) (λ e. absurd (some_not_none o.route (sym is ∙ ap (claim_of next) e ∙ gone))) (λ n. sym (get_or-set_other s.claims m j None None n) ∙ is))
+          (λ z. z) h)
           (bus_claim s m None k.bus) (inl refl),
       refl,
     )

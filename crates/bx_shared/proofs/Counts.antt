@@ -29,8 +29,8 @@ few_rise k most (x ∷ xs) h a b r = let t = few_rise x most xs b.0 r.0 b.1 r.1 
 few_requests : (txfp : Bool) (l : RouteLists) (waits : List ℕ) → IsRouteLawful txfp l waits → length l.requested ≤ greatest_number
 few_requests txfp l waits law =
     let t = few_rise 0 greatest_number (numbers l.requested) (omega arith)
-        (each_more (λ n. (1 ≤ n) × (n ≤ greatest_number)) (λ n. 0 < n) (numbers l.requested) (λ n h. let one = h.0 in omega arith) law.in_range)
-        (each_more (λ n. (1 ≤ n) × (n ≤ greatest_number)) (λ n. n ≤ greatest_number) (numbers l.requested) (λ n h. h.1) law.in_range) law.rises in
+    (each_more (λ n. (1 ≤ n) × (n ≤ greatest_number)) (λ n. 0 < n) (numbers l.requested) (λ n h. let one = h.0 in omega arith) law.in_range)
+    (each_more (λ n. (1 ≤ n) × (n ≤ greatest_number)) (λ n. n ≤ greatest_number) (numbers l.requested) (λ n h. h.1) law.in_range) law.rises in
     let same : length (numbers l.requested) ≡ length l.requested = length-map l.requested (λ (e : Entry). e.number) in omega arith
 
 few_in_all : (ls : List RouteLists) → ((r : ℕ) → length (get_or ls r no_lists).requested ≤ greatest_number) → count_requests ls ≤ length ls * greatest_number

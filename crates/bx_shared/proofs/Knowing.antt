@@ -43,8 +43,8 @@ bus_request s r m n f b there k =
     let e : Entry = record { number = n; frame = f } in
     let l = requested_lists (lists_of s r) e in
     let grows : (i : ℕ) (y : Entry) → Has (lists_of s i).requested y → Has (lists_of t i).requested y =
-        set-each (λ (i : ℕ) (x : RouteLists). (y : Entry) → Has (lists_of s i).requested y → Has x.requested y) s.routes r l no_lists there
-            (λ y h. has-left (lists_of s r).requested (e ∷ []) y h) (λ i ne y h. h) in
+    set-each (λ (i : ℕ) (x : RouteLists). (y : Entry) → Has (lists_of s i).requested y → Has x.requested y) s.routes r l no_lists there
+    (λ y h. has-left (lists_of s r).requested (e ∷ []) y h) (λ i ne y h. h) in
     let on_bus = find-push (λ (x : Waiting). is_transmitting x.status) s.queue w refl in
     let in_turn = find-push (λ (x : Waiting). is_scheduled x.status) s.queue w refl in
     let more = count_requests-set s.routes r l there (length-snoc (lists_of s r).requested e) in

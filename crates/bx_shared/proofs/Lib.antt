@@ -7,5 +7,6 @@ pub mod Moves
 pub mod Claiming
 pub mod Requesting
 pub mod Looking
-pub mod Dealing
+pub mod Places
 pub mod Losing
+pub mod Parting

@@ -34,10 +34,10 @@ lane_of_request ws s w sh law has =
     let small = (each_of (IsInPlace (length s.routes)) s.queue w law.in_place has).mailbox in
     let at : at_mailbox w.mailbox s.queue ≡ Some w = has-at_mailbox s.queue w has (let h = law.apart w.mailbox in omega arith) in
     sh.lanes w.mailbox small ∙ ⊎_elim
-        (λ (e : IsEmptyLane s w.mailbox). absurd (none_not_some w (sym e.none.at ∙ at)))
-        (λ k. ⊎_elim (λ (f : IsFillingLane s w.mailbox). absurd (none_not_some w (sym f.none.at ∙ at)))
-            (λ (q : IsRequestLane s w.mailbox). q.lane ∙ ap lane_by (same_request q.one.request w (sym q.one.at ∙ at))) k)
-        (reads s w.mailbox law)
+    (λ (e : IsEmptyLane s w.mailbox). absurd (none_not_some w (sym e.none.at ∙ at)))
+    (λ k. ⊎_elim (λ (f : IsFillingLane s w.mailbox). absurd (none_not_some w (sym f.none.at ∙ at)))
+    (λ (q : IsRequestLane s w.mailbox). q.lane ∙ ap lane_by (same_request q.one.request w (sym q.one.at ∙ at))) k)
+    (reads s w.mailbox law)
 
 or_first : (a b : Bool) → a ≡ true → (a || b) ≡ true
 or_first a b e = ap (λ x. x || b) e
@@ -72,10 +72,10 @@ waits_in ws s last r w sh law has is put =
     let b = within w in
     let mark = mark_by w.status w.abort_asked in
     any_of last r word w.number w.mailbox small
-        (both_true ((lane_of word w.mailbox / 32 == r) && nat_lt 2 (mark_of word w.mailbox)) (get_or last w.mailbox 0 == w.number)
-            (both_true (lane_of word w.mailbox / 32 == r) (nat_lt 2 (mark_of word w.mailbox)) (eq-eqb (lane_of word w.mailbox / 32) r (owner_in (lane_of word w.mailbox) mark w.route r b.1 lane is))
-                (lt-ltb 2 (mark_of word w.mailbox) (mark_in (lane_of word w.mailbox) mark w.route b.1 b.0 lane)))
-            (eq-eqb (get_or last w.mailbox 0) w.number put))
+    (both_true ((lane_of word w.mailbox / 32 == r) && nat_lt 2 (mark_of word w.mailbox)) (get_or last w.mailbox 0 == w.number)
+    (both_true (lane_of word w.mailbox / 32 == r) (nat_lt 2 (mark_of word w.mailbox)) (eq-eqb (lane_of word w.mailbox / 32) r (owner_in (lane_of word w.mailbox) mark w.route r b.1 lane is))
+    (lt-ltb 2 (mark_of word w.mailbox) (mark_in (lane_of word w.mailbox) mark w.route b.1 b.0 lane)))
+    (eq-eqb (get_or last w.mailbox 0) w.number put))
 
 -- one of two lists, by a truth value
 by_cases : {A : Type 0} (P : A → Type 0) (b : Bool) (x y : A) → (b ≡ true → P x) → (b ≡ false → P y) → P (cond b x y)
@@ -117,9 +117,12 @@ looks-keep txfp slots id p t k long me fits =
         claim = λ y. let c = f.claim y in record { own = c.own; head = c.head; bytes = c.bytes };
         only = f.only;
         three = f.three;
-        waiting = each_all (IsKnown q) s.queue s.queue (λ x has is. let g = each_of (IsKnown p) s.queue x f.waiting has is in (g.0, g.1,
-            each_more (λ n. stays_in p.last p.route w n ≡ false) (λ n. ¬ (n ≡ x.number)) (ended_of p.last p.route w ns)
-                (λ n out same. true≢false (sym (waits_in t.words s p.last p.route x k.shows law has is g.0) ∙ ap (stays_in p.last p.route w) (sym same) ∙ out)) (ended_out p.last p.route w ns))) (λ x h. h);
+        waiting = each_all (IsKnown q) s.queue s.queue (λ x has is. let g = each_of (IsKnown p) s.queue x f.waiting has is in (
+          g.0,
+          g.1,
+          each_more (λ n. stays_in p.last p.route w n ≡ false) (λ n. ¬ (n ≡ x.number)) (ended_of p.last p.route w ns)
+              (λ n out same. true≢false (sym (waits_in t.words s p.last p.route x k.shows law has is g.0) ∙ ap (stays_in p.last p.route w) (sym same) ∙ out)) (ended_out p.last p.route w ns),
+        )) (λ x h. h);
         ended = ended_among (λ n. n ≤ last_number p.requested) p.last p.route w ns (up_to_most (last_number p.requested) (last_number p.requested) (omega arith));
       }),
       (refl, own_word txfp t k id p me),

@@ -79,14 +79,14 @@ moves txfp t k id p q ws s me same reached priority eight shows mine others bus 
       bus_fits = bus k.bus_fits;
       held = λ j v e. ⊎_elim
           (λ (t : (j ≡ id) × (alone q ≡ v)). subst (λ (x : ℕ × View). Holds s.queue k.at P k.bus_at k.bus x.0 x.1) (λ i. (sym t.0 i, t.1 i))
-              (record { routes = ((ap k.at same ∙ my_place, now), tt); buses = tt; once = (tt, tt); seal = no_seal (λ es. (s.queue ≡ es) × (k.bus_at ≡ id) × ((r : ℕ) → r < 8 → k.at r ≡ id)) }))
+          (record { routes = ((ap k.at same ∙ my_place, now), tt); buses = tt; once = (tt, tt); seal = no_seal (λ es. (s.queue ≡ es) × (k.bus_at ≡ id) × ((r : ℕ) → r < 8 → k.at r ≡ id)) }))
           (λ (t : (j ≢ id) × (get_elem? t.views j ≡ some v)). let g = k.held j v t.1 in record {
-              routes = each_more (λ o. (k.at o.route ≡ j) × (k.part o.route ≡ o)) (λ o. (k.at o.route ≡ j) × (P o.route ≡ o)) v.routes
-                  (λ o a. (a.0, put-else k.part p.route q o.route (λ e. t.0 (sym a.0 ∙ ap k.at e ∙ my_place)) ∙ a.1)) g.routes;
-              buses = g.buses;
-              once = g.once;
-              seal = λ es y. let z = g.seal es y in ⊎_elim (λ (w : s.queue ≡ k.core.queue). (w ∙ z.0, z.1, z.2)) (λ (small : p.route < 8). absurd (t.0 (sym (z.2 p.route small) ∙ my_place))) quiet;
-            })
+            routes = each_more (λ o. (k.at o.route ≡ j) × (k.part o.route ≡ o)) (λ o. (k.at o.route ≡ j) × (P o.route ≡ o)) v.routes
+                (λ o a. (a.0, put-else k.part p.route q o.route (λ e. t.0 (sym a.0 ∙ ap k.at e ∙ my_place)) ∙ a.1)) g.routes;
+            buses = g.buses;
+            once = g.once;
+            seal = λ es y. let z = g.seal es y in ⊎_elim (λ (w : s.queue ≡ k.core.queue). (w ∙ z.0, z.1, z.2)) (λ (small : p.route < 8). absurd (t.0 (sym (z.2 p.route small) ∙ my_place))) quiet;
+          })
           (at_set t.views id j (alone q) v e);
     }
 

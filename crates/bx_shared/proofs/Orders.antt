@@ -32,7 +32,7 @@ module _ (word next : ℕ) (Q : ℕ → Type 0) (same : (i j : ℕ) → i < j �
   pub older : (i j : ℕ) → i < 3 → j < 3 → Q i → Q j → ¬ (j ≡ i) → IsOlder word i j → IsOlder next i j
   older i j a b qi qj n h = dite (dec_le (suc i) j) (λ l. same i j (omega arith) b qi qj ∙ h)
       (λ l. ap (λ x. field next x 1) (let e : 23 + i + j ≡ 23 + j + i = omega arith in e) ∙ same j i (omega arith) a qj qi
-          ∙ ap (λ x. field word x 1) (let e : 23 + j + i ≡ 23 + i + j = omega arith in e) ∙ h)
+      ∙ ap (λ x. field word x 1) (let e : 23 + j + i ≡ 23 + i + j = omega arith in e) ∙ h)
 
   older_row : (i : ℕ) → i < 3 → Q i → (q : List Waiting) → Each (λ x. ¬ (x.mailbox ≡ i)) q → Each (λ x. x.mailbox < 3) q → Each (λ x. Q x.mailbox) q →
       Each (λ x. IsOlder word i x.mailbox) q → Each (λ x. IsOlder next i x.mailbox) q

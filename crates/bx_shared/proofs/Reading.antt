@@ -74,9 +74,9 @@ one_at_most : (q : List Waiting) (m : ℕ) → count_at m q ≤ 1 →
 one_at_most [] m h = inl refl
 one_at_most (w ∷ ws) m h = elim (is_at m w) as (λ b. cond b (suc (count_at m ws)) (count_at m ws) ≤ 1 → (cond b (suc (count_at m ws)) (count_at m ws) ≡ 0) ⊎
     ((x : Waiting) × (cond b (Some w) (at_mailbox m ws) ≡ Some x) × (cond b (lane_by w) 0 + waiting_lane ws m ≡ lane_by x) × (cond b (suc (count_at m ws)) (count_at m ws) ≡ 1))) [
-  | true ↦ λ h. let none : count_at m ws ≡ 0 = omega arith in let z = waiting_lane-none ws m none in inr (w, refl, (omega arith), omega arith)
-  | false ↦ λ h. ⊎_elim (λ n. inl n) (λ t. inr (t.0, t.1, (let z = t.2 in omega arith), t.3)) (one_at_most ws m h)
-] h
+      | true ↦ λ h. let none : count_at m ws ≡ 0 = omega arith in let z = waiting_lane-none ws m none in inr (w, refl, (omega arith), omega arith)
+      | false ↦ λ h. ⊎_elim (λ n. inl n) (λ t. inr (t.0, t.1, (let z = t.2 in omega arith), t.3)) (one_at_most ws m h)
+    ] h
 
 pub holds : (q : List Waiting) (m : ℕ) → count_at m q ≤ 1 → HoldsNone q m ⊎ HoldsOne q m
 holds q m h = ⊎_elim (λ z. inl (holds_none q m z)) (λ t. inr (record { request = t.0; at = t.1; lane = t.2; count = t.3 })) (one_at_most q m h)
@@ -101,12 +101,12 @@ pub record IsRequestLane (s : State) (m : ℕ) : Type 0 where
 pub reads : (s : State) (m : ℕ) → Law s → IsEmptyLane s m ⊎ (IsFillingLane s m ⊎ IsRequestLane s m)
 reads s m law = ⊎_elim
     (λ (none : claim_of s m ≡ None). let c = ap claim_lane none in let k = ap count_of_claim none in let most = law.apart m in ⊎_elim
-        (λ (h : HoldsNone s.queue m). inl (record { claim = none; none = h; lane = let l = h.lane in omega arith }))
-        (λ (h : HoldsOne s.queue m). inr (inr (record { claim = none; one = h; lane = let l = h.lane in omega arith })))
-        (holds s.queue m (omega arith)))
+    (λ (h : HoldsNone s.queue m). inl (record { claim = none; none = h; lane = let l = h.lane in omega arith }))
+    (λ (h : HoldsOne s.queue m). inr (inr (record { claim = none; one = h; lane = let l = h.lane in omega arith })))
+    (holds s.queue m (omega arith)))
     (λ (t : (r : ℕ) × (claim_of s m ≡ Some r)). let c = ap claim_lane t.1 in let k = ap count_of_claim t.1 in let most = law.apart m in
-        let h = holds_none s.queue m (omega arith) in
-        inr (inl (record { owner = t.0; claim = t.1; none = h; lane = let l = h.lane in omega arith })))
+    let h = holds_none s.queue m (omega arith) in
+    inr (inl (record { owner = t.0; claim = t.1; none = h; lane = let l = h.lane in omega arith })))
     (some_or_none (claim_of s m))
 
 -- a lane that is 0 is empty
@@ -125,4 +125,4 @@ pub has_mark : (s : State) (m lane : ℕ) → Law s → lane ≡ claim_lane (cla
 has_mark s m lane law is low = ⊎_elim (λ (e : IsEmptyLane s m). let l = e.lane in absurd (omega arith)) (λ k. ⊎_elim
     (λ (f : IsFillingLane s m). let l = f.lane in absurd (omega arith))
     (λ (q : IsRequestLane s m). let w = q.one.request in let b = within w in
-        subst IsMark (low_bits lane (mark_by w.status w.abort_asked) w.route b.1 (is ∙ q.lane)) (is_mark w.status w.abort_asked)) k) (reads s m law)
+    subst IsMark (low_bits lane (mark_by w.status w.abort_asked) w.route b.1 (is ∙ q.lane)) (is_mark w.status w.abort_asked)) k) (reads s m law)

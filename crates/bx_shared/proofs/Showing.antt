@@ -53,7 +53,7 @@ shows_claim ws s m x new owner small sh law is ls =
       seven = length-set ws 0 new ∙ sh.seven;
       lanes = λ j within. ap (λ z. lane_of z j) w' ∙ dite (ℕ_discrete j m)
           (λ e. let P : ℕ → Type 0 = λ i. lane_of new i ≡ claim_lane (get_or (set s.claims m owner) i None) + waiting_lane s.queue i in
-              subst P (sym e) (ls.here ∙ sym is ∙ ap (λ o. claim_lane o + waiting_lane s.queue m) (sym (get_or-set_same s.claims m owner None here))))
+          subst P (sym e) (ls.here ∙ sym is ∙ ap (λ o. claim_lane o + waiting_lane s.queue m) (sym (get_or-set_same s.claims m owner None here))))
           (λ n. ls.others j within n ∙ sh.lanes j within ∙ ap (λ o. claim_lane o + waiting_lane s.queue j) (sym (get_or-set_other s.claims m j owner None n)));
       order = subst (λ z. AreOrdered z s.queue) (sym w') (ordered (get_or ws 0 0) new (λ _. Unit {0}) (λ i j a b _ _. ls.order i j a b) s.queue (apart_queue s law) (small_mailboxes s law)
           (each_more (λ y. y.mailbox < 3) (λ _. Unit {0}) s.queue (λ _ _. tt) (small_mailboxes s law)) sh.order);
@@ -65,7 +65,7 @@ shows_claim ws s m x new owner small sh law is ls =
 pub shows_fill : (ws : List ℕ) (s : State) (m i x : ℕ) → (i ≡ 1 + 2 * m) ⊎ (i ≡ 2 + 2 * m) → Shows ws s → count_at m s.queue ≡ 0 → Shows (set ws i x) s
 shows_fill ws s m i x which sh none =
     let far : (j : ℕ) → ¬ (j ≡ m) → (¬ (1 + 2 * j ≡ i)) × (¬ (2 + 2 * j ≡ i)) =
-        λ j n. ⊎_elim (λ (h : i ≡ 1 + 2 * m). ((λ e. n (omega arith)), λ e. absurd (omega arith))) (λ (h : i ≡ 2 + 2 * m). ((λ e. absurd (omega arith)), λ e. n (omega arith))) which in
+    λ j n. ⊎_elim (λ (h : i ≡ 1 + 2 * m). ((λ e. n (omega arith)), λ e. absurd (omega arith))) (λ (h : i ≡ 2 + 2 * m). ((λ e. absurd (omega arith)), λ e. n (omega arith))) which in
     let w' : get_or (set ws i x) 0 0 ≡ get_or ws 0 0 = get_or-set_other ws i 0 x 0 (λ e. ⊎_elim (λ (h : i ≡ 1 + 2 * m). omega arith) (λ (h : i ≡ 2 + 2 * m). omega arith) which) in
     record {
       seven = length-set ws i x ∙ sh.seven;
@@ -89,10 +89,10 @@ shows_request ws s r m n new f small there own packed sh law ls =
       seven = length-set ws 0 new ∙ sh.seven;
       lanes = λ j within. ap (λ z. lane_of z j) w' ∙ dite (ℕ_discrete j m)
           (λ e. let P : ℕ → Type 0 = λ i. lane_of new i ≡ claim_lane (get_or (set s.claims m None) i None) + waiting_lane (s.queue ++ w ∷ []) i in
-              subst P (sym e) (ls.here ∙ (let a = ap claim_lane (get_or-set_same s.claims m None None here) in let b = waiting_lane-push s.queue w m in let c = waiting_lane-none s.queue m none in
-                  let d = ap (λ z. cond z (lane_by w) 0) (eq-eqb m m refl) in omega arith)))
+          subst P (sym e) (ls.here ∙ (let a = ap claim_lane (get_or-set_same s.claims m None None here) in let b = waiting_lane-push s.queue w m in let c = waiting_lane-none s.queue m none in
+          let d = ap (λ z. cond z (lane_by w) 0) (eq-eqb m m refl) in omega arith)))
           (λ n. ls.others j within n ∙ sh.lanes j within ∙ (let a = ap claim_lane (get_or-set_other s.claims m j None None n) in let b = waiting_lane-push s.queue w j in
-              let d = ap (λ z. cond z (lane_by w) 0) (ne_eqb m j (λ e. n (sym e))) in omega arith));
+          let d = ap (λ z. cond z (lane_by w) 0) (ne_eqb m j (λ e. n (sym e))) in omega arith));
       order = subst (λ z. AreOrdered z (s.queue ++ w ∷ [])) (sym w') (ordered-push new s.queue w
           (each_both (λ x. x.mailbox < 3) (λ x. ¬ (x.mailbox ≡ m)) (λ x. IsOlder new x.mailbox m) s.queue (λ x a b. ls.younger x.mailbox a b) (small_mailboxes s law) others)
           (ordered (get_or ws 0 0) new (λ y. ¬ (y ≡ m)) (λ i j a b qi qj. ls.order i j a b qi qj) s.queue (apart_queue s law) (small_mailboxes s law) others sh.order));

@@ -3,3 +3,4 @@ pub mod Shown
 pub mod Ended
 pub mod Steps
 pub mod Seats
+pub mod SeatParts

@@ -14,7 +14,7 @@ use Rattle.bx_shared.specs.declared.bus_view.BusView.{BusView}
 use Rattle.bx_shared.specs.declared.view.View.{View}
 use Rattle.bx_shared.specs.declared.request_answer.RequestAnswer.{RequestAnswer}
 use Rattle.bx_shared.specs.declared.request_answer.RequestAnswer.TheVariants.{Taken, NoRoom, Contended}
-use Rattle.bx_shared.specs.Steps.{part_of, bus_of, opening}
+use Rattle.bx_shared.specs.Steps.{part_of, bus_of, opening, opening_bus}
 
 -- a seat at this table, which has the seven words
 pub record IsAt (table theirs : TableId) : Type 0 where
@@ -153,3 +153,9 @@ openings (suc n) = opening (7 - n) ∷ openings n
 -- these are new seats at one table, of the first routes in order
 abbrev pub AreDealt : TableId → List RoutePlace → Type 0
 AreDealt table seats = (route : ℕ) (s : RoutePlace) → slice_get seats route ≡ Some s → (s.table ≡ table) × (s.part ≡ opening route)
+
+-- a new bus's seat for so many routes
+pub record IsNewBus (txfp : Bool) (routes : ℕ) (b : BusPlace) : Type 0 where
+  pub priority : b.txfp ≡ txfp
+  pub bus : b.bus ≡ opening_bus
+  pub others : b.routes ≡ openings (8 - routes)

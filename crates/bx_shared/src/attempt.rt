@@ -8,9 +8,7 @@ ghost use Rattle.bx_shared.specs.Steps.{seat_of, part_of, head_stored, bytes_sto
 ghost use Rattle.bx_shared.specs.Seats.{IsAt, IsFull, IsLowest, IsClaimed, IsUnclaimed, IsRequested, IsLost, Answers, HearsUnclaimed, Hears, to_claim};
 
 use crate::request_answer::RequestAnswer;
-use crate::route_steps::{
-    Seat, Words, claim, look, request, store_bytes, store_head, withdraw,
-};
+use crate::route_steps::{Seat, Words, claim, look, request, store_bytes, store_head, withdraw};
 use bx_core::{Entry, Gate, Point};
 use bx_words::{lane, lane_mask, pack, with_claim, with_request};
 

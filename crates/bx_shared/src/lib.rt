@@ -2,13 +2,19 @@
 #![tactic(auto)]
 
 mod attempt;
+mod bus_seat;
 mod bus_view;
+mod dealing;
+mod mail;
 mod plays;
 mod request_answer;
+mod route_seat;
 mod route_steps;
 mod route_view;
 mod said;
 mod view;
 
-pub use crate::plays::{Claim, Cut, Look, Paste, Request, ShowsCore, StoreBytes, StoreHead, Withdraw};
+pub use crate::bus_seat::BusSeat;
+pub use crate::mail::Mail;
 pub use crate::request_answer::RequestAnswer;
+pub use crate::route_seat::RouteSeat;

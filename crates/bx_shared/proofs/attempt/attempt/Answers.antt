@@ -16,5 +16,8 @@ returns-in-Some-clause-hears g c = let may = g.G.Gate.may_have_heard in
     let first = c.in-Ok.ensures.claimed.looks in
     let filled = ap (λ (p : RouteView). p.looks) (ap part_of c.fill.ensures.filled) in
     let last = c.in-Some.ensures.lost.looks in
-    inr (omega arith, passes_on may to_claim (Fill ∷ Fill ∷ Look ∷ Request ∷ Withdraw ∷ []) _ _ _ c.in-Ok.ensures.hears
-        (passes_on may (Fill ∷ Fill ∷ []) (Look ∷ Request ∷ Withdraw ∷ []) _ _ _ c.fill.ensures.hears c.in-Some.ensures.hears_lost))
+    inr (
+      omega arith,
+      passes_on may to_claim (Fill ∷ Fill ∷ Look ∷ Request ∷ Withdraw ∷ []) _ _ _ c.in-Ok.ensures.hears
+          (passes_on may (Fill ∷ Fill ∷ []) (Look ∷ Request ∷ Withdraw ∷ []) _ _ _ c.fill.ensures.hears c.in-Some.ensures.hears_lost),
+    )

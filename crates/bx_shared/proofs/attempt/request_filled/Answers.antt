@@ -17,7 +17,7 @@ returns-clause-lost g c =
     let then_ : part_of c.request-found.new.seat.me ≡ missed (looked p seen) found = ap part_of lost.0 ∙ ap (λ (x : RouteView). missed x found) first in
     let last : part_of c.withdraw.new.seat.me ≡ withdrawn (missed (looked p seen) found) = ap part_of c.withdraw.ensures.withdrawn ∙ ap withdrawn then_ in
     subst (λ (q : RouteView). IsLost p q found) (sym last)
-        (gives_back p seen found c.look-seen.ensures.own (subst (λ (x : RouteView). IsOwn x found) first lost.1) c.if-found-seen.false)
+    (gives_back p seen found c.look-seen.ensures.own (subst (λ (x : RouteView). IsOwn x found) first lost.1) c.if-found-seen.false)
 
 pub returns-then-found-seen-clause-hears : goal.returns-then-found-seen-clause-hears
 returns-then-found-seen-clause-hears g c = passes_on g.G.Gate.may_have_heard (Look ∷ []) (Request ∷ []) _ _ _ c.pass.ensures.heard c.pass-2.ensures.heard

@@ -58,22 +58,22 @@ splits-keep txfp id bs p ps t k me =
       bus_fits = k.bus_fits;
       held = λ j v e. ⊎_elim
           (λ old. ⊎_elim
-              (λ (t : (j ≡ id) × (view bs ps ≡ v)). subst (λ (x : ℕ × View). Holds k.core.queue at k.part k.bus_at k.bus x.0 x.1) (λ i. (sym t.0 i, t.1 i)) (record {
-                  routes = each_both (λ o. (k.at o.route ≡ id) × (k.part o.route ≡ o)) (λ o. ¬ (o.route ≡ p.route)) (λ o. (at o.route ≡ id) × (k.part o.route ≡ o)) ps (λ o a other. stay id o other a) h.routes.1
-                      (of_map (λ y. ¬ (y ≡ p.route)) ps h.once.0);
-                  buses = h.buses;
-                  once = h.once.1;
-                  seal = no_seal (λ es. (k.core.queue ≡ es) × (k.bus_at ≡ id) × ((r : ℕ) → r < 8 → at r ≡ id));
-                }))
-              (λ (t : (j ≢ id) × (get_elem? t.views j ≡ some v)). let g = k.held j v t.1 in record {
-                  routes = each_more (λ o. (k.at o.route ≡ j) × (k.part o.route ≡ o)) (λ o. (at o.route ≡ j) × (k.part o.route ≡ o)) v.routes (λ o a. stay j o (λ is. t.0 (sym a.0 ∙ ap k.at is ∙ h.routes.0.0)) a) g.routes;
-                  buses = g.buses;
-                  once = g.once;
-                  seal = λ es y. let z = g.seal es y in (z.0, z.1, λ r small. put-else k.at p.route n r (λ e. t.0 (sym (z.2 r small) ∙ ap k.at e ∙ h.routes.0.0)) ∙ z.2 r small);
-                })
-              (at_set t.views id j (view bs ps) v old))
+          (λ (t : (j ≡ id) × (view bs ps ≡ v)). subst (λ (x : ℕ × View). Holds k.core.queue at k.part k.bus_at k.bus x.0 x.1) (λ i. (sym t.0 i, t.1 i)) (record {
+            routes = each_both (λ o. (k.at o.route ≡ id) × (k.part o.route ≡ o)) (λ o. ¬ (o.route ≡ p.route)) (λ o. (at o.route ≡ id) × (k.part o.route ≡ o)) ps (λ o a other. stay id o other a) h.routes.1
+                (of_map (λ y. ¬ (y ≡ p.route)) ps h.once.0);
+            buses = h.buses;
+            once = h.once.1;
+            seal = no_seal (λ es. (k.core.queue ≡ es) × (k.bus_at ≡ id) × ((r : ℕ) → r < 8 → at r ≡ id));
+          }))
+          (λ (t : (j ≢ id) × (get_elem? t.views j ≡ some v)). let g = k.held j v t.1 in record {
+            routes = each_more (λ o. (k.at o.route ≡ j) × (k.part o.route ≡ o)) (λ o. (at o.route ≡ j) × (k.part o.route ≡ o)) v.routes (λ o a. stay j o (λ is. t.0 (sym a.0 ∙ ap k.at is ∙ h.routes.0.0)) a) g.routes;
+            buses = g.buses;
+            once = g.once;
+            seal = λ es y. let z = g.seal es y in (z.0, z.1, λ r small. put-else k.at p.route n r (λ e. t.0 (sym (z.2 r small) ∙ ap k.at e ∙ h.routes.0.0)) ∙ z.2 r small);
+          })
+          (at_set t.views id j (view bs ps) v old))
           (λ (t : (j ≡ n) × (view [] (p ∷ []) ≡ v)). subst (λ (x : ℕ × View). Holds k.core.queue at k.part k.bus_at k.bus x.0 x.1) (λ i. (sym t.0 i, t.1 i))
-              (record { routes = ((put-here k.at p.route n, h.routes.0.1), tt); buses = tt; once = (tt, tt); seal = no_seal (λ es. (k.core.queue ≡ es) × (k.bus_at ≡ n) × ((r : ℕ) → r < 8 → at r ≡ n)) }))
+          (record { routes = ((put-here k.at p.route n, h.routes.0.1), tt); buses = tt; once = (tt, tt); seal = no_seal (λ es. (k.core.queue ≡ es) × (k.bus_at ≡ n) × ((r : ℕ) → r < 8 → at r ≡ n)) }))
           (at_end (set t.views id (view bs ps)) (view [] (p ∷ [])) v j e);
     }
 
@@ -90,7 +90,7 @@ disjoint : (at : ℕ → ℕ) (part : ℕ → RouteView) (id other : ℕ) (xs ys
     Each (λ x. Each (λ y. ¬ (y ≡ x)) (map (λ p. p.route) ys)) (map (λ p. p.route) xs)
 disjoint at part id other xs ys apart a b = each-map (λ x. Each (λ y. ¬ (y ≡ x)) (map (λ p. p.route) ys)) xs
     (each_more (λ o. (at o.route ≡ id) × (part o.route ≡ o)) (λ p. Each (λ y. ¬ (y ≡ p.route)) (map (λ p. p.route) ys)) xs (λ o h. each-map (λ y. ¬ (y ≡ o.route)) ys
-        (each_more (λ q. (at q.route ≡ other) × (part q.route ≡ q)) (λ q. ¬ (q.route ≡ o.route)) ys (λ q g is. apart (sym g.0 ∙ ap at is ∙ h.0)) b)) a)
+    (each_more (λ q. (at q.route ≡ other) × (part q.route ≡ q)) (λ q. ¬ (q.route ≡ o.route)) ys (λ q g is. apart (sym g.0 ∙ ap at is ∙ h.0)) b)) a)
 
 -- what stands at the other seat stands at this one afterwards
 abbrev moved : ℕ → ℕ → ℕ → ℕ
@@ -125,23 +125,23 @@ joins-keep txfp id other v w t k me apart it =
       bus_fits = k.bus_fits;
       held = λ j u e. ⊎_elim
           (λ (t : (j ≡ other) × (spent ≡ u)). subst (λ (x : ℕ × View). Holds k.core.queue at k.part bus_at k.bus x.0 x.1) (λ i. (sym t.0 i, t.1 i))
-              (record { routes = tt; buses = tt; once = tt; seal = no_seal (λ es. (k.core.queue ≡ es) × (bus_at ≡ other) × ((r : ℕ) → r < 8 → at r ≡ other)) }))
+          (record { routes = tt; buses = tt; once = tt; seal = no_seal (λ es. (k.core.queue ≡ es) × (bus_at ≡ other) × ((r : ℕ) → r < 8 → at r ≡ other)) }))
           (λ (z : (j ≢ other) × (get_elem? (set t.views id (both_of v w)) j ≡ some u)). ⊎_elim
-              (λ (r : (j ≡ id) × (both_of v w ≡ u)). subst (λ (x : ℕ × View). Holds k.core.queue at k.part bus_at k.bus x.0 x.1) (λ i. (sym r.0 i, r.1 i)) (record {
-                  routes = each-append (λ o. (at o.route ≡ id) × (k.part o.route ≡ o)) v.routes w.routes (each_more (λ o. (k.at o.route ≡ id) × (k.part o.route ≡ o)) (λ o. (at o.route ≡ id) × (k.part o.route ≡ o)) v.routes here h.routes)
-                      (each_more (λ o. (k.at o.route ≡ other) × (k.part o.route ≡ o)) (λ o. (at o.route ≡ id) × (k.part o.route ≡ o)) w.routes there g.routes);
-                  buses = each-append (λ b. (bus_at ≡ id) × (k.bus ≡ b)) v.buses w.buses (each_more (λ b. (k.bus_at ≡ id) × (k.bus ≡ b)) (λ b. (bus_at ≡ id) × (k.bus ≡ b)) v.buses (λ b a. (moved_else id other k.bus_at (λ e. apart (sym e ∙ a.0)) ∙ a.0, a.1)) h.buses)
-                      (each_more (λ b. (k.bus_at ≡ other) × (k.bus ≡ b)) (λ b. (bus_at ≡ id) × (k.bus ≡ b)) w.buses (λ b a. (moved_other id other k.bus_at a.0, a.1)) g.buses);
-                  once = subst AreDistinct (sym (map-append v.routes w.routes)) (distinct-append (map (λ p. p.route) v.routes) (map (λ p. p.route) w.routes) h.once g.once (disjoint k.at k.part id other v.routes w.routes apart h.routes g.routes));
-                  seal = no_seal (λ es. (k.core.queue ≡ es) × (bus_at ≡ id) × ((r : ℕ) → r < 8 → at r ≡ id));
-                }))
-              (λ (r : (j ≢ id) × (get_elem? t.views j ≡ some u)). let q = k.held j u r.1 in record {
-                  routes = each_more (λ o. (k.at o.route ≡ j) × (k.part o.route ≡ o)) (λ o. (at o.route ≡ j) × (k.part o.route ≡ o)) u.routes (λ o a. (moved_else id other (k.at o.route) (λ e. z.0 (sym a.0 ∙ e)) ∙ a.0, a.1)) q.routes;
-                  buses = each_more (λ b. (k.bus_at ≡ j) × (k.bus ≡ b)) (λ b. (bus_at ≡ j) × (k.bus ≡ b)) u.buses (λ b a. (moved_else id other k.bus_at (λ e. z.0 (sym a.0 ∙ e)) ∙ a.0, a.1)) q.buses;
-                  once = q.once;
-                  seal = λ es y. let x = q.seal es y in (x.0, moved_else id other k.bus_at (λ e. z.0 (sym x.1 ∙ e)) ∙ x.1, λ o small. moved_else id other (k.at o) (λ e. z.0 (sym (x.2 o small) ∙ e)) ∙ x.2 o small);
-                })
-              (at_set t.views id j (both_of v w) u z.1))
+          (λ (r : (j ≡ id) × (both_of v w ≡ u)). subst (λ (x : ℕ × View). Holds k.core.queue at k.part bus_at k.bus x.0 x.1) (λ i. (sym r.0 i, r.1 i)) (record {
+            routes = each-append (λ o. (at o.route ≡ id) × (k.part o.route ≡ o)) v.routes w.routes (each_more (λ o. (k.at o.route ≡ id) × (k.part o.route ≡ o)) (λ o. (at o.route ≡ id) × (k.part o.route ≡ o)) v.routes here h.routes)
+                (each_more (λ o. (k.at o.route ≡ other) × (k.part o.route ≡ o)) (λ o. (at o.route ≡ id) × (k.part o.route ≡ o)) w.routes there g.routes);
+            buses = each-append (λ b. (bus_at ≡ id) × (k.bus ≡ b)) v.buses w.buses (each_more (λ b. (k.bus_at ≡ id) × (k.bus ≡ b)) (λ b. (bus_at ≡ id) × (k.bus ≡ b)) v.buses (λ b a. (moved_else id other k.bus_at (λ e. apart (sym e ∙ a.0)) ∙ a.0, a.1)) h.buses)
+                (each_more (λ b. (k.bus_at ≡ other) × (k.bus ≡ b)) (λ b. (bus_at ≡ id) × (k.bus ≡ b)) w.buses (λ b a. (moved_other id other k.bus_at a.0, a.1)) g.buses);
+            once = subst AreDistinct (sym (map-append v.routes w.routes)) (distinct-append (map (λ p. p.route) v.routes) (map (λ p. p.route) w.routes) h.once g.once (disjoint k.at k.part id other v.routes w.routes apart h.routes g.routes));
+            seal = no_seal (λ es. (k.core.queue ≡ es) × (bus_at ≡ id) × ((r : ℕ) → r < 8 → at r ≡ id));
+          }))
+          (λ (r : (j ≢ id) × (get_elem? t.views j ≡ some u)). let q = k.held j u r.1 in record {
+            routes = each_more (λ o. (k.at o.route ≡ j) × (k.part o.route ≡ o)) (λ o. (at o.route ≡ j) × (k.part o.route ≡ o)) u.routes (λ o a. (moved_else id other (k.at o.route) (λ e. z.0 (sym a.0 ∙ e)) ∙ a.0, a.1)) q.routes;
+            buses = each_more (λ b. (k.bus_at ≡ j) × (k.bus ≡ b)) (λ b. (bus_at ≡ j) × (k.bus ≡ b)) u.buses (λ b a. (moved_else id other k.bus_at (λ e. z.0 (sym a.0 ∙ e)) ∙ a.0, a.1)) q.buses;
+            once = q.once;
+            seal = λ es y. let x = q.seal es y in (x.0, moved_else id other k.bus_at (λ e. z.0 (sym x.1 ∙ e)) ∙ x.1, λ o small. moved_else id other (k.at o) (λ e. z.0 (sym (x.2 o small) ∙ e)) ∙ x.2 o small);
+          })
+          (at_set t.views id j (both_of v w) u z.1))
           (at_set (set t.views id (both_of v w)) other j spent u e);
     }
 
@@ -185,10 +185,16 @@ first_bus_fits txfp = record {
 eight_apart : AreDistinct (0 ∷ 1 ∷ 2 ∷ 3 ∷ 4 ∷ 5 ∷ 6 ∷ 7 ∷ [])
 eight_apart = (
   ((λ e. omega arith), ((λ e. omega arith), ((λ e. omega arith), ((λ e. omega arith), ((λ e. omega arith), ((λ e. omega arith), ((λ e. omega arith), tt))))))),
-  (((λ e. omega arith), ((λ e. omega arith), ((λ e. omega arith), ((λ e. omega arith), ((λ e. omega arith), ((λ e. omega arith), tt)))))),
-  (((λ e. omega arith), ((λ e. omega arith), ((λ e. omega arith), ((λ e. omega arith), ((λ e. omega arith), tt))))),
-  (((λ e. omega arith), ((λ e. omega arith), ((λ e. omega arith), ((λ e. omega arith), tt)))),
-  (((λ e. omega arith), ((λ e. omega arith), ((λ e. omega arith), tt))), (((λ e. omega arith), ((λ e. omega arith), tt)), (((λ e. omega arith), tt), (tt, tt))))))),
+  (
+    ((λ e. omega arith), ((λ e. omega arith), ((λ e. omega arith), ((λ e. omega arith), ((λ e. omega arith), ((λ e. omega arith), tt)))))),
+    (
+      ((λ e. omega arith), ((λ e. omega arith), ((λ e. omega arith), ((λ e. omega arith), ((λ e. omega arith), tt))))),
+      (
+        ((λ e. omega arith), ((λ e. omega arith), ((λ e. omega arith), ((λ e. omega arith), tt)))),
+        (((λ e. omega arith), ((λ e. omega arith), ((λ e. omega arith), tt))), (((λ e. omega arith), ((λ e. omega arith), tt)), (((λ e. omega arith), tt), (tt, tt)))),
+      ),
+    ),
+  ),
 )
 
 first_held : (txfp : Bool) (j : ℕ) (v : View) → get_elem? (first_view txfp ∷ []) j ≡ some v → Holds [] (λ _. 0) opening 0 opening_bus j v

@@ -1,0 +1,21 @@
+-- The seat keeps its invariant where a request is taken.
+use Rattle.std.proofs.Common.{ap, ◌∙◌}
+use Rattle.bx_core.specs.Steps.{last_number}
+use Rattle.bx_shared.specs.Seats.{entry}
+use Rattle.bx_shared.specs.Steps.{part_of}
+use Rattle.bx_shared.proofs.Requesting.{last_of-push}
+use Rattle.bx_shared.proofs.route_seat.RouteSeat.request.Goals as goal
+
+pub invariant_of-self : goal.invariant_of-self
+invariant_of-self g c =
+    let v = c.self.invariant in
+    let e = c.attempt-answer.ensures in
+    let a = c.in-Taken.ensures.answer in
+    record {
+      at = record { same = e.table ∙ v.at.same; seven = v.at.seven };
+      alone = e.route;
+      own = a.0.route ∙ v.own;
+      small = v.small;
+      idle = a.0.claims;
+      newest = ap last_number a.1.requested ∙ last_of-push 0 (part_of c.self.inside.seat.me).requested (entry c.args.number c.args.frame);
+    }

@@ -1,0 +1,45 @@
+//! Mailboxes that threads share by atomic steps.
+ghost use Rattle.std.specs.Prelude.{◌≡◌, ◌≤◌, true, IfOk, length};
+ghost use Rattle.bx_shared.specs.Seats.{IsNewBus, AreDealt};
+
+use crate::bus_seat::BusSeat;
+use crate::dealing::deal;
+use crate::route_seat::RouteSeat;
+use can_frame::Memory;
+use std::alloc::Global;
+
+/// The three transmit mailboxes of a bxCAN controller (RM0008, bxCAN, "Transmission handling") in one control word and
+/// six payload words, on which the bus's seat and the seats of the routes act by atomic steps, each in a thread of its
+/// own, without a lock.
+pub struct Mail;
+
+impl Mail {
+    /// The seats at three empty mailboxes for so many routes, 1 to 8, in order, of which nothing was requested yet.
+    /// They send by order of requests (TXFP is set). `Memory` where a growth was refused, and nothing else is refused:
+    /// of all calls this one and `with_txfp` alone take memory.
+    pub fn new(alloc: Global, routes: u8) -> Result<(BusSeat, Vec<RouteSeat>), Memory>
+        requires some { 1 ≤ routes }
+        requires few { routes ≤ 8 }
+        ensures bus { IfOk result (λ made. IsNewBus true routes made.0) }
+        ensures size { IfOk result (λ made. length made.1.items ≡ routes) }
+        ensures seats { IfOk result (λ made. AreDealt made.0.table made.1.items) }
+    {
+        Mail::with_txfp(alloc, routes, true)
+    }
+
+    /// The same, with this priority (RM0008, bxCAN, "Transmit priority"): true is the order of requests, false is by
+    /// identifier.
+    pub fn with_txfp(
+        alloc: Global,
+        routes: u8,
+        txfp: bool,
+    ) -> Result<(BusSeat, Vec<RouteSeat>), Memory>
+        requires some { 1 ≤ routes }
+        requires few { routes ≤ 8 }
+        ensures bus { IfOk result (λ made. IsNewBus txfp routes made.0) }
+        ensures size { IfOk result (λ made. length made.1.items ≡ routes) }
+        ensures seats { IfOk result (λ made. AreDealt made.0.table made.1.items) }
+    {
+        Ok(deal(alloc, routes, txfp)?)
+    }
+}
