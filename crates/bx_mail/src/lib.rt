@@ -1,4 +1,4 @@
-//! Transmit mailboxes of one bxCAN controller over a queue of posts.
+//! Transmit mailboxes of one bxCAN controller for threads: over a queue of posts, or in words that all of them share.
 #![tactic(auto)]
 
 mod boxes;
@@ -15,3 +15,4 @@ pub use crate::post::Post;
 pub use crate::post_bus::PostBus;
 pub use crate::post_route::PostRoute;
 pub use crate::posting::{Asks, Posting};
+pub use bx_shared::{BusSeat, Mail, RequestAnswer, RouteSeat};

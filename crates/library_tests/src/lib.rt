@@ -26,6 +26,8 @@ mod scripts;
 #[cfg(test)]
 mod segment;
 #[cfg(test)]
+mod shared;
+#[cfg(test)]
 mod threaded_runs;
 #[cfg(test)]
 mod turns;

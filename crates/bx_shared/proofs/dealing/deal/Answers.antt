@@ -17,13 +17,14 @@ loop-route-preserved c =
     let i = c.loop-route.invariant in
     let table = c.cut-own.ensures.table in
     let items = c.in_ok-push.ensures.items in
-    let pushed = route_place c.cut-own.result.table_id c.cut-own.result.me in
-    (record { same = table ∙ i.0.same; seven = i.0.seven },
-     i.1,
-     c.cut-own.ensures.rest ∙ ap (λ n. bus_seat opening_bus (openings n)) (omega arith),
-     (let h = ap length items in let l = length-snoc c.loop-route.seats.items pushed in let n = i.3 in omega arith),
-     subst (AreDealt c.cut-own.new.seat.table_id) (sym items) (dealt-push _ c.loop-route.seat.table_id c.loop-route.seats.items c.loop-route.route pushed i.3 i.4 table (c.cut-own.ensures.theirs ∙ sym table)
-         (ap part_of c.cut-own.ensures.one ∙ ap opening (let few = c.requires in let end = c.loop-route.auto.route-end in let on = c.loop-route-test.true in omega arith))))
+    let pushed = route_place c.cut-own.result.table_id c.cut-own.result.me in (
+      record { same = table ∙ i.0.same; seven = i.0.seven },
+      i.1,
+      c.cut-own.ensures.rest ∙ ap (λ n. bus_seat opening_bus (openings n)) (omega arith),
+      (let h = ap length items in let l = length-snoc c.loop-route.seats.items pushed in let n = i.3 in omega arith),
+      subst (AreDealt c.cut-own.new.seat.table_id) (sym items) (dealt-push _ c.loop-route.seat.table_id c.loop-route.seats.items c.loop-route.route pushed i.3 i.4 table (c.cut-own.ensures.theirs ∙ sym table)
+          (ap part_of c.cut-own.ensures.one ∙ ap opening (let few = c.requires in let end = c.loop-route.auto.route-end in let on = c.loop-route-test.true in omega arith))),
+    )
 
 pub invariant_of-result : goal.invariant_of-result
 invariant_of-result c = let i = c.loop-route.invariant in let t = left_alone c.loop-route.seat.me (8 - c.loop-route.route) i.2 in record { at = i.0; alone = t.0; others = t.1 }
