@@ -1,5 +1,5 @@
 -- The steps by which a route's seat claims a mailbox, fills it, and gives it back keep the rule.
-use Rattle.std.proofs.Common.{◌≡◌, ◌≢◌, ℕ, ◌+◌, ◌*◌, ◌^◌, ◌<◌, ◌≤◌, ◌⊎◌, inl, inr, ⊎_elim, ◌==◌, cond, List, [], ◌∷◌, length, get_or, set, refl, sym, ap, ◌∙◌, subst, arith, eq-eqb, bit_and, is_some, Option, Some, None, Bool, true, false, true≢false}
+use Rattle.std.proofs.Common.{◌≡◌, ℕ, ◌+◌, ◌*◌, ◌^◌, ◌<◌, ◌⊎◌, inl, inr, ⊎_elim, ◌==◌, [], length, get_or, set, refl, sym, ap, ◌∙◌, subst, arith, eq-eqb, bit_and, is_some, Option, Some, None, Bool, true, false, true≢false}
 use Rattle.std.proofs.lemmas.List.{get_or-set_same, get_or-set_other}
 use mathlib.Core.Option.{none, some}
 use mathlib.Core.Logic.{dite}
@@ -7,14 +7,13 @@ use native.Mathlib.Decide.{ℕ_discrete}
 use lib.ListN.{get_elem?}
 use prog.Atomic.{either}
 use Rattle.atomic_table.specs.Table.{step, keeps, stepped, Allows}
-use Rattle.bx_core.specs.States.{State, claim_of}
+use Rattle.bx_core.specs.States.{claim_of}
 use Rattle.bx_core.specs.Steps.{with_claim, is_claim_of}
 use Rattle.bx_core.proofs.Leads.{leads-claim, leads-withdraw}
 use Rattle.bx_core.proofs.Reaches.{law_of, leads-reached}
 use Rattle.bx_words.specs.Lanes.{lane_of, filling, LaneSet}
 use Rattle.bx_shared.specs.declared.said.Said.TheVariants.{Mailbox}
 use Rattle.bx_shared.specs.declared.route_view.RouteView.{RouteView}
-use Rattle.bx_shared.specs.Marks.{claim_lane, waiting_lane}
 use Rattle.bx_shared.specs.Shown.{Fills, Fits, IsKept}
 use Rattle.bx_shared.specs.Steps.{seat_of, claimed, head_stored, bytes_stored, withdrawn, Claims, StoresHead, StoresBytes, Withdraws}
 use Rattle.bx_shared.proofs.Reading.{is_empty, waiting_lane-none}

@@ -1,5 +1,5 @@
 -- What a step of one route leaves known to the bus's seat and to the seats of other routes.
-use Rattle.std.proofs.Common.{◌≡◌, ◌≢◌, ℕ, ◌+◌, ◌*◌, ◌<◌, ◌≤◌, cond, List, [], ◌∷◌, ◌++◌, length, get_or, set, refl, sym, ap, ◌∙◌, subst, arith, Option, Some, None, Bool, true, false}
+use Rattle.std.proofs.Common.{◌≡◌, ℕ, ◌+◌, ◌*◌, ◌<◌, cond, List, [], ◌∷◌, ◌++◌, length, get_or, refl, sym, ap, ◌∙◌, subst, arith, Option, Some, None, Bool, false}
 use Rattle.std.specs.Prelude.{option_map}
 use Rattle.std.specs.List.{find}
 use Rattle.can_frame.specs.Frames.{FrameValue}
@@ -15,8 +15,7 @@ use Rattle.bx_core.proofs.Words.{each_more, has-left, set-each}
 use Rattle.bx_core.proofs.Standing.{bus_on}
 use Rattle.bx_shared.specs.declared.route_view.RouteView.{RouteView}
 use Rattle.bx_shared.specs.declared.bus_view.BusView.{BusView}
-use Rattle.bx_shared.specs.Marks.{count_requests}
-use Rattle.bx_shared.specs.Shown.{Fills, IsKnown, Fits, past_of, FitsBus}
+use Rattle.bx_shared.specs.Shown.{IsKnown, Fits, past_of, FitsBus}
 use Rattle.bx_shared.proofs.Counts.{count_requests-set}
 use Rattle.bx_shared.proofs.Showing.{length-snoc}
 

@@ -1,8 +1,6 @@
 -- A look of a route's seat keeps the rule, and which of its numbers it then knows to be in no mailbox.
-use Rattle.std.proofs.Common.{◌≡◌, ℕ, zero, suc, ◌+◌, ◌*◌, ◌/◌, ◌%◌, ◌<◌, ◌≤◌, ◌⊎◌, inl, inr, ⊎_elim, ◌==◌, ◌&&◌, ◌||◌, nat_lt, cond, List, [], ◌∷◌, length, get_or, refl, sym, ap, ◌∙◌, subst, arith, eq-eqb, lt-ltb, Some, None, Bool, true, false, true≢false}
+use Rattle.std.proofs.Common.{◌≡◌, ℕ, zero, suc, ◌+◌, ◌*◌, ◌/◌, ◌%◌, ◌<◌, ◌≤◌, inl, inr, ⊎_elim, ◌==◌, ◌&&◌, ◌||◌, nat_lt, cond, List, [], ◌∷◌, length, get_or, refl, sym, ap, ◌∙◌, arith, eq-eqb, lt-ltb, Some, None, Bool, true, false, true≢false}
 use mathlib.Core.Option.{none}
-use mathlib.Core.Logic.{dite}
-use native.Mathlib.Decide.{ℕ_discrete}
 use Rattle.atomic_table.specs.Table.{step, keeps, Allows}
 use Rattle.bx_core.specs.declared.waiting.Waiting.{Waiting}
 use Rattle.bx_core.specs.Lists.{Each, Has}
@@ -20,7 +18,7 @@ use Rattle.bx_shared.specs.Ended.{is_in, stays_in, ended_of, up_to}
 use Rattle.bx_shared.specs.Shown.{Shows, IsKnown, IsKept}
 use Rattle.bx_shared.specs.Steps.{seat_of, looked, Looks}
 use Rattle.bx_shared.proofs.Reading.{reads, within, IsEmptyLane, IsFillingLane, IsRequestLane}
-use Rattle.bx_shared.proofs.Moves.{alone, stays, own_word, knows}
+use Rattle.bx_shared.proofs.Moves.{alone, stays, own_word}
 
 same_request : (x w : Waiting) → Some x ≡ Some w → x ≡ w
 same_request x w e = cc

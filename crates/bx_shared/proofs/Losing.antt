@@ -1,5 +1,5 @@
 -- What a route's seat knows where its request lost and its claim is given back.
-use Rattle.std.proofs.Common.{◌≡◌, ℕ, ◌+◌, ◌<◌, List, ◌++◌, refl, sym, ap, ◌∙◌, subst, append_assoc, Bool, true}
+use Rattle.std.proofs.Common.{◌≡◌, ℕ, List, ◌++◌, refl, subst, append_assoc}
 use Rattle.bx_core.specs.declared.point.Point.{Point}
 use Rattle.bx_core.specs.Gate.{Passes}
 use Rattle.bx_words.specs.Lanes.{lane_of, filling}

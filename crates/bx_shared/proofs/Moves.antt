@@ -1,27 +1,25 @@
 -- A step of a route's seat keeps the rule: what is left to show for each kind of step.
-use Rattle.std.proofs.Common.{◌≡◌, ◌≢◌, ℕ, suc, ◌+◌, ◌<◌, ◌≤◌, ◌⊎◌, inl, inr, ⊎_elim, ◌==◌, cond, List, [], ◌∷◌, length, get_or, set, refl, sym, ap, ◌∙◌, subst, arith, eqb, eq-eqb, ne_eqb, Option, Some, None, Bool, true, false}
+use Rattle.std.proofs.Common.{◌≡◌, ◌≢◌, ℕ, suc, ◌+◌, ◌<◌, ◌⊎◌, inl, ⊎_elim, ◌==◌, cond, List, [], ◌∷◌, length, get_or, set, refl, sym, ap, ◌∙◌, subst, arith, eqb, eq-eqb, ne_eqb, Some, None, Bool}
 use Rattle.std.proofs.lemmas.List.{get_or_past}
-use mathlib.Core.Option.{Option as Maybe, none, some, some-injective, some-ne-none}
+use mathlib.Core.Option.{Option as Maybe, some}
 use mathlib.Core.Logic.{dite}
 use native.Mathlib.Decide.{ℕ_discrete, dec_le}
 use lib.ListN.{get_elem?}
 use lib.Seq.{set-get_or}
 use prog.Atomic.{either}
-use Rattle.atomic_table.specs.Table.{State as Table, Me, Step, step, Act, Valid, carried_after, keeps, stepped, Allows}
+use Rattle.atomic_table.specs.Table.{State as Table, Me, step, Act, Valid, carried_after, keeps, stepped}
 use Rattle.atomic_table.proofs.Lists.{at_set, exchanged}
 use Rattle.bx_core.specs.declared.waiting.Waiting.{Waiting}
-use Rattle.bx_core.specs.Lists.{Each}
 use Rattle.bx_core.specs.States.{State, claim_of}
 use Rattle.bx_core.specs.Law.{Law, Reached, count_at, count_of_claim}
 use Rattle.bx_core.proofs.Reaches.{law_of}
 use Rattle.bx_core.proofs.Words.{each_more}
-use Rattle.bx_words.specs.Lanes.{lane_of, filling, IsRequested, HasCount}
+use Rattle.bx_words.specs.Lanes.{lane_of, filling}
 use Rattle.bx_shared.specs.declared.said.Said.{Said}
 use Rattle.bx_shared.specs.declared.route_view.RouteView.{RouteView}
-use Rattle.bx_shared.specs.declared.bus_view.BusView.{BusView}
 use Rattle.bx_shared.specs.declared.view.View.{View}
 use Rattle.bx_shared.specs.Marks.{claim_lane, waiting_lane}
-use Rattle.bx_shared.specs.Shown.{Shows, Fills, Fits, FitsBus, Holds, IsKept}
+use Rattle.bx_shared.specs.Shown.{Shows, Fits, FitsBus, Holds, IsKept}
 use Rattle.bx_shared.specs.Steps.{view, seat_of, missed, IsOwn, Tries}
 use Rattle.bx_shared.proofs.Reading.{is_filling, has_mark, waiting_lane-none}
 use Rattle.bx_shared.proofs.Counts.{has_count}

@@ -1,10 +1,10 @@
 -- How the places are dealt out, one route after the other.
-use Rattle.std.proofs.Common.{◌≡◌, ℕ, zero, suc, ◌+◌, ◌-◌, ◌<◌, List, [], ◌∷◌, ◌++◌, ◌⊎◌, ⊎_elim, Some, slice_get, refl, sym, ap, ◌∙◌, subst, arith, length, Bool}
+use Rattle.std.proofs.Common.{◌≡◌, ℕ, zero, suc, ◌-◌, ◌<◌, List, [], ◌∷◌, ◌++◌, ⊎_elim, Some, slice_get, refl, sym, ap, ◌∙◌, subst, arith, length, Bool}
 use Rattle.atomic_table.specs.Table.{Me, Splits}
 use Rattle.bx_shared.specs.declared.said.Said.{Said}
 use Rattle.bx_shared.specs.declared.view.View.{View}
 use Rattle.bx_shared.specs.Shown.{IsKept}
-use Rattle.bx_shared.specs.Steps.{view, seat_of, bus_seat, bus_of, opening, opening_bus, left_of, right_of}
+use Rattle.bx_shared.specs.Steps.{seat_of, bus_seat, bus_of, opening, opening_bus, left_of, right_of}
 use Rattle.atomic_table.specs.Seated.{TableId}
 use Rattle.bx_core.proofs.Words.{pushed}
 use Rattle.bx_shared.specs.Seats.{RoutePlace, AreDealt, openings}

@@ -1,12 +1,11 @@
 -- How places are dealt out to seats and put together keeps the rule, which holds of the words as they begin.
-use Rattle.std.proofs.Common.{◌≡◌, ◌≢◌, ℕ, zero, suc, ◌+◌, ◌-◌, ◌^◌, ◌<◌, ◌≤◌, ◌⊎◌, inl, inr, ⊎_elim, ◌==◌, cond, List, [], ◌∷◌, ◌++◌, map, length, set, replicate, refl, sym, ap, ◌∙◌, subst, arith, eq-eqb, ne_eqb, Option, Some, None, Bool, true, false, true≢false}
+use Rattle.std.proofs.Common.{◌≡◌, ◌≢◌, ℕ, zero, suc, ◌+◌, ◌^◌, ◌<◌, ◌⊎◌, inl, inr, ⊎_elim, ◌==◌, cond, List, [], ◌∷◌, ◌++◌, map, length, set, refl, sym, ap, ◌∙◌, subst, arith, eq-eqb, ne_eqb, Some, None, Bool, true, false, true≢false}
 use mathlib.Core.Option.{some, some-injective, some-ne-none}
 use lib.ListN.{get_elem?}
-use Rattle.atomic_table.specs.Table.{Me, Splits, Joins, opening as table_start}
+use Rattle.atomic_table.specs.Table.{Splits, Joins, opening as table_start}
 use Rattle.atomic_table.proofs.Lists.{at_set}
-use Rattle.bx_core.specs.declared.waiting.Waiting.{Waiting}
 use Rattle.bx_core.specs.Lists.{Each}
-use Rattle.bx_core.specs.States.{State, RouteLists, no_lists, lists_of, claim_of, opening_by}
+use Rattle.bx_core.specs.States.{RouteLists, no_lists, lists_of, claim_of, opening_by}
 use Rattle.bx_core.specs.Law.{opened}
 use Rattle.bx_core.proofs.Words.{each-append, each_more}
 use Rattle.bx_core.proofs.Reaches.{default-replicate}
@@ -18,7 +17,7 @@ use Rattle.bx_shared.specs.declared.bus_view.BusView.{BusView}
 use Rattle.bx_shared.specs.declared.view.View.{View}
 use Rattle.bx_shared.specs.Marks.{claim_lane}
 use Rattle.bx_shared.specs.Shown.{AreDistinct, Shows, Fits, FitsBus, Holds, IsKept}
-use Rattle.bx_shared.specs.Steps.{view, opening, opening_bus, first_view, first_word, first_words, left_of, right_of, both_of, spent}
+use Rattle.bx_shared.specs.Steps.{view, opening, opening_bus, first_view, first_words, both_of, spent}
 use Rattle.bx_shared.proofs.Showing.{each_both}
 use Rattle.bx_shared.proofs.Moves.{put, put-here, put-else, no_seal}
 

@@ -1,13 +1,12 @@
 -- The step by which a route's seat requests what it filled a mailbox with keeps the rule.
-use Rattle.std.proofs.Common.{◌≡◌, ◌≢◌, ℕ, ◌+◌, ◌*◌, ◌<◌, ◌≤◌, inr, ◌&&◌, ◌==◌, cond, List, [], ◌∷◌, ◌++◌, length, get_or, set, refl, sym, ap, ◌∙◌, subst, arith, length-set, nat_lt, nat_le, lt-ltb, le-leb, Option, Some, None, Bool, true, false, true≢false}
+use Rattle.std.proofs.Common.{◌≡◌, ℕ, ◌+◌, ◌*◌, ◌<◌, ◌≤◌, inr, ◌&&◌, ◌==◌, List, [], ◌∷◌, ◌++◌, length, get_or, set, refl, sym, ap, ◌∙◌, subst, arith, length-set, nat_le, lt-ltb, le-leb, None, Bool, true, true≢false}
 use Rattle.std.proofs.lemmas.List.{get_or-set_same, get_or-set_other}
-use mathlib.Core.Option.{none, some}
+use mathlib.Core.Option.{some}
 use mathlib.Core.Logic.{dite}
 use native.Mathlib.Decide.{ℕ_discrete}
 use prog.Atomic.{either}
 use Rattle.atomic_table.specs.Table.{step, Allows}
 use Rattle.bx_core.specs.declared.entry.Entry.{Entry}
-use Rattle.bx_core.specs.declared.waiting.Waiting.{Waiting}
 use Rattle.bx_core.specs.Lists.{Each, Has}
 use Rattle.bx_core.specs.States.{State, RouteLists, no_lists, claim_of, lists_of}
 use Rattle.bx_core.specs.Steps.{with_request, new_waiting, requested_lists, last_of, last_number, greatest_number, may_follow}

@@ -1,17 +1,16 @@
 -- The words show the core after each step of a route, where they showed it before.
-use Rattle.std.proofs.Common.{◌≡◌, ℕ, ◌+◌, ◌*◌, ◌<◌, ◌≤◌, ◌⊎◌, inl, inr, ⊎_elim, cond, List, [], ◌∷◌, ◌++◌, length, get_or, set, refl, sym, ap, ◌∙◌, subst, arith, eq-eqb, ne_eqb, length-set, Option, Some, None, Bool, true, false}
+use Rattle.std.proofs.Common.{◌≡◌, ℕ, ◌+◌, ◌*◌, ◌<◌, ◌⊎◌, ⊎_elim, cond, List, [], ◌∷◌, ◌++◌, length, get_or, set, refl, sym, ap, ◌∙◌, subst, arith, eq-eqb, ne_eqb, length-set, Option, Some, None}
 use Rattle.std.proofs.lemmas.List.{get_or-set_same, get_or-set_other}
 use mathlib.Core.Logic.{dite}
 use native.Mathlib.Decide.{ℕ_discrete}
 use Rattle.can_frame.specs.Frames.{FrameValue}
 use Rattle.bx_core.specs.declared.waiting.Waiting.{Waiting}
-use Rattle.bx_core.specs.declared.entry.Entry.{Entry}
 use Rattle.bx_core.specs.Lists.{Each}
-use Rattle.bx_core.specs.States.{State, claim_of, lists_of, no_lists}
+use Rattle.bx_core.specs.States.{State, claim_of, lists_of}
 use Rattle.bx_core.specs.Steps.{with_claim, with_request, new_waiting, requested_lists}
 use Rattle.bx_core.specs.Law.{Law, IsInPlace, count_at, count_of_claim}
 use Rattle.bx_core.proofs.Words.{each-append, each_more}
-use Rattle.bx_words.specs.Lanes.{lane_of, rest_of, order_bit, filling, one_more, LaneSet, LaneRequested, IsOlder}
+use Rattle.bx_words.specs.Lanes.{lane_of, rest_of, filling, one_more, LaneSet, LaneRequested, IsOlder}
 use Rattle.bx_words.specs.Payloads.{ArePacked}
 use Rattle.bx_shared.specs.Marks.{claim_lane, waiting_lane, lane_by, count_requests, rest_by}
 use Rattle.bx_shared.specs.Shown.{AreOrdered, IsPaid, Shows}

@@ -1,6 +1,6 @@
 -- Which of a route's numbers are in no mailbox, by the word looked at and the number that the route last requested in each mailbox:
 -- only a route claims under its own owner bits, so a requested lane that is its own holds that number.
-use Rattle.std.specs.Prelude.{◌≡◌, ℕ, zero, suc, ◌/◌, ◌==◌, Bool, nat_lt, ◌&&◌, ◌||◌, if◌then◌else◌, List, [], ◌∷◌, slice_index}
+use Rattle.std.specs.Prelude.{ℕ, zero, suc, ◌/◌, ◌==◌, Bool, nat_lt, ◌&&◌, ◌||◌, if◌then◌else◌, List, [], ◌∷◌, slice_index}
 use Rattle.bx_words.specs.Lanes.{lane_of, mark_of}
 
 -- the mailbox's lane is the route's and requested, and the number was requested there

@@ -1,6 +1,6 @@
 -- What a mailbox's state is in its lane of the control word: the low five bits, the mark, say how far its request has come, and
 -- the three above say whose it is.
-use Rattle.std.specs.Prelude.{◌≡◌, ℕ, ◌+◌, ◌*◌, ◌==◌, ◌⊎◌, Option, Some, None, List, [], ◌∷◌, Bool, true, false, if◌then◌else◌, length}
+use Rattle.std.specs.Prelude.{◌≡◌, ℕ, ◌+◌, ◌*◌, ◌⊎◌, Option, Some, None, List, [], ◌∷◌, Bool, true, false, if◌then◌else◌, length}
 use Rattle.bx_core.specs.declared.status.Status.{Status}
 use Rattle.bx_core.specs.declared.status.Status.TheVariants.{Pending, Scheduled, Transmitting}
 use Rattle.bx_core.specs.declared.waiting.Waiting.{Waiting}

@@ -1,6 +1,6 @@
 -- What the seven words of a controller's mailboxes and the views of their seats show: a state of the mailbox core (RM0008, bxCAN,
 -- "Transmission handling").
-use Rattle.std.specs.Prelude.{◌≡◌, ℕ, ◌+◌, ◌*◌, ◌/◌, ◌^◌, ◌<◌, ◌≤◌, ◌==◌, Option, Some, None, List, [], ◌∷◌, Bool, true, false, if◌then◌else◌, map, length, slice_index}
+use Rattle.std.specs.Prelude.{◌≡◌, ℕ, ◌+◌, ◌*◌, ◌/◌, ◌^◌, ◌<◌, ◌≤◌, Some, None, List, [], ◌∷◌, Bool, true, false, map, length, slice_index}
 use Rattle.std.specs.List.{slice_index_or}
 use mathlib.Core.Option.{some}
 use lib.ListN.{get_elem?}
@@ -19,7 +19,7 @@ use Rattle.bx_shared.specs.declared.said.Said.{Said}
 use Rattle.bx_shared.specs.declared.route_view.RouteView.{RouteView}
 use Rattle.bx_shared.specs.declared.bus_view.BusView.{BusView}
 use Rattle.bx_shared.specs.declared.view.View.{View}
-use Rattle.bx_shared.specs.Marks.{lane_by, claim_lane, waiting_lane, count_requests, rest_by}
+use Rattle.bx_shared.specs.Marks.{claim_lane, waiting_lane, count_requests, rest_by}
 
 -- each request is older than those behind it
 abbrev pub AreOrdered : ℕ → List Waiting → Type 0

@@ -1,5 +1,5 @@
 -- What each atomic step tells the seat that makes it, and what a seat then knows.
-use Rattle.std.specs.Prelude.{◌≡◌, ℕ, ◌+◌, ◌*◌, ◌^◌, ◌<◌, ◌≤◌, None, List, [], ◌∷◌, ◌++◌, Bool, true, false, slice_set, slice_index}
+use Rattle.std.specs.Prelude.{◌≡◌, ℕ, ◌+◌, ◌^◌, ◌<◌, None, List, [], ◌∷◌, ◌++◌, Bool, true, false, slice_set}
 use mathlib.Core.Option.{Option as Maybe, none, some}
 use Rattle.atomic_table.specs.Table.{Me, Step}
 use Rattle.can_frame.specs.Frames.{standard, data_bytes}

@@ -7,17 +7,12 @@ use Rattle.can_segment.specs.Kept.{StandsBehind, SegmentKept}
 use Rattle.can_segment.specs.Runs.Run.{no_bit}
 use Rattle.can_segment.specs.Fresh.{IsFresh, AreFresh}
 use Rattle.bx_core.specs.TxBus.{Item}
+use Rattle.bx_core.proofs.Words.{pushed}
 use Rattle.can_segment.specs.Ports.{item_of}
 use Rattle.can_segment.specs.Segments.{sending_of_all}
 use Rattle.can_segment.proofs.NextBits.{some_there}
 use Rattle.can_segment.proofs.Places.{same_some}
 use Rattle.can_segment.proofs.Shown.{map_at}
-
-pushed : {X : Type 0} (xs : List X) (y : X) (k : ℕ) (m : X) → slice_get (xs ++ y ∷ []) k ≡ Some m → (slice_get xs k ≡ Some m) ⊎ ((k ≡ length xs) × (y ≡ m))
-pushed [] y zero m e = inr (refl, same_some y m e)
-pushed [] y (suc k) m e = absurd (cc e)
-pushed (x ∷ xs) y zero m e = inl e
-pushed (x ∷ xs) y (suc k) m e = elim (pushed xs y k m e) [ inl is ↦ inl is | inr is ↦ inr (omega (arith, is.0), is.1) ]
 
 -- nodes so far
 pub record FreshBelow {X : Type 0} (on : X → ℕ) (xs : List X) (members : List Member) (i : ℕ) : Type 0 where

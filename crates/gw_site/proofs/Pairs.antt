@@ -4,14 +4,8 @@ use Rattle.std.proofs.lemmas.Option.{slice_get_within}
 use Rattle.can_segment.proofs.NextBits.{some_there}
 use Rattle.can_segment.proofs.Places.{same_some}
 use Rattle.bx_core.specs.Lists.{Each}
+pub use Rattle.bx_core.proofs.Words.{pushed}
 use Rattle.gw_site.specs.Pairs.{Pairs}
-
--- an element of a list that one was put behind
-pub pushed : {X : Type 0} (xs : List X) (y : X) (k : ℕ) (m : X) → slice_get (xs ++ y ∷ []) k ≡ Some m → (slice_get xs k ≡ Some m) ⊎ ((k ≡ length xs) × (y ≡ m))
-pushed [] y zero m e = inr (refl, same_some y m e)
-pushed [] y (suc k) m e = absurd (cc e)
-pushed (x ∷ xs) y zero m e = inl e
-pushed (x ∷ xs) y (suc k) m e = elim (pushed xs y k m e) [ inl is ↦ inl is | inr is ↦ inr (omega (arith, is.0), is.1) ]
 
 -- pairs so far: the second list has the first places alone
 pub record PairsBelow {X Y : Type 0} (R : ℕ → X → Y → Type 0) (xs : List X) (ys : List Y) (i : ℕ) : Type 0 where

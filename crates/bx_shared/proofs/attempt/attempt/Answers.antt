@@ -1,5 +1,5 @@
 -- What the gate heard, up to the request or to the claim that is given back.
-use Rattle.std.proofs.Common.{◌≡◌, ℕ, ◌+◌, [], ◌∷◌, ap, inr, arith}
+use Rattle.std.proofs.Common.{[], ◌∷◌, ap, inr, arith}
 use Rattle.bx_core.specs.declared.point.Point.TheVariants.{Look, Fill, Request, Withdraw}
 use Rattle.bx_shared.specs.Steps.{part_of}
 use Rattle.bx_shared.specs.Seats.{to_claim}

@@ -1,12 +1,12 @@
-use Rattle.std.proofs.Common.{sym, subst, ℕ, ◌+◌, ◌*◌, arith, bit_and, ◌==◌, refl}
-use mathlib.Core.Option.{none, some}
+use Rattle.std.proofs.Common.{sym, subst, arith, ◌==◌}
+use mathlib.Core.Option.{some}
 use prog.Atomic.{either}
 use Rattle.atomic_table.specs.Table.{Me, step, Allows}
 use Rattle.bx_shared.specs.declared.said.Said.{Said}
-use Rattle.bx_shared.specs.declared.said.Said.TheVariants.{Mailbox, Request}
+use Rattle.bx_shared.specs.declared.said.Said.TheVariants.{Request}
 use Rattle.bx_shared.specs.declared.view.View.{View}
 use Rattle.bx_shared.specs.Shown.{IsKept}
-use Rattle.bx_shared.specs.Steps.{seat_of, part_of, Requests}
+use Rattle.bx_shared.specs.Steps.{part_of, Requests}
 use Rattle.bx_shared.proofs.Requesting.{requests-keep}
 use Rattle.bx_shared.proofs.route_steps.request.Goals as goal
 
