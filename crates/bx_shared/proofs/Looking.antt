@@ -1,7 +1,8 @@
 -- A look of a route's seat keeps the rule, and which of its numbers it then knows to be in no mailbox.
 use Rattle.std.proofs.Common.{◌≡◌, ℕ, zero, suc, ◌+◌, ◌*◌, ◌/◌, ◌%◌, ◌<◌, ◌≤◌, inl, inr, ⊎_elim, ◌==◌, ◌&&◌, ◌||◌, nat_lt, cond, List, [], ◌∷◌, length, get_or, refl, sym, ap, ◌∙◌, arith, eq-eqb, lt-ltb, Some, None, Bool, true, false, true≢false}
-use mathlib.Core.Option.{none}
-use Rattle.atomic_table.specs.Table.{step, keeps, Allows}
+use mathlib.Core.Option.{none, some}
+use lib.ListN.{get_elem?}
+use Rattle.atomic_table.specs.Table.{step, keeps, stepped, Allows}
 use Rattle.bx_core.specs.declared.waiting.Waiting.{Waiting}
 use Rattle.bx_core.specs.Lists.{Each, Has}
 use Rattle.bx_core.specs.States.{State, at_mailbox}
@@ -15,10 +16,10 @@ use Rattle.bx_words.proofs.Cases.{of_mailboxes}
 use Rattle.bx_shared.specs.declared.route_view.RouteView.{RouteView}
 use Rattle.bx_shared.specs.Marks.{mark_by, lane_by}
 use Rattle.bx_shared.specs.Ended.{is_in, stays_in, ended_of, up_to}
-use Rattle.bx_shared.specs.Shown.{Shows, IsKnown, IsKept}
+use Rattle.bx_shared.specs.Shown.{Shows, IsKnown, IsKept, IsKeptAs}
 use Rattle.bx_shared.specs.Steps.{seat_of, looked, Looks}
 use Rattle.bx_shared.proofs.Reading.{reads, within, IsEmptyLane, IsFillingLane, IsRequestLane}
-use Rattle.bx_shared.proofs.Moves.{alone, stays, own_word}
+use Rattle.bx_shared.proofs.Moves.{St, alone, stays, own_word}
 
 same_request : (x w : Waiting) → Some x ≡ Some w → x ≡ w
 same_request x w e = cc
@@ -98,30 +99,30 @@ each_all : (P : Waiting → Type 0) (all q : List Waiting) → ((w : Waiting) �
 each_all P all [] f g = tt
 each_all P all (x ∷ xs) f g = (f x (g x (inl refl)), each_all P all xs f (λ w h. g w (inr h)))
 
-pub looks-keep : (txfp : Bool) (slots id : ℕ) (p : RouteView) → Allows (IsKept txfp) slots id (seat_of p) 0 (λ n. n) (Looks (step slots 0 0 0 none) (seat_of p))
-looks-keep txfp slots id p t k long me fits =
+-- a look changes no state of the core
+pub looks : (txfp : Bool) (t : St) (k : IsKept txfp t) (id : ℕ) (p : RouteView) → get_elem? t.views id ≡ some (alone p) →
+    IsKeptAs txfp (stepped t 0 (get_or t.words 0 0) id [] (alone (looked p (get_or t.words 0 0))) keeps) k.core
+looks txfp t k id p me =
     let s = k.core in
     let law = law_of s k.reached in
     let w = get_or t.words 0 0 in
     let q = looked p w in
-    let ns = up_to (last_number p.requested) in (
-      alone q,
-      keeps,
-      tt,
-      stays txfp t k id p q me refl (λ f. record {
-        requested = f.requested;
-        aborted = f.aborted;
-        reaped = f.reaped;
-        claim = λ y. let c = f.claim y in record { own = c.own; head = c.head; bytes = c.bytes };
-        only = f.only;
-        three = f.three;
-        waiting = each_all (IsKnown q) s.queue s.queue (λ x has is. let g = each_of (IsKnown p) s.queue x f.waiting has is in (
-          g.0,
-          g.1,
-          each_more (λ n. stays_in p.last p.route w n ≡ false) (λ n. ¬ (n ≡ x.number)) (ended_of p.last p.route w ns)
-              (λ n out same. true≢false (sym (waits_in t.words s p.last p.route x k.shows law has is g.0) ∙ ap (stays_in p.last p.route w) (sym same) ∙ out)) (ended_out p.last p.route w ns),
-        )) (λ x h. h);
-        ended = ended_among (λ n. n ≤ last_number p.requested) p.last p.route w ns (up_to_most (last_number p.requested) (last_number p.requested) (omega arith));
-      }),
-      (refl, own_word txfp t k id p me),
-    )
+    let ns = up_to (last_number p.requested) in
+    stays txfp t k id p q me refl (λ f. record {
+      requested = f.requested;
+      aborted = f.aborted;
+      reaped = f.reaped;
+      claim = λ y. let c = f.claim y in record { own = c.own; head = c.head; bytes = c.bytes };
+      only = f.only;
+      three = f.three;
+      waiting = each_all (IsKnown q) s.queue s.queue (λ x has is. let g = each_of (IsKnown p) s.queue x f.waiting has is in (
+        g.0,
+        g.1,
+        each_more (λ n. stays_in p.last p.route w n ≡ false) (λ n. ¬ (n ≡ x.number)) (ended_of p.last p.route w ns)
+            (λ n out same. true≢false (sym (waits_in t.words s p.last p.route x k.shows law has is g.0) ∙ ap (stays_in p.last p.route w) (sym same) ∙ out)) (ended_out p.last p.route w ns),
+      )) (λ x h. h);
+      ended = ended_among (λ n. n ≤ last_number p.requested) p.last p.route w ns (up_to_most (last_number p.requested) (last_number p.requested) (omega arith));
+    })
+
+pub looks-keep : (txfp : Bool) (slots id : ℕ) (p : RouteView) → Allows (IsKept txfp) slots id (seat_of p) 0 (λ n. n) (Looks (step slots 0 0 0 none) (seat_of p))
+looks-keep txfp slots id p t k long me fits = (alone (looked p (get_or t.words 0 0)), keeps, tt, (looks txfp t k id p me).kept, (refl, own_word txfp t k id p me))

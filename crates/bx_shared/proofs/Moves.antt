@@ -19,7 +19,7 @@ use Rattle.bx_shared.specs.declared.said.Said.{Said}
 use Rattle.bx_shared.specs.declared.route_view.RouteView.{RouteView}
 use Rattle.bx_shared.specs.declared.view.View.{View}
 use Rattle.bx_shared.specs.Marks.{claim_lane, waiting_lane}
-use Rattle.bx_shared.specs.Shown.{Shows, Fits, FitsBus, Holds, IsKept}
+use Rattle.bx_shared.specs.Shown.{Shows, Fits, FitsBus, Holds, IsKept, IsKeptAs}
 use Rattle.bx_shared.specs.Steps.{view, seat_of, missed, IsOwn, Tries}
 use Rattle.bx_shared.proofs.Reading.{is_filling, has_mark, waiting_lane-none}
 use Rattle.bx_shared.proofs.Counts.{has_count}
@@ -57,35 +57,38 @@ no_seal P es e = cc
 -- the seat goes from p to q, and the words and the core with it
 pub moves : (txfp : Bool) (t : St) (k : IsKept txfp t) (id : ℕ) (p q : RouteView) (ws : List ℕ) (s : State) → get_elem? t.views id ≡ some (alone p) → q.route ≡ p.route →
     Reached s → s.txfp ≡ txfp → length s.routes ≡ 8 → Shows ws s → Fits ws s q → ((o : RouteView) → ¬ (o.route ≡ p.route) → Fits t.words k.core o → Fits ws s o) →
-    (FitsBus k.core k.bus → FitsBus s k.bus) → (s.queue ≡ k.core.queue) ⊎ (p.route < 8) → IsKept txfp (record { words = ws; homes = t.homes; views = set t.views id (alone q) })
+    (FitsBus k.core k.bus → FitsBus s k.bus) → (s.queue ≡ k.core.queue) ⊎ (p.route < 8) → IsKeptAs txfp (record { words = ws; homes = t.homes; views = set t.views id (alone q) }) s
 moves txfp t k id p q ws s me same reached priority eight shows mine others bus quiet =
     let h = k.held id (alone p) me in
     let my_place : k.at p.route ≡ id = h.routes.0.0 in
     let P = put k.part p.route q in
     let now : P q.route ≡ q = ap P same ∙ put-here k.part p.route q in
     record {
-      core = s;
-      reached = reached;
-      priority = priority;
-      eight = eight;
-      shows = shows;
-      part = P;
-      bus = k.bus;
-      at = k.at;
-      bus_at = k.bus_at;
-      route = put-each (λ r x. (x.route ≡ r) × Fits ws s x) k.part p.route q (same, mine) (λ r other. let f = k.route r in (f.0, others (k.part r) (λ e. other (sym f.0 ∙ e)) f.1));
-      bus_fits = bus k.bus_fits;
-      held = λ j v e. ⊎_elim
-          (λ (t : (j ≡ id) × (alone q ≡ v)). subst (λ (x : ℕ × View). Holds s.queue k.at P k.bus_at k.bus x.0 x.1) (λ i. (sym t.0 i, t.1 i))
-          (record { routes = ((ap k.at same ∙ my_place, now), tt); buses = tt; once = (tt, tt); seal = no_seal (λ es. (s.queue ≡ es) × (k.bus_at ≡ id) × ((r : ℕ) → r < 8 → k.at r ≡ id)) }))
-          (λ (t : (j ≢ id) × (get_elem? t.views j ≡ some v)). let g = k.held j v t.1 in record {
-            routes = each_more (λ o. (k.at o.route ≡ j) × (k.part o.route ≡ o)) (λ o. (k.at o.route ≡ j) × (P o.route ≡ o)) v.routes
-                (λ o a. (a.0, put-else k.part p.route q o.route (λ e. t.0 (sym a.0 ∙ ap k.at e ∙ my_place)) ∙ a.1)) g.routes;
-            buses = g.buses;
-            once = g.once;
-            seal = λ es y. let z = g.seal es y in ⊎_elim (λ (w : s.queue ≡ k.core.queue). (w ∙ z.0, z.1, z.2)) (λ (small : p.route < 8). absurd (t.0 (sym (z.2 p.route small) ∙ my_place))) quiet;
-          })
-          (at_set t.views id j (alone q) v e);
+      core_is = refl;
+      kept = record {
+        core = s;
+        reached = reached;
+        priority = priority;
+        eight = eight;
+        shows = shows;
+        part = P;
+        bus = k.bus;
+        at = k.at;
+        bus_at = k.bus_at;
+        route = put-each (λ r x. (x.route ≡ r) × Fits ws s x) k.part p.route q (same, mine) (λ r other. let f = k.route r in (f.0, others (k.part r) (λ e. other (sym f.0 ∙ e)) f.1));
+        bus_fits = bus k.bus_fits;
+        held = λ j v e. ⊎_elim
+            (λ (t : (j ≡ id) × (alone q ≡ v)). subst (λ (x : ℕ × View). Holds s.queue k.at P k.bus_at k.bus x.0 x.1) (λ i. (sym t.0 i, t.1 i))
+            (record { routes = ((ap k.at same ∙ my_place, now), tt); buses = tt; once = (tt, tt); seal = no_seal (λ es. (s.queue ≡ es) × (k.bus_at ≡ id) × ((r : ℕ) → r < 8 → k.at r ≡ id)) }))
+            (λ (t : (j ≢ id) × (get_elem? t.views j ≡ some v)). let g = k.held j v t.1 in record {
+              routes = each_more (λ o. (k.at o.route ≡ j) × (k.part o.route ≡ o)) (λ o. (k.at o.route ≡ j) × (P o.route ≡ o)) v.routes
+                  (λ o a. (a.0, put-else k.part p.route q o.route (λ e. t.0 (sym a.0 ∙ ap k.at e ∙ my_place)) ∙ a.1)) g.routes;
+              buses = g.buses;
+              once = g.once;
+              seal = λ es y. let z = g.seal es y in ⊎_elim (λ (w : s.queue ≡ k.core.queue). (w ∙ z.0, z.1, z.2)) (λ (small : p.route < 8). absurd (t.0 (sym (z.2 p.route small) ∙ my_place))) quiet;
+            })
+            (at_set t.views id j (alone q) v e);
+      };
     }
 
 -- what the seat knows is so
@@ -94,9 +97,23 @@ knows txfp t k id p me = subst (Fits t.words k.core) ((k.held id (alone p) me).r
 
 -- the words and the core stay
 pub stays : (txfp : Bool) (t : St) (k : IsKept txfp t) (id : ℕ) (p q : RouteView) → get_elem? t.views id ≡ some (alone p) → q.route ≡ p.route → (Fits t.words k.core p → Fits t.words k.core q) →
-    IsKept txfp (stepped t 0 (get_or t.words 0 0) id [] (alone q) keeps)
-stays txfp t k id p q me same mine = subst (λ (ws : List ℕ). IsKept txfp (record { words = ws; homes = t.homes; views = set t.views id (alone q) })) (sym (set-get_or t.words 0 0))
+    IsKeptAs txfp (stepped t 0 (get_or t.words 0 0) id [] (alone q) keeps) k.core
+stays txfp t k id p q me same mine = subst (λ (ws : List ℕ). IsKeptAs txfp (record { words = ws; homes = t.homes; views = set t.views id (alone q) }) k.core) (sym (set-get_or t.words 0 0))
     (moves txfp t k id p q t.words k.core me same k.reached k.priority k.eight k.shows (mine (knows txfp t k id p me)) (λ o _ f. f) (λ b. b) (inl refl))
+
+-- an exchange that finds another word changes no state of the core
+pub misses : (txfp : Bool) (t : St) (k : IsKept txfp t) (id : ℕ) (p : RouteView) → get_elem? t.views id ≡ some (alone p) →
+    IsKeptAs txfp (stepped t 0 (get_or t.words 0 0) id [] (alone (missed p (get_or t.words 0 0))) keeps) k.core
+misses txfp t k id p me = stays txfp t k id p (missed p (get_or t.words 0 0)) me refl (λ f. record {
+  requested = f.requested;
+  aborted = f.aborted;
+  reaped = f.reaped;
+  claim = λ y. let c = f.claim y in record { own = c.own; head = c.head; bytes = c.bytes };
+  only = f.only;
+  three = f.three;
+  waiting = f.waiting;
+  ended = f.ended;
+})
 
 -- a claimed mailbox is one of the three, and its lane fills under the claim's route
 pub claim_small : (s : State) (m r : ℕ) → Law s → claim_of s m ≡ Some r → m < 3
@@ -135,15 +152,6 @@ tries txfp t k slots id old new said p won me hit = let w = get_or t.words 0 0 i
       alone (missed p w),
       keeps,
       tt,
-      stays txfp t k id p (missed p w) me refl (λ f. record {
-        requested = f.requested;
-        aborted = f.aborted;
-        reaped = f.reaped;
-        claim = λ y. let c = f.claim y in record { own = c.own; head = c.head; bytes = c.bytes };
-        only = f.only;
-        three = f.three;
-        waiting = f.waiting;
-        ended = f.ended;
-      }),
+      (misses txfp t k id p me).kept,
       ((λ e. absurd (n e)), λ _. (refl, own_word txfp t k id p me)),
     ))

@@ -4,3 +4,4 @@ pub mod Ended
 pub mod Steps
 pub mod Seats
 pub mod SeatParts
+pub mod Laws

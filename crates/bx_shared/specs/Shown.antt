@@ -1,6 +1,6 @@
 -- What the seven words of a controller's mailboxes and the views of their seats show: a state of the mailbox core (RM0008, bxCAN,
 -- "Transmission handling").
-use Rattle.std.specs.Prelude.{◌≡◌, ℕ, ◌+◌, ◌*◌, ◌/◌, ◌^◌, ◌<◌, ◌≤◌, Some, None, List, [], ◌∷◌, Bool, true, false, map, length, slice_index}
+use Rattle.std.specs.Prelude.{Ok, ◌≡◌, ℕ, ◌+◌, ◌*◌, ◌/◌, ◌^◌, ◌<◌, ◌≤◌, Some, None, List, [], ◌∷◌, Bool, true, false, map, length, slice_index}
 use Rattle.std.specs.List.{slice_index_or}
 use mathlib.Core.Option.{some}
 use lib.ListN.{get_elem?}
@@ -10,7 +10,8 @@ use Rattle.bx_words.specs.Payloads.{IsHeadOf, ArePacked}
 use Rattle.bx_core.specs.declared.waiting.Waiting.{Waiting}
 use Rattle.bx_core.specs.Lists.{Each, Has}
 use Rattle.bx_core.specs.States.{State, claim_of, lists_of, on_bus, in_turn}
-use Rattle.bx_core.specs.Steps.{last_number}
+use Rattle.bx_core.specs.declared.event.Event.{Event}
+use Rattle.bx_core.specs.Steps.{last_number, after}
 use Rattle.bx_core.specs.Law.{Reached}
 use Rattle.bx_core.specs.PlainMail.{item_of, sending}
 use Rattle.bx_core.specs.TxBus.{Item, label_of, BusPast}
@@ -123,3 +124,14 @@ pub record IsKept (txfp : Bool) (t : Table Said View) : Type 0 where
   pub route : (r : ℕ) → ((part r).route ≡ r) × Fits t.words core (part r)
   pub bus_fits : FitsBus core bus
   pub held : (seat : ℕ) (v : View) → get_elem? t.views seat ≡ some v → Holds core.queue at part bus_at bus seat v
+
+-- the rule holds with this state of the core
+pub record IsKeptAs (txfp : Bool) (t : Table Said View) (s : State) : Type 0 where
+  pub kept : IsKept txfp t
+  pub core_is : kept.core ≡ s
+
+-- the rule holds with the state of the core that this event leaves, which is not refused
+pub record IsEvent (txfp : Bool) (from : State) (event : Event) (t : Table Said View) : Type 0 where
+  pub next : State
+  pub after_is : after from event ≡ Ok next
+  pub then : IsKeptAs txfp t next

@@ -5,6 +5,7 @@ mod attempt;
 mod bus_seat;
 mod bus_view;
 mod dealing;
+pub mod laws;
 mod mail;
 mod plays;
 mod request_answer;

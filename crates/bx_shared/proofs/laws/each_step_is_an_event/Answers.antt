@@ -1,0 +1,23 @@
+-- Each kind of step, by its own lemma.
+use Rattle.std.proofs.Common.{refl}
+use Rattle.bx_shared.proofs.Moves.{misses}
+use Rattle.bx_shared.proofs.Looking.{looks}
+use Rattle.bx_shared.proofs.Claiming.{claims, stores_head, stores_bytes, withdraws}
+use Rattle.bx_shared.proofs.Requesting.{requests}
+use Rattle.bx_shared.proofs.Places.{splits, joins}
+use Rattle.bx_shared.proofs.laws.each_step_is_an_event.Goals as goal
+
+pub returns : goal.returns
+returns c = record {
+  route = λ txfp t k seat p me. record {
+    look = looks txfp t k seat p me;
+    miss = misses txfp t k seat p me;
+    claim = λ m new small there idle empty ls. claims txfp t k seat m new p me small there idle empty ls;
+    fill_head = λ word fills. stores_head txfp t k seat _ word p me refl fills;
+    fill_bytes = λ word fills one. stores_bytes txfp t k seat _ word p me refl fills one;
+    request = λ new e fills both packed above ls. requests txfp t k seat new p e me fills both packed above ls;
+    withdraw = λ new fills ls. withdraws txfp t k seat new p me fills ls;
+  };
+  split = λ txfp t k seat buses p ps me. splits txfp t k seat buses p ps me;
+  join = λ txfp t k seat other v w me apart it. joins txfp t k seat other v w me apart it;
+}

@@ -1,0 +1,46 @@
+-- What each step makes of the state of the mailbox core: it is one event of it, which is not refused, or changes nothing.
+use Rattle.std.specs.Prelude.{◌≡◌, ℕ, ◌+◌, ◌*◌, ◌<◌, List, [], ◌∷◌, ◌++◌, Bool, true, false, slice_index, slice_set}
+use mathlib.Core.Option.{some}
+use lib.ListN.{get_elem?}
+use Rattle.atomic_table.specs.Table.{State as Table}
+use Rattle.bx_core.specs.declared.entry.Entry.{Entry}
+use Rattle.bx_core.specs.declared.event.Event.TheVariants.{Claim, Request, Withdraw}
+use Rattle.bx_core.specs.States.{State}
+use Rattle.bx_core.specs.Steps.{last_number}
+use Rattle.bx_words.specs.Lanes.{lane_of, filling, LaneSet, LaneRequested}
+use Rattle.bx_words.specs.Payloads.{ArePacked}
+use Rattle.bx_shared.specs.declared.said.Said.{Said}
+use Rattle.bx_shared.specs.declared.route_view.RouteView.{RouteView}
+use Rattle.bx_shared.specs.declared.bus_view.BusView.{BusView}
+use Rattle.bx_shared.specs.declared.view.View.{View}
+use Rattle.bx_shared.specs.Shown.{IsKept, IsKeptAs, IsEvent}
+use Rattle.bx_shared.specs.Steps.{view, looked, missed, claimed, head_stored, bytes_stored, requested, withdrawn, both_of, spent}
+
+abbrev pub control_of : Table Said View → ℕ
+control_of t = slice_index t.words 0
+
+-- one word becomes another, and the seat of a route then knows this
+abbrev pub stepped_to : Table Said View → (place new : ℕ) → (seat : ℕ) → RouteView → Table Said View
+stepped_to t place new seat p = record { words = slice_set t.words place new; homes = t.homes; views = slice_set t.views seat (view [] (p ∷ [])) }
+
+-- the steps of a route's seat, each with what it asks for, from words that show this state
+pub record RouteSteps (txfp : Bool) (t : Table Said View) (core : State) (seat : ℕ) (p : RouteView) : Type 0 where
+  pub look : IsKeptAs txfp (stepped_to t 0 (control_of t) seat (looked p (control_of t))) core
+  -- an exchange that finds another word than the one that it was to find
+  pub miss : IsKeptAs txfp (stepped_to t 0 (control_of t) seat (missed p (control_of t))) core
+  pub claim : (mailbox new : ℕ) → mailbox < 3 → p.route < 8 → p.claims ≡ false → lane_of (control_of t) mailbox ≡ 0 → LaneSet (control_of t) mailbox (filling p.route) new →
+      IsEvent txfp core (Claim p.route mailbox) (stepped_to t 0 new seat (claimed p mailbox))
+  pub fill_head : (word : ℕ) → p.claims ≡ true → IsKeptAs txfp (stepped_to t (1 + 2 * p.mailbox) word seat (head_stored p word)) core
+  pub fill_bytes : (word : ℕ) → p.claims ≡ true → p.stored ≡ 1 → IsKeptAs txfp (stepped_to t (2 + 2 * p.mailbox) word seat (bytes_stored p word)) core
+  pub request : (new : ℕ) (e : Entry) → p.claims ≡ true → p.stored ≡ 2 → ArePacked e.frame e.number p.head p.bytes → last_number p.requested < e.number →
+      LaneRequested (control_of t) p.mailbox (filling p.route + 2) new → IsEvent txfp core (Request p.route p.mailbox e.number e.frame) (stepped_to t 0 new seat (requested p e))
+  pub withdraw : (new : ℕ) → p.claims ≡ true → LaneSet (control_of t) p.mailbox 0 new → IsEvent txfp core (Withdraw p.route p.mailbox) (stepped_to t 0 new seat (withdrawn p))
+
+-- so it is whenever the rule holds, and to divide a seat, or to put two together, changes nothing
+pub record EachStepIsAnEvent : Type 0 where
+  pub route : (txfp : Bool) (t : Table Said View) (k : IsKept txfp t) (seat : ℕ) (p : RouteView) → get_elem? t.views seat ≡ some (view [] (p ∷ [])) → RouteSteps txfp t k.core seat p
+  pub split : (txfp : Bool) (t : Table Said View) (k : IsKept txfp t) (seat : ℕ) (buses : List BusView) (p : RouteView) (ps : List RouteView) → get_elem? t.views seat ≡ some (view buses (p ∷ ps)) →
+      IsKeptAs txfp (record { words = t.words; homes = t.homes; views = slice_set t.views seat (view buses ps) ++ view [] (p ∷ []) ∷ [] }) k.core
+  pub join : (txfp : Bool) (t : Table Said View) (k : IsKept txfp t) (seat other : ℕ) (v w : View) → get_elem? t.views seat ≡ some v → ¬ (other ≡ seat) →
+      get_elem? (slice_set t.views seat (both_of v w)) other ≡ some w →
+      IsKeptAs txfp (record { words = t.words; homes = t.homes; views = slice_set (slice_set t.views seat (both_of v w)) other spent }) k.core
