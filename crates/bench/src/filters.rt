@@ -73,7 +73,7 @@ fn offer_and_release<H: Print + Clock + AllocGlobal + Wait>(rt: &H) -> io::Resul
 }
 
 /// Prints the rates of both.
-pub fn measure<H: Print + Clock + AllocGlobal + Wait>(rt: &H) -> io::Result<()> {
+pub(crate) fn measure<H: Print + Clock + AllocGlobal + Wait>(rt: &H) -> io::Result<()> {
     let banks = full();
     // identifiers up to 511 match nowhere; the last bank has those from 1024 + 4 * 13 on
     for (name, first, many) in [

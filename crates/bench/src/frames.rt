@@ -70,7 +70,7 @@ fn push_bits() -> (u64, u64) {
 }
 
 /// Prints the rates of both.
-pub fn measure<H: Print + Clock + AllocGlobal>(rt: &H) -> io::Result<()> {
+pub(crate) fn measure<H: Print + Clock + AllocGlobal>(rt: &H) -> io::Result<()> {
     let start = Instant::now(rt)?;
     let bits = wire_bits();
     let rate = millions(rt.alloc(), bits, start.elapsed(rt)?)?;

@@ -12,7 +12,7 @@ use std::time::Instant;
 const BITS: u64 = 1_000_000;
 
 /// Eight bytes, so that most bits of the bus are data.
-pub fn frame_of(id: u16) -> Frame {
+pub(crate) fn frame_of(id: u16) -> Frame {
     match Id::standard(id % 2048) {
         Ok(id) => Frame::with_bytes(
             id,
@@ -55,7 +55,7 @@ fn bus(alloc: Global, size: u64) -> Result<Vec<Node>, AllocError> {
 }
 
 /// Prints the rate of each bus.
-pub fn measure<H: Print + Clock + AllocGlobal>(rt: &H) -> io::Result<()> {
+pub(crate) fn measure<H: Print + Clock + AllocGlobal>(rt: &H) -> io::Result<()> {
     for size in [2u64, 8, 16] {
         for (name, senders) in [("idle", 0usize), ("one sends", 1), ("all send", 16)] {
             let mut nodes = bus(rt.alloc(), size)?;

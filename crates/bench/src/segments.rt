@@ -64,7 +64,7 @@ fn make_bits<R, P: RxSink<R>>(
 }
 
 /// Prints the rate of each segment.
-pub fn measure<H: Print + Clock + AllocGlobal + Wait>(rt: &H) -> io::Result<()> {
+pub(crate) fn measure<H: Print + Clock + AllocGlobal + Wait>(rt: &H) -> io::Result<()> {
     println!(rt; "a line of a record takes {} bytes", size_of::<Event>())?;
     for size in [2u16, 8, 16] {
         for (name, times) in [("idle", 0u32), ("busy", 10_000)] {

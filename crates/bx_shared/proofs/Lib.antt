@@ -10,3 +10,4 @@ pub mod Looking
 pub mod Places
 pub mod Losing
 pub mod Parting
+pub mod Determined

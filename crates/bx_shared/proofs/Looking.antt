@@ -21,7 +21,7 @@ use Rattle.bx_shared.specs.Steps.{seat_of, looked, Looks}
 use Rattle.bx_shared.proofs.Reading.{reads, within, IsEmptyLane, IsFillingLane, IsRequestLane}
 use Rattle.bx_shared.proofs.Moves.{St, alone, stays, own_word}
 
-same_request : (x w : Waiting) → Some x ≡ Some w → x ≡ w
+pub same_request : (x w : Waiting) → Some x ≡ Some w → x ≡ w
 same_request x w e = cc
 
 none_not_some : (w : Waiting) → None ≡ Some w → ⊥

@@ -2,7 +2,7 @@
 use Rattle.std.proofs.Common.{◌≡◌, ◌≢◌, ℕ, zero, suc, ◌+◌, ◌^◌, ◌<◌, ◌⊎◌, inl, inr, ⊎_elim, ◌==◌, cond, List, [], ◌∷◌, ◌++◌, map, length, set, refl, sym, ap, ◌∙◌, subst, arith, eq-eqb, ne_eqb, Some, None, Bool, true, false, true≢false}
 use mathlib.Core.Option.{some, some-injective, some-ne-none}
 use lib.ListN.{get_elem?}
-use Rattle.atomic_table.specs.Table.{Splits, Joins, opening as table_start}
+use Rattle.atomic_table.specs.Table.{Splits, opening as table_start}
 use Rattle.atomic_table.proofs.Lists.{at_set}
 use Rattle.bx_core.specs.Lists.{Each}
 use Rattle.bx_core.specs.States.{RouteLists, no_lists, lists_of, claim_of, opening_by}
@@ -35,6 +35,27 @@ each-map : (P : ℕ → Type 0) (l : List RouteView) → Each (λ p. P p.route) 
 each-map P [] a = tt
 each-map P (p ∷ ps) a = (a.0, each-map P ps a.1)
 
+-- the words, the core and what the places know stay, and the places stand at these seats
+seated : (txfp : Bool) (t : St) (k : IsKept txfp t) (views : List View) (at : ℕ → ℕ) (bus_at : ℕ) →
+    ((j : ℕ) (v : View) → get_elem? views j ≡ some v → Holds k.core.queue at k.part bus_at k.bus j v) → IsKeptAs txfp (record { words = t.words; homes = t.homes; views = views }) k.core
+seated txfp t k views at bus_at held = record {
+  core_is = refl;
+  kept = record {
+    core = k.core;
+    reached = k.reached;
+    priority = k.priority;
+    eight = k.eight;
+    shows = k.shows;
+    part = k.part;
+    bus = k.bus;
+    at = at;
+    bus_at = bus_at;
+    route = k.route;
+    bus_fits = k.bus_fits;
+    held = held;
+  };
+}
+
 -- the first place of a seat goes to a new one
 pub splits : (txfp : Bool) (t : St) (k : IsKept txfp t) (id : ℕ) (bs : List BusView) (p : RouteView) (ps : List RouteView) → get_elem? t.views id ≡ some (view bs (p ∷ ps)) →
     IsKeptAs txfp (record { words = t.words; homes = t.homes; views = set t.views id (view bs ps) ++ view [] (p ∷ []) ∷ [] }) k.core
@@ -44,41 +65,25 @@ splits txfp t k id bs p ps me =
     let at = put k.at p.route n in
     -- a place other than p's stays where it is
     let stay : (j : ℕ) (o : RouteView) → ¬ (o.route ≡ p.route) → (k.at o.route ≡ j) × (k.part o.route ≡ o) → (at o.route ≡ j) × (k.part o.route ≡ o) = λ j o other a. (put-else k.at p.route n o.route other ∙ a.0, a.1) in
-    record {
-      core_is = refl;
-      kept = record {
-        core = k.core;
-        reached = k.reached;
-        priority = k.priority;
-        eight = k.eight;
-        shows = k.shows;
-        part = k.part;
-        bus = k.bus;
-        at = at;
-        bus_at = k.bus_at;
-        route = k.route;
-        bus_fits = k.bus_fits;
-        held = λ j v e. ⊎_elim
-            (λ old. ⊎_elim
-            (λ (t : (j ≡ id) × (view bs ps ≡ v)). subst (λ (x : ℕ × View). Holds k.core.queue at k.part k.bus_at k.bus x.0 x.1) (λ i. (sym t.0 i, t.1 i)) (record {
-              routes = each_both (λ o. (k.at o.route ≡ id) × (k.part o.route ≡ o)) (λ o. ¬ (o.route ≡ p.route)) (λ o. (at o.route ≡ id) × (k.part o.route ≡ o)) ps (λ o a other. stay id o other a) h.routes.1
-                  (of_map (λ y. ¬ (y ≡ p.route)) ps h.once.0);
-              buses = h.buses;
-              once = h.once.1;
-              seal = no_seal (λ es. (k.core.queue ≡ es) × (k.bus_at ≡ id) × ((r : ℕ) → r < 8 → at r ≡ id));
-            }))
-            (λ (t : (j ≢ id) × (get_elem? t.views j ≡ some v)). let g = k.held j v t.1 in record {
-              routes = each_more (λ o. (k.at o.route ≡ j) × (k.part o.route ≡ o)) (λ o. (at o.route ≡ j) × (k.part o.route ≡ o)) v.routes (λ o a. stay j o (λ is. t.0 (sym a.0 ∙ ap k.at is ∙ h.routes.0.0)) a) g.routes;
-              buses = g.buses;
-              once = g.once;
-              seal = λ es y. let z = g.seal es y in (z.0, z.1, λ r small. put-else k.at p.route n r (λ e. t.0 (sym (z.2 r small) ∙ ap k.at e ∙ h.routes.0.0)) ∙ z.2 r small);
-            })
-            (at_set t.views id j (view bs ps) v old))
-            (λ (t : (j ≡ n) × (view [] (p ∷ []) ≡ v)). subst (λ (x : ℕ × View). Holds k.core.queue at k.part k.bus_at k.bus x.0 x.1) (λ i. (sym t.0 i, t.1 i))
-            (record { routes = ((put-here k.at p.route n, h.routes.0.1), tt); buses = tt; once = (tt, tt); seal = no_seal (λ es. (k.core.queue ≡ es) × (k.bus_at ≡ n) × ((r : ℕ) → r < 8 → at r ≡ n)) }))
-            (at_end (set t.views id (view bs ps)) (view [] (p ∷ [])) v j e);
-      };
-    }
+    seated txfp t k (set t.views id (view bs ps) ++ view [] (p ∷ []) ∷ []) at k.bus_at (λ j v e. ⊎_elim
+    (λ old. ⊎_elim
+    (λ (t : (j ≡ id) × (view bs ps ≡ v)). subst (λ (x : ℕ × View). Holds k.core.queue at k.part k.bus_at k.bus x.0 x.1) (λ i. (sym t.0 i, t.1 i)) (record {
+      routes = each_both (λ o. (k.at o.route ≡ id) × (k.part o.route ≡ o)) (λ o. ¬ (o.route ≡ p.route)) (λ o. (at o.route ≡ id) × (k.part o.route ≡ o)) ps (λ o a other. stay id o other a) h.routes.1
+          (of_map (λ y. ¬ (y ≡ p.route)) ps h.once.0);
+      buses = h.buses;
+      once = h.once.1;
+      seal = no_seal (λ es. (k.core.queue ≡ es) × (k.bus_at ≡ id) × ((r : ℕ) → r < 8 → at r ≡ id));
+    }))
+    (λ (t : (j ≢ id) × (get_elem? t.views j ≡ some v)). let g = k.held j v t.1 in record {
+      routes = each_more (λ o. (k.at o.route ≡ j) × (k.part o.route ≡ o)) (λ o. (at o.route ≡ j) × (k.part o.route ≡ o)) v.routes (λ o a. stay j o (λ is. t.0 (sym a.0 ∙ ap k.at is ∙ h.routes.0.0)) a) g.routes;
+      buses = g.buses;
+      once = g.once;
+      seal = λ es y. let z = g.seal es y in (z.0, z.1, λ r small. put-else k.at p.route n r (λ e. t.0 (sym (z.2 r small) ∙ ap k.at e ∙ h.routes.0.0)) ∙ z.2 r small);
+    })
+    (at_set t.views id j (view bs ps) v old))
+    (λ (t : (j ≡ n) × (view [] (p ∷ []) ≡ v)). subst (λ (x : ℕ × View). Holds k.core.queue at k.part k.bus_at k.bus x.0 x.1) (λ i. (sym t.0 i, t.1 i))
+    (record { routes = ((put-here k.at p.route n, h.routes.0.1), tt); buses = tt; once = (tt, tt); seal = no_seal (λ es. (k.core.queue ≡ es) × (k.bus_at ≡ n) × ((r : ℕ) → r < 8 → at r ≡ n)) }))
+    (at_end (set t.views id (view bs ps)) (view [] (p ∷ [])) v j e))
 
 pub splits-keep : (txfp : Bool) (id : ℕ) (bs : List BusView) (p : RouteView) (ps : List RouteView) → Splits {S = Said} (IsKept txfp) id (view bs (p ∷ ps)) (view bs ps) (view [] (p ∷ []))
 splits-keep txfp id bs p ps t k me = (splits txfp t k id bs p ps me).kept
@@ -118,42 +123,26 @@ joins txfp t k id other v w me apart it =
     let bus_at = moved id other k.bus_at in
     let here : (o : RouteView) → (k.at o.route ≡ id) × (k.part o.route ≡ o) → (at o.route ≡ id) × (k.part o.route ≡ o) = λ o a. (moved_else id other (k.at o.route) (λ e. apart (sym e ∙ a.0)) ∙ a.0, a.1) in
     let there : (o : RouteView) → (k.at o.route ≡ other) × (k.part o.route ≡ o) → (at o.route ≡ id) × (k.part o.route ≡ o) = λ o a. (moved_other id other (k.at o.route) a.0, a.1) in
-    record {
-      core_is = refl;
-      kept = record {
-        core = k.core;
-        reached = k.reached;
-        priority = k.priority;
-        eight = k.eight;
-        shows = k.shows;
-        part = k.part;
-        bus = k.bus;
-        at = at;
-        bus_at = bus_at;
-        route = k.route;
-        bus_fits = k.bus_fits;
-        held = λ j u e. ⊎_elim
-            (λ (t : (j ≡ other) × (spent ≡ u)). subst (λ (x : ℕ × View). Holds k.core.queue at k.part bus_at k.bus x.0 x.1) (λ i. (sym t.0 i, t.1 i))
-            (record { routes = tt; buses = tt; once = tt; seal = no_seal (λ es. (k.core.queue ≡ es) × (bus_at ≡ other) × ((r : ℕ) → r < 8 → at r ≡ other)) }))
-            (λ (z : (j ≢ other) × (get_elem? (set t.views id (both_of v w)) j ≡ some u)). ⊎_elim
-            (λ (r : (j ≡ id) × (both_of v w ≡ u)). subst (λ (x : ℕ × View). Holds k.core.queue at k.part bus_at k.bus x.0 x.1) (λ i. (sym r.0 i, r.1 i)) (record {
-              routes = each-append (λ o. (at o.route ≡ id) × (k.part o.route ≡ o)) v.routes w.routes (each_more (λ o. (k.at o.route ≡ id) × (k.part o.route ≡ o)) (λ o. (at o.route ≡ id) × (k.part o.route ≡ o)) v.routes here h.routes)
-                  (each_more (λ o. (k.at o.route ≡ other) × (k.part o.route ≡ o)) (λ o. (at o.route ≡ id) × (k.part o.route ≡ o)) w.routes there g.routes);
-              buses = each-append (λ b. (bus_at ≡ id) × (k.bus ≡ b)) v.buses w.buses (each_more (λ b. (k.bus_at ≡ id) × (k.bus ≡ b)) (λ b. (bus_at ≡ id) × (k.bus ≡ b)) v.buses (λ b a. (moved_else id other k.bus_at (λ e. apart (sym e ∙ a.0)) ∙ a.0, a.1)) h.buses)
-                  (each_more (λ b. (k.bus_at ≡ other) × (k.bus ≡ b)) (λ b. (bus_at ≡ id) × (k.bus ≡ b)) w.buses (λ b a. (moved_other id other k.bus_at a.0, a.1)) g.buses);
-              once = subst AreDistinct (sym (map-append v.routes w.routes)) (distinct-append (map (λ p. p.route) v.routes) (map (λ p. p.route) w.routes) h.once g.once (disjoint k.at k.part id other v.routes w.routes apart h.routes g.routes));
-              seal = no_seal (λ es. (k.core.queue ≡ es) × (bus_at ≡ id) × ((r : ℕ) → r < 8 → at r ≡ id));
-            }))
-            (λ (r : (j ≢ id) × (get_elem? t.views j ≡ some u)). let q = k.held j u r.1 in record {
-              routes = each_more (λ o. (k.at o.route ≡ j) × (k.part o.route ≡ o)) (λ o. (at o.route ≡ j) × (k.part o.route ≡ o)) u.routes (λ o a. (moved_else id other (k.at o.route) (λ e. z.0 (sym a.0 ∙ e)) ∙ a.0, a.1)) q.routes;
-              buses = each_more (λ b. (k.bus_at ≡ j) × (k.bus ≡ b)) (λ b. (bus_at ≡ j) × (k.bus ≡ b)) u.buses (λ b a. (moved_else id other k.bus_at (λ e. z.0 (sym a.0 ∙ e)) ∙ a.0, a.1)) q.buses;
-              once = q.once;
-              seal = λ es y. let x = q.seal es y in (x.0, moved_else id other k.bus_at (λ e. z.0 (sym x.1 ∙ e)) ∙ x.1, λ o small. moved_else id other (k.at o) (λ e. z.0 (sym (x.2 o small) ∙ e)) ∙ x.2 o small);
-            })
-            (at_set t.views id j (both_of v w) u z.1))
-            (at_set (set t.views id (both_of v w)) other j spent u e);
-      };
-    }
+    seated txfp t k (set (set t.views id (both_of v w)) other spent) at bus_at (λ j u e. ⊎_elim
+    (λ (t : (j ≡ other) × (spent ≡ u)). subst (λ (x : ℕ × View). Holds k.core.queue at k.part bus_at k.bus x.0 x.1) (λ i. (sym t.0 i, t.1 i))
+    (record { routes = tt; buses = tt; once = tt; seal = no_seal (λ es. (k.core.queue ≡ es) × (bus_at ≡ other) × ((r : ℕ) → r < 8 → at r ≡ other)) }))
+    (λ (z : (j ≢ other) × (get_elem? (set t.views id (both_of v w)) j ≡ some u)). ⊎_elim
+    (λ (r : (j ≡ id) × (both_of v w ≡ u)). subst (λ (x : ℕ × View). Holds k.core.queue at k.part bus_at k.bus x.0 x.1) (λ i. (sym r.0 i, r.1 i)) (record {
+      routes = each-append (λ o. (at o.route ≡ id) × (k.part o.route ≡ o)) v.routes w.routes (each_more (λ o. (k.at o.route ≡ id) × (k.part o.route ≡ o)) (λ o. (at o.route ≡ id) × (k.part o.route ≡ o)) v.routes here h.routes)
+          (each_more (λ o. (k.at o.route ≡ other) × (k.part o.route ≡ o)) (λ o. (at o.route ≡ id) × (k.part o.route ≡ o)) w.routes there g.routes);
+      buses = each-append (λ b. (bus_at ≡ id) × (k.bus ≡ b)) v.buses w.buses (each_more (λ b. (k.bus_at ≡ id) × (k.bus ≡ b)) (λ b. (bus_at ≡ id) × (k.bus ≡ b)) v.buses (λ b a. (moved_else id other k.bus_at (λ e. apart (sym e ∙ a.0)) ∙ a.0, a.1)) h.buses)
+          (each_more (λ b. (k.bus_at ≡ other) × (k.bus ≡ b)) (λ b. (bus_at ≡ id) × (k.bus ≡ b)) w.buses (λ b a. (moved_other id other k.bus_at a.0, a.1)) g.buses);
+      once = subst AreDistinct (sym (map-append v.routes w.routes)) (distinct-append (map (λ p. p.route) v.routes) (map (λ p. p.route) w.routes) h.once g.once (disjoint k.at k.part id other v.routes w.routes apart h.routes g.routes));
+      seal = no_seal (λ es. (k.core.queue ≡ es) × (bus_at ≡ id) × ((r : ℕ) → r < 8 → at r ≡ id));
+    }))
+    (λ (r : (j ≢ id) × (get_elem? t.views j ≡ some u)). let q = k.held j u r.1 in record {
+      routes = each_more (λ o. (k.at o.route ≡ j) × (k.part o.route ≡ o)) (λ o. (at o.route ≡ j) × (k.part o.route ≡ o)) u.routes (λ o a. (moved_else id other (k.at o.route) (λ e. z.0 (sym a.0 ∙ e)) ∙ a.0, a.1)) q.routes;
+      buses = each_more (λ b. (k.bus_at ≡ j) × (k.bus ≡ b)) (λ b. (bus_at ≡ j) × (k.bus ≡ b)) u.buses (λ b a. (moved_else id other k.bus_at (λ e. z.0 (sym a.0 ∙ e)) ∙ a.0, a.1)) q.buses;
+      once = q.once;
+      seal = λ es y. let x = q.seal es y in (x.0, moved_else id other k.bus_at (λ e. z.0 (sym x.1 ∙ e)) ∙ x.1, λ o small. moved_else id other (k.at o) (λ e. z.0 (sym (x.2 o small) ∙ e)) ∙ x.2 o small);
+    })
+    (at_set t.views id j (both_of v w) u z.1))
+    (at_set (set t.views id (both_of v w)) other j spent u e))
 
 -- the words as they begin
 

@@ -50,7 +50,7 @@ other_mark n q r k e = ⊎_elim (λ (h : n ≡ 3). omega arith) (λ k. ⊎_elim 
 low_bits : (lane n r : ℕ) → n < 32 → lane ≡ n + 32 * r → n ≡ lane % 32
 low_bits lane n r b is = omega arith
 
-not_filling : (st : Status) (asked : Bool) (q r : ℕ) → mark_by st asked + 32 * q ≡ filling r → ⊥
+pub not_filling : (st : Status) (asked : Bool) (q r : ℕ) → mark_by st asked + 32 * q ≡ filling r → ⊥
 not_filling st asked q r is = other_mark (mark_by st asked) q r (is_mark st asked) is
 
 -- a mailbox that holds no request, and one that holds one

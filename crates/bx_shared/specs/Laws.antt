@@ -1,11 +1,12 @@
--- What each step makes of the state of the mailbox core: it is one event of it, which is not refused, or changes nothing.
-use Rattle.std.specs.Prelude.{◌≡◌, ℕ, ◌+◌, ◌*◌, ◌<◌, List, [], ◌∷◌, ◌++◌, Bool, true, false, slice_index, slice_set}
+-- What words and views show of the mailbox core is one state; and what each step makes of it: one event, which is not refused, or nothing.
+use Rattle.std.specs.Prelude.{◌≡◌, ℕ, ◌+◌, ◌*◌, ◌<◌, List, [], ◌∷◌, ◌++◌, Bool, true, false, length, slice_index, slice_set}
 use mathlib.Core.Option.{some}
 use lib.ListN.{get_elem?}
 use Rattle.atomic_table.specs.Table.{State as Table}
 use Rattle.bx_core.specs.declared.entry.Entry.{Entry}
 use Rattle.bx_core.specs.declared.event.Event.TheVariants.{Claim, Request, Withdraw}
 use Rattle.bx_core.specs.States.{State}
+use Rattle.bx_core.specs.Law.{Law}
 use Rattle.bx_core.specs.Steps.{last_number}
 use Rattle.bx_words.specs.Lanes.{lane_of, filling, LaneSet, LaneRequested}
 use Rattle.bx_words.specs.Payloads.{ArePacked}
@@ -13,7 +14,7 @@ use Rattle.bx_shared.specs.declared.said.Said.{Said}
 use Rattle.bx_shared.specs.declared.route_view.RouteView.{RouteView}
 use Rattle.bx_shared.specs.declared.bus_view.BusView.{BusView}
 use Rattle.bx_shared.specs.declared.view.View.{View}
-use Rattle.bx_shared.specs.Shown.{IsKept, IsKeptAs, IsEvent}
+use Rattle.bx_shared.specs.Shown.{Shows, Fits, FitsBus, IsKept, IsKeptAs, IsEvent}
 use Rattle.bx_shared.specs.Steps.{view, looked, missed, claimed, head_stored, bytes_stored, requested, withdrawn, both_of, spent}
 
 abbrev pub control_of : Table Said View → ℕ
@@ -44,3 +45,13 @@ pub record EachStepIsAnEvent : Type 0 where
   pub join : (txfp : Bool) (t : Table Said View) (k : IsKept txfp t) (seat other : ℕ) (v w : View) → get_elem? t.views seat ≡ some v → ¬ (other ≡ seat) →
       get_elem? (slice_set t.views seat (both_of v w)) other ≡ some w →
       IsKeptAs txfp (record { words = t.words; homes = t.homes; views = slice_set (slice_set t.views seat (both_of v w)) other spent }) k.core
+
+-- the views of the nine places, the bus's and each route's, are so of this state
+pub record FitsAll (words : List ℕ) (s : State) (part : ℕ → RouteView) (bus : BusView) : Type 0 where
+  pub route : (r : ℕ) → r < 8 → ((part r).route ≡ r) × Fits words s (part r)
+  pub bus_fits : FitsBus s bus
+
+-- Of the states of a core with eight routes that keep the core law, the seven words and the nine views show one and no other.
+abbrev pub ShowsOneState : Type 0
+ShowsOneState = (words : List ℕ) (part : ℕ → RouteView) (bus : BusView) (s t : State) → Law s → Law t → length s.routes ≡ 8 → length t.routes ≡ 8 →
+    Shows words s → Shows words t → FitsAll words s part bus → FitsAll words t part bus → s ≡ t
