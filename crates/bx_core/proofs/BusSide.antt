@@ -25,16 +25,16 @@ use Rattle.bx_core.proofs.Standing.{stands_by, lists-set, entries_of-push, numbe
 
 -- the law at a request that waits
 
-route_there : (s : State) (w : Waiting) (sp : Split w.mailbox s.queue w) → Law s → w.route < length s.routes
+pub route_there : (s : State) (w : Waiting) (sp : Split w.mailbox s.queue w) → Law s → w.route < length s.routes
 route_there s w sp l = (each_here (IsInPlace (length s.routes)) sp.before sp.behind w (subst (Each (IsInPlace (length s.routes))) sp.whole l.in_place)).route
 
-known_there : (s : State) (w : Waiting) (sp : Split w.mailbox s.queue w) → Law s → Has (lists_of s w.route).requested (entry_of w)
+pub known_there : (s : State) (w : Waiting) (sp : Split w.mailbox s.queue w) → Law s → Has (lists_of s w.route).requested (entry_of w)
 known_there s w sp l =
     let P : Waiting → Type 0 = λ (y : Waiting). Has (lists_of s y.route).requested (entry_of y) in
     each_here P sp.before sp.behind w (subst (Each P) sp.whole l.waiting_known)
 
 -- without the one that is scheduled or transmitting, none is on the bus
-idle_without : (s : State) (w : Waiting) (r : ℕ) (x : RouteLists) → IsAlone s w → sending (without s (at_of s w) r x) ≡ None
+pub idle_without : (s : State) (w : Waiting) (r : ℕ) (x : RouteLists) → IsAlone s w → sending (without s (at_of s w) r x) ≡ None
 idle_without s w r x a =
     let none = busy-append a.split.before a.split.behind in
     let before = a.before in
@@ -60,7 +60,7 @@ leave-route s w x r past sp l a b c h =
     (lists-set s w.route x r (route_there s w sp l))
 
 -- requested is the same after a request left
-same_requested : (s : State) (w : Waiting) (x : RouteLists) → w.route < length s.routes → (lists_of s w.route).requested ≡ x.requested →
+pub same_requested : (s : State) (w : Waiting) (x : RouteLists) → w.route < length s.routes → (lists_of s w.route).requested ≡ x.requested →
     (r : ℕ) (e : Entry) → Has (lists_of s r).requested e → Has (lists_of (without s (at_of s w) w.route x) r).requested e
 same_requested s w x h is = set-each (λ (k : ℕ) (l : RouteLists). (e : Entry) → Has (lists_of s k).requested e → Has l.requested e) s.routes w.route x no_lists h
     (λ e k. subst (λ (es : List Entry). Has es e) is k) (λ k ne e y. y)
@@ -81,7 +81,7 @@ reaped_push : (s : State) (w : Waiting) (past : BusPast) (r : ℕ) → numbers_o
 reaped_push s w past r h is =
     numbers_of-push r past.reaped (w.route, w.number) ∙ ap (λ (b : Bool). numbers_of r past.reaped ++ cond b (w.number ∷ []) []) is ∙ ap (λ (ns : List ℕ). ns ++ w.number ∷ []) h
 
-done-bus : (s : State) (w : Waiting) (past : BusPast) → Split w.mailbox s.queue w → Law s → BusStands s past →
+pub done-bus : (s : State) (w : Waiting) (past : BusPast) → Split w.mailbox s.queue w → Law s → BusStands s past →
     BusStands (without s (at_of s w) w.route (done_lists (lists_of s w.route) w)) (after_complete past (Some (item_of w)))
 done-bus s w past sp l b =
     let h = route_there s w sp l in
@@ -94,7 +94,7 @@ done-bus s w past sp l b =
       reaped_is = set-each (λ (r : ℕ) (y : RouteLists). numbers_of r past.reaped ≡ y.reaped) s.routes w.route x no_lists h (b.reaped_is w.route) (λ r ne. b.reaped_is r);
     }
 
-reaped-bus : (s : State) (w : Waiting) (past : BusPast) → Split w.mailbox s.queue w → Law s → BusStands s past →
+pub reaped-bus : (s : State) (w : Waiting) (past : BusPast) → Split w.mailbox s.queue w → Law s → BusStands s past →
     BusStands (without s (at_of s w) w.route (reaped_lists (lists_of s w.route) w)) (after_fail past (Some (w.route, w.number)))
 reaped-bus s w past sp l b =
     let h = route_there s w sp l in

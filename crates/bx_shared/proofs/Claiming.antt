@@ -14,6 +14,7 @@ use Rattle.bx_core.proofs.Empties.{goes-claim}
 use Rattle.bx_core.proofs.Leads.{leads-claim, leads-withdraw}
 use Rattle.bx_core.proofs.Reaches.{law_of, leads-reached}
 use Rattle.bx_words.specs.Lanes.{lane_of, filling, LaneSet}
+use Rattle.bx_words.specs.Payloads.{IsHead}
 use Rattle.bx_shared.specs.declared.said.Said.TheVariants.{Mailbox}
 use Rattle.bx_shared.specs.declared.route_view.RouteView.{RouteView}
 use Rattle.bx_shared.specs.Shown.{Fills, Fits, IsKept, IsKeptAs, IsEvent}
@@ -81,14 +82,15 @@ claims-keep txfp slots id m old new p small there idle empty ls t k long me fits
 
 -- a store of a payload word of the mailbox that the seat fills
 fills : (txfp : Bool) (t : St) (k : IsKept txfp t) (id i x : ℕ) (p q : RouteView) → get_elem? t.views id ≡ some (alone p) → p.claims ≡ true → q.route ≡ p.route →
-    (i ≡ 1 + 2 * p.mailbox) ⊎ (i ≡ 2 + 2 * p.mailbox) → (Fits t.words k.core p → Fills t.words k.core p → Fits (set t.words i x) k.core q) → IsKeptAs txfp (stepped t i x id [] (alone q) keeps) k.core
-fills txfp t k id i x p q me claims same which mine =
+    ((i ≡ 1 + 2 * p.mailbox) × IsHead x) ⊎ (i ≡ 2 + 2 * p.mailbox) → (Fits t.words k.core p → Fills t.words k.core p → Fits (set t.words i x) k.core q) → IsKeptAs txfp (stepped t i x id [] (alone q) keeps) k.core
+fills txfp t k id i x p q me claims same new mine =
+    let which : (i ≡ 1 + 2 * p.mailbox) ⊎ (i ≡ 2 + 2 * p.mailbox) = ⊎_elim (λ (h : (i ≡ 1 + 2 * p.mailbox) × IsHead x). inl h.0) (λ (h : i ≡ 2 + 2 * p.mailbox). inr h) new in
     let s = k.core in
     let ws = t.words in
     let law = law_of s k.reached in
     let f = knows txfp t k id p me in
     let g = f.claim claims in
-    moves txfp t k id p q (set ws i x) s me same k.reached k.priority k.eight (shows_fill ws s p.mailbox i x which k.shows (unrequested s p.mailbox p.route law g.own)) (mine f g)
+    moves txfp t k id p q (set ws i x) s me same k.reached k.priority k.eight (shows_fill ws s p.mailbox i x new k.shows (unrequested s p.mailbox p.route law g.own)) (mine f g)
     (λ o other h. fits_else ws (set ws i x) s s o refl
     (λ j is. let n : ¬ (j ≡ p.mailbox) = λ e. apart_owners p.route o.route (claim_of s j) (λ z. other (sym z)) (ap (claim_of s) e ∙ g.own) is in (
       is,
@@ -98,10 +100,10 @@ fills txfp t k id i x p q me claims same which mine =
     (λ j is. is) (λ z. z) h)
     (λ b. b) (inl refl)
 
-pub stores_head : (txfp : Bool) (t : St) (k : IsKept txfp t) (id i x : ℕ) (p : RouteView) → get_elem? t.views id ≡ some (alone p) → i ≡ 1 + 2 * p.mailbox → p.claims ≡ true →
+pub stores_head : (txfp : Bool) (t : St) (k : IsKept txfp t) (id i x : ℕ) (p : RouteView) → get_elem? t.views id ≡ some (alone p) → i ≡ 1 + 2 * p.mailbox → p.claims ≡ true → IsHead x →
     IsKeptAs txfp (stepped t i x id [] (alone (head_stored p x)) keeps) k.core
-stores_head txfp t k id i x p me at claims =
-    fills txfp t k id i x p (head_stored p x) me claims refl (inl at) (λ f g. let small = claim_small k.core p.mailbox p.route (law_of k.core k.reached) g.own in record {
+stores_head txfp t k id i x p me at claims head =
+    fills txfp t k id i x p (head_stored p x) me claims refl (inl (at, head)) (λ f g. let small = claim_small k.core p.mailbox p.route (law_of k.core k.reached) g.own in record {
       requested = f.requested;
       aborted = f.aborted;
       reaped = f.reaped;
@@ -112,9 +114,9 @@ stores_head txfp t k id i x p me at claims =
       ended = f.ended;
     })
 
-pub stores_head-keep : (txfp : Bool) (slots id x i : ℕ) (p : RouteView) → i ≡ 1 + 2 * p.mailbox → p.claims ≡ true →
+pub stores_head-keep : (txfp : Bool) (slots id x i : ℕ) (p : RouteView) → i ≡ 1 + 2 * p.mailbox → p.claims ≡ true → IsHead x →
     Allows (IsKept txfp) slots id (seat_of p) i (λ _. x) (λ _. StoresHead (step slots i x 0 none) (seat_of p) x)
-stores_head-keep txfp slots id x i p at claims t k long me fits = (alone (head_stored p x), keeps, tt, (stores_head txfp t k id i x p me at claims).kept, refl)
+stores_head-keep txfp slots id x i p at claims head t k long me fits = (alone (head_stored p x), keeps, tt, (stores_head txfp t k id i x p me at claims head).kept, refl)
 
 pub stores_bytes : (txfp : Bool) (t : St) (k : IsKept txfp t) (id i x : ℕ) (p : RouteView) → get_elem? t.views id ≡ some (alone p) → i ≡ 2 + 2 * p.mailbox → p.claims ≡ true → p.stored ≡ 1 →
     IsKeptAs txfp (stepped t i x id [] (alone (bytes_stored p x)) keeps) k.core

@@ -16,40 +16,12 @@ use Rattle.bx_shared.specs.declared.bus_view.BusView.{BusView}
 use Rattle.bx_shared.specs.Marks.{mark_by, lane_by, claim_lane, waiting_lane, rest_by, count_requests}
 use Rattle.bx_shared.specs.Shown.{AreOrdered, IsPaid, Shows}
 use Rattle.bx_shared.specs.Laws.{FitsAll, ShowsOneState}
-use Rattle.bx_shared.proofs.Reading.{reads, within, not_filling, at_mailbox-none, IsEmptyLane, IsFillingLane, IsRequestLane}
-use Rattle.bx_shared.proofs.Orders.{AreApart, apart_rest}
+use Rattle.bx_shared.proofs.Reading.{reads, within, not_filling, at_mailbox-none, at_has, same_request, status_in, status_back, asked_back, IsEmptyLane, IsFillingLane, IsRequestLane}
+use Rattle.bx_shared.proofs.Orders.{older_once, AreApart, apart_rest}
 use Rattle.bx_shared.proofs.Showing.{small_mailboxes, apart_queue}
-use Rattle.bx_shared.proofs.Looking.{same_request}
-
--- a mark tells its status, and whether an abort was asked
-abbrev pub status_in : ℕ → Status
-status_in n = cond (n == 3) Pending (cond (nat_lt n 8) Scheduled (cond (n == 23) Scheduled Transmitting))
-
-status_back : (st : Status) (asked : Bool) → status_in (mark_by st asked) ≡ st
-status_back Pending asked = refl
-status_back Scheduled true = refl
-status_back Scheduled false = refl
-status_back Transmitting true = refl
-status_back Transmitting false = refl
-
-asked_back : (st : Status) (asked : Bool) → (asked ≡ true → is_pending st ≡ false) → nat_lt 15 (mark_by st asked) ≡ asked
-asked_back Pending true busy = sym (busy refl)
-asked_back Pending false busy = refl
-asked_back Scheduled true busy = refl
-asked_back Scheduled false busy = refl
-asked_back Transmitting true busy = refl
-asked_back Transmitting false busy = refl
 
 same_waiting : (x y : Waiting) → x.route ≡ y.route → x.number ≡ y.number → x.frame ≡ y.frame → x.mailbox ≡ y.mailbox → x.status ≡ y.status → x.abort_asked ≡ y.abort_asked → x ≡ y
 same_waiting x y a b c d e f = λ k. record { route = a k; number = b k; frame = c k; mailbox = d k; status = e k; abort_asked = f k }
-
--- what waits in a mailbox is there
-at_has : (m : ℕ) (q : List Waiting) (w : Waiting) → at_mailbox m q ≡ Some w → Has q w × (w.mailbox ≡ m)
-at_has m [] w e = cc
-at_has m (x ∷ xs) w e = elim (is_at m x) as (λ b. is_at m x ≡ b → cond b (Some x) (at_mailbox m xs) ≡ Some w → Has (x ∷ xs) w × (w.mailbox ≡ m)) [
-  | true ↦ λ here e. let is = same_request x w e in (inl is, ap (λ (y : Waiting). y.mailbox) (sym is) ∙ eqb-true x.mailbox m here)
-  | false ↦ λ _ e. let t = at_has m xs w e in (inr t.0, t.1)
-] refl e
 
 -- what a mailbox of both cores is
 record IsSameAt (s t : State) (m : ℕ) : Type 0 where
@@ -96,14 +68,6 @@ same_at ws s t m small law laws sh shown =
       claim = a.claim ∙ sym b.claim;
       request = a.one.at ∙ ap Some (one_request ws s t m a.one.request b.one.request law laws sh shown a.one.at b.one.at (sym a.lane ∙ lane ∙ b.lane)) ∙ sym b.one.at;
     }) k) (reads t m laws)) k) (reads s m law)
-
--- of two requests not each is older than the other
-older_once : (word i j : ℕ) → ¬ (i ≡ j) → IsOlder word i j → IsOlder word j i → ⊥
-older_once word i j n a b =
-    let e : older_bit i j ≡ older_bit j i = sym a ∙ ap (λ x. field word x 1) (let e : 23 + i + j ≡ 23 + j + i = omega arith in e) ∙ b in
-    let bit : (k l : ℕ) → k < l → (older_bit k l ≡ 0) × (older_bit l k ≡ 1) = λ k l h. (ap (λ c. cond c 0 1) (lt-ltb k l h), ap (λ c. cond c 0 1) (le-ltb l k (omega arith))) in
-    dite (dec_le (suc i) j) (λ l. let t = bit i j l in let x = t.0 in let y = t.1 in omega arith)
-    (λ l. dite (dec_le (suc j) i) (λ l. let t = bit j i l in let x = t.0 in let y = t.1 in omega arith) (λ m. n (omega arith)))
 
 -- a mailbox behind the first of a queue
 at_behind : (m : ℕ) (w : Waiting) (ws : List Waiting) → ¬ (w.mailbox ≡ m) → at_mailbox m (w ∷ ws) ≡ at_mailbox m ws

@@ -11,3 +11,8 @@ pub mod Places
 pub mod Losing
 pub mod Parting
 pub mod Determined
+pub mod Marking
+pub mod Finding
+pub mod BusMoves
+pub mod Transmitting
+pub mod Scheduling

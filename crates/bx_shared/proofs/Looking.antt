@@ -18,11 +18,8 @@ use Rattle.bx_shared.specs.Marks.{mark_by, lane_by}
 use Rattle.bx_shared.specs.Ended.{is_in, stays_in, ended_of, up_to}
 use Rattle.bx_shared.specs.Shown.{Shows, IsKnown, IsKept, IsKeptAs}
 use Rattle.bx_shared.specs.Steps.{seat_of, looked, Looks}
-use Rattle.bx_shared.proofs.Reading.{reads, within, IsEmptyLane, IsFillingLane, IsRequestLane}
+use Rattle.bx_shared.proofs.Reading.{same_request, reads, within, IsEmptyLane, IsFillingLane, IsRequestLane}
 use Rattle.bx_shared.proofs.Moves.{St, alone, stays, own_word}
-
-pub same_request : (x w : Waiting) → Some x ≡ Some w → x ≡ w
-same_request x w e = cc
 
 none_not_some : (w : Waiting) → None ≡ Some w → ⊥
 none_not_some w e = cc
@@ -95,7 +92,7 @@ up_to_most : (n k : ℕ) → n ≤ k → Each (λ x. x ≤ k) (up_to n)
 up_to_most zero k h = tt
 up_to_most (suc n) k h = (h, up_to_most n k (omega arith))
 
-each_all : (P : Waiting → Type 0) (all q : List Waiting) → ((w : Waiting) → Has all w → P w) → ((w : Waiting) → Has q w → Has all w) → Each P q
+pub each_all : (P : Waiting → Type 0) (all q : List Waiting) → ((w : Waiting) → Has all w → P w) → ((w : Waiting) → Has q w → Has all w) → Each P q
 each_all P all [] f g = tt
 each_all P all (x ∷ xs) f g = (f x (g x (inl refl)), each_all P all xs f (λ w h. g w (inr h)))
 

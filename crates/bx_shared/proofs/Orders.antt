@@ -1,5 +1,5 @@
 -- The order bits tell the order of requests, and keep telling it where they stay.
-use Rattle.std.proofs.Common.{◌≡◌, ℕ, suc, ◌+◌, ◌<◌, ◌≤◌, cond, List, [], ◌∷◌, ◌++◌, refl, ap, ◌∙◌, arith, eq-eqb, true, false}
+use Rattle.std.proofs.Common.{◌≡◌, ℕ, suc, ◌+◌, ◌<◌, ◌≤◌, cond, List, [], ◌∷◌, ◌++◌, refl, ap, ◌∙◌, arith, eq-eqb, lt-ltb, le-ltb, sym, true, false}
 use mathlib.Core.Logic.{dite}
 use native.Mathlib.Decide.{dec_le}
 use Rattle.bx_core.specs.declared.waiting.Waiting.{Waiting}
@@ -7,7 +7,7 @@ use Rattle.bx_core.specs.Lists.{Each}
 use Rattle.bx_core.specs.States.{is_at}
 use Rattle.bx_core.specs.Law.{count_at}
 use Rattle.bx_core.proofs.Words.{each-append}
-use Rattle.bx_words.specs.Lanes.{field, order_bit, IsOlder}
+use Rattle.bx_words.specs.Lanes.{field, order_bit, older_bit, IsOlder}
 use Rattle.bx_shared.specs.Shown.{AreOrdered}
 
 -- where no request is in a mailbox, each is in another
@@ -48,3 +48,11 @@ module _ (word next : ℕ) (Q : ℕ → Type 0) (same : (i j : ℕ) → i < j �
 pub ordered-push : (word : ℕ) (q : List Waiting) (w : Waiting) → Each (λ x. IsOlder word x.mailbox w.mailbox) q → AreOrdered word q → AreOrdered word (q ++ w ∷ [])
 ordered-push word [] w a h = (tt, tt)
 ordered-push word (x ∷ xs) w a h = (each-append (λ y. IsOlder word x.mailbox y.mailbox) xs (w ∷ []) h.0 (a.0, tt), ordered-push word xs w a.1 h.1)
+
+-- of two requests not each is older than the other
+pub older_once : (word i j : ℕ) → ¬ (i ≡ j) → IsOlder word i j → IsOlder word j i → ⊥
+older_once word i j n a b =
+    let e : older_bit i j ≡ older_bit j i = sym a ∙ ap (λ x. field word x 1) (let e : 23 + i + j ≡ 23 + j + i = omega arith in e) ∙ b in
+    let bit : (k l : ℕ) → k < l → (older_bit k l ≡ 0) × (older_bit l k ≡ 1) = λ k l h. (ap (λ c. cond c 0 1) (lt-ltb k l h), ap (λ c. cond c 0 1) (le-ltb l k (omega arith))) in
+    dite (dec_le (suc i) j) (λ l. let t = bit i j l in let x = t.0 in let y = t.1 in omega arith)
+    (λ l. dite (dec_le (suc j) i) (λ l. let t = bit j i l in let x = t.0 in let y = t.1 in omega arith) (λ m. n (omega arith)))

@@ -1,15 +1,17 @@
 -- How places are dealt out to seats and put together keeps the rule, which holds of the words as they begin.
-use Rattle.std.proofs.Common.{◌≡◌, ◌≢◌, ℕ, zero, suc, ◌+◌, ◌^◌, ◌<◌, ◌⊎◌, inl, inr, ⊎_elim, ◌==◌, cond, List, [], ◌∷◌, ◌++◌, map, length, set, refl, sym, ap, ◌∙◌, subst, arith, eq-eqb, ne_eqb, Some, None, Bool, true, false, true≢false}
+use Rattle.std.proofs.Common.{◌≡◌, ◌≢◌, ℕ, zero, suc, ◌+◌, ◌*◌, ◌^◌, ◌<◌, ◌⊎◌, inl, inr, ⊎_elim, ◌==◌, cond, List, [], ◌∷◌, ◌++◌, map, length, get_or, set, refl, sym, ap, ◌∙◌, subst, arith, eq-eqb, ne_eqb, Some, None, Bool, true, false, true≢false}
 use mathlib.Core.Option.{some, some-injective, some-ne-none}
 use lib.ListN.{get_elem?}
 use Rattle.atomic_table.specs.Table.{Splits, opening as table_start}
 use Rattle.atomic_table.proofs.Lists.{at_set}
+use Rattle.can_frame.specs.Frames.{standard, data_bytes}
 use Rattle.bx_core.specs.Lists.{Each}
 use Rattle.bx_core.specs.States.{RouteLists, no_lists, lists_of, claim_of, opening_by}
 use Rattle.bx_core.specs.Law.{opened}
 use Rattle.bx_core.proofs.Words.{each-append, each_more}
 use Rattle.bx_core.proofs.Reaches.{default-replicate}
 use Rattle.bx_words.specs.Lanes.{lane_of}
+use Rattle.bx_words.specs.Payloads.{IsHead}
 use Rattle.bx_words.proofs.Cases.{of_mailboxes}
 use Rattle.bx_shared.specs.declared.said.Said.{Said}
 use Rattle.bx_shared.specs.declared.route_view.RouteView.{RouteView}
@@ -155,9 +157,18 @@ no_claims txfp m = default-replicate None 3 m
 no_list : (txfp : Bool) (r : ℕ) → lists_of (opening_by txfp 8) r ≡ no_lists
 no_list txfp r = default-replicate no_lists 8 r
 
+first_head : IsHead 0
+first_head = (
+  record { id = standard 0; content = data_bytes [] },
+  (0, record { lawful = record { identifier = omega arith; content = omega arith; bytes = tt }; small = omega arith; is = refl }),
+)
+
+first_heads : (txfp : Bool) (m : ℕ) → m < 3 → IsHead (get_or (first_words txfp) (1 + 2 * m) 0)
+first_heads txfp = of_mailboxes (λ m. IsHead (get_or (first_words txfp) (1 + 2 * m) 0)) first_head first_head first_head
+
 first_shows : (txfp : Bool) → Shows (first_words txfp) (opening_by txfp 8)
-first_shows true = record { seven = refl; lanes = of_mailboxes (λ m. lane_of 0 m ≡ claim_lane (claim_of (opening_by true 8) m) + 0) refl refl refl; order = tt; rest = refl; payload = tt }
-first_shows false = record { seven = refl; lanes = of_mailboxes (λ m. lane_of (2 ^ 27) m ≡ claim_lane (claim_of (opening_by false 8) m) + 0) refl refl refl; order = tt; rest = refl; payload = tt }
+first_shows true = record { seven = refl; lanes = of_mailboxes (λ m. lane_of 0 m ≡ claim_lane (claim_of (opening_by true 8) m) + 0) refl refl refl; order = tt; rest = refl; payload = tt; heads = first_heads true }
+first_shows false = record { seven = refl; lanes = of_mailboxes (λ m. lane_of (2 ^ 27) m ≡ claim_lane (claim_of (opening_by false 8) m) + 0) refl refl refl; order = tt; rest = refl; payload = tt; heads = first_heads false }
 
 first_fits : (txfp : Bool) (r : ℕ) → Fits (first_words txfp) (opening_by txfp 8) (opening r)
 first_fits txfp r = let none = no_list txfp r in record {

@@ -1,9 +1,10 @@
 -- How a lane of the control word is read back: what it says of its mailbox's claim and request.
-use Rattle.std.proofs.Common.{◌≡◌, ℕ, suc, ◌+◌, ◌*◌, ◌%◌, ◌<◌, ◌≤◌, ◌⊎◌, inl, inr, ⊎_elim, cond, List, [], ◌∷◌, ◌++◌, refl, sym, ap, ◌∙◌, subst, arith, Bool, true, false, Some, None}
+use Rattle.std.proofs.Common.{◌≡◌, ℕ, suc, ◌+◌, ◌*◌, ◌%◌, ◌<◌, ◌≤◌, ◌⊎◌, inl, inr, ⊎_elim, cond, List, [], ◌∷◌, ◌++◌, refl, sym, ap, ◌∙◌, subst, arith, nat_lt, ◌==◌, eqb-true, Bool, true, false, Some, None}
 use Rattle.bx_core.specs.declared.status.Status.{Status}
 use Rattle.bx_core.specs.declared.status.Status.TheVariants.{Pending, Scheduled, Transmitting}
 use Rattle.bx_core.specs.declared.waiting.Waiting.{Waiting}
-use Rattle.bx_core.specs.States.{State, claim_of, is_at, at_mailbox}
+use Rattle.bx_core.specs.States.{State, claim_of, is_at, at_mailbox, is_pending}
+use Rattle.bx_core.specs.Lists.{Has}
 use Rattle.bx_core.specs.Law.{Law, count_at, count_of_claim}
 use Rattle.bx_core.proofs.Words.{some_or_none}
 use Rattle.bx_words.specs.Lanes.{filling}
@@ -126,3 +127,33 @@ has_mark s m lane law is low = ⊎_elim (λ (e : IsEmptyLane s m). let l = e.lan
     (λ (f : IsFillingLane s m). let l = f.lane in absurd (omega arith))
     (λ (q : IsRequestLane s m). let w = q.one.request in let b = within w in
     subst IsMark (low_bits lane (mark_by w.status w.abort_asked) w.route b.1 (is ∙ q.lane)) (is_mark w.status w.abort_asked)) k) (reads s m law)
+
+-- a mark tells its status, and whether an abort was asked
+abbrev pub status_in : ℕ → Status
+status_in n = cond (n == 3) Pending (cond (nat_lt n 8) Scheduled (cond (n == 23) Scheduled Transmitting))
+
+pub status_back : (st : Status) (asked : Bool) → status_in (mark_by st asked) ≡ st
+status_back Pending asked = refl
+status_back Scheduled true = refl
+status_back Scheduled false = refl
+status_back Transmitting true = refl
+status_back Transmitting false = refl
+
+pub asked_back : (st : Status) (asked : Bool) → (asked ≡ true → is_pending st ≡ false) → nat_lt 15 (mark_by st asked) ≡ asked
+asked_back Pending true busy = sym (busy refl)
+asked_back Pending false busy = refl
+asked_back Scheduled true busy = refl
+asked_back Scheduled false busy = refl
+asked_back Transmitting true busy = refl
+asked_back Transmitting false busy = refl
+
+pub same_request : (x w : Waiting) → Some x ≡ Some w → x ≡ w
+same_request x w e = cc
+
+-- what waits in a mailbox is there
+pub at_has : (m : ℕ) (q : List Waiting) (w : Waiting) → at_mailbox m q ≡ Some w → Has q w × (w.mailbox ≡ m)
+at_has m [] w e = cc
+at_has m (x ∷ xs) w e = elim (is_at m x) as (λ b. is_at m x ≡ b → cond b (Some x) (at_mailbox m xs) ≡ Some w → Has (x ∷ xs) w × (w.mailbox ≡ m)) [
+  | true ↦ λ here e. let is = same_request x w e in (inl is, ap (λ (y : Waiting). y.mailbox) (sym is) ∙ eqb-true x.mailbox m here)
+  | false ↦ λ _ e. let t = at_has m xs w e in (inr t.0, t.1)
+] refl e

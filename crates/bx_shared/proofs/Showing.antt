@@ -1,5 +1,5 @@
 -- The words show the core after each step of a route, where they showed it before.
-use Rattle.std.proofs.Common.{◌≡◌, ℕ, ◌+◌, ◌*◌, ◌<◌, ◌⊎◌, ⊎_elim, cond, List, [], ◌∷◌, ◌++◌, length, get_or, set, refl, sym, ap, ◌∙◌, subst, arith, eq-eqb, ne_eqb, length-set, Option, Some, None}
+use Rattle.std.proofs.Common.{◌≡◌, ℕ, ◌+◌, ◌*◌, ◌<◌, ◌⊎◌, inl, inr, ⊎_elim, cond, List, [], ◌∷◌, ◌++◌, length, get_or, set, refl, sym, ap, ◌∙◌, subst, arith, eq-eqb, ne_eqb, length-set, Option, Some, None}
 use Rattle.std.proofs.lemmas.List.{get_or-set_same, get_or-set_other}
 use mathlib.Core.Logic.{dite}
 use native.Mathlib.Decide.{ℕ_discrete}
@@ -11,7 +11,7 @@ use Rattle.bx_core.specs.Steps.{with_claim, with_request, new_waiting, requested
 use Rattle.bx_core.specs.Law.{Law, IsInPlace, count_at, count_of_claim}
 use Rattle.bx_core.proofs.Words.{each-append, each_more}
 use Rattle.bx_words.specs.Lanes.{lane_of, rest_of, filling, one_more, LaneSet, LaneRequested, IsOlder}
-use Rattle.bx_words.specs.Payloads.{ArePacked}
+use Rattle.bx_words.specs.Payloads.{IsHead, ArePacked}
 use Rattle.bx_shared.specs.Marks.{claim_lane, waiting_lane, lane_by, count_requests, rest_by}
 use Rattle.bx_shared.specs.Shown.{AreOrdered, IsPaid, Shows}
 use Rattle.bx_shared.proofs.Reading.{waiting_lane-push, waiting_lane-none}
@@ -31,6 +31,9 @@ each_both P Q R (x ∷ xs) f a b = (f x a.0 b.0, each_both P Q R xs f a.1 b.1)
 pub aside : (words : List ℕ) (new m : ℕ) → (get_or (set words 0 new) (1 + 2 * m) 0 ≡ get_or words (1 + 2 * m) 0) × (get_or (set words 0 new) (2 + 2 * m) 0 ≡ get_or words (2 + 2 * m) 0)
 aside words new m = (get_or-set_other words 0 (1 + 2 * m) new 0 (λ e. omega arith), get_or-set_other words 0 (2 + 2 * m) new 0 (λ e. omega arith))
 
+abbrev pub AreAllHeads : List ℕ → Type 0
+AreAllHeads ws = (m : ℕ) → m < 3 → IsHead (get_or ws (1 + 2 * m) 0)
+
 -- a request's payload stays where its words do
 pub paid_on : (ws next : List ℕ) (w : Waiting) → get_or next (1 + 2 * w.mailbox) 0 ≡ get_or ws (1 + 2 * w.mailbox) 0 → get_or next (2 + 2 * w.mailbox) 0 ≡ get_or ws (2 + 2 * w.mailbox) 0 →
     IsPaid ws w → IsPaid next w
@@ -41,6 +44,10 @@ small_mailboxes s law = each_more (IsInPlace (length s.routes)) (λ x. x.mailbox
 
 pub apart_queue : (s : State) → Law s → AreApart s.queue
 apart_queue s law m = let h = law.apart m in omega arith
+
+-- every head stays
+pub heads_aside : (ws : List ℕ) (new : ℕ) → AreAllHeads ws → AreAllHeads (set ws 0 new)
+heads_aside ws new h m small = subst IsHead (sym (aside ws new m).0) (h m small)
 
 -- the lane of mailbox m changes, and its claim with it
 pub shows_claim : (ws : List ℕ) (s : State) (m x new : ℕ) (owner : Option ℕ) → m < 3 → Shows ws s → Law s → claim_lane owner + waiting_lane s.queue m ≡ x → LaneSet (get_or ws 0 0) m x new →
@@ -58,11 +65,13 @@ shows_claim ws s m x new owner small sh law is ls =
           (each_more (λ y. y.mailbox < 3) (λ _. Unit {0}) s.queue (λ _ _. tt) (small_mailboxes s law)) sh.order);
       rest = ap rest_of w' ∙ ls.rest ∙ sh.rest;
       payload = each_more (IsPaid ws) (IsPaid (set ws 0 new)) s.queue (λ w h. let t = aside ws new w.mailbox in paid_on ws (set ws 0 new) w t.0 t.1 h) sh.payload;
+      heads = heads_aside ws new sh.heads;
     }
 
 -- a payload word of a mailbox that holds no request
-pub shows_fill : (ws : List ℕ) (s : State) (m i x : ℕ) → (i ≡ 1 + 2 * m) ⊎ (i ≡ 2 + 2 * m) → Shows ws s → count_at m s.queue ≡ 0 → Shows (set ws i x) s
-shows_fill ws s m i x which sh none =
+pub shows_fill : (ws : List ℕ) (s : State) (m i x : ℕ) → ((i ≡ 1 + 2 * m) × IsHead x) ⊎ (i ≡ 2 + 2 * m) → Shows ws s → count_at m s.queue ≡ 0 → Shows (set ws i x) s
+shows_fill ws s m i x new sh none =
+    let which : (i ≡ 1 + 2 * m) ⊎ (i ≡ 2 + 2 * m) = ⊎_elim (λ (h : (i ≡ 1 + 2 * m) × IsHead x). inl h.0) (λ (h : i ≡ 2 + 2 * m). inr h) new in
     let far : (j : ℕ) → ¬ (j ≡ m) → (¬ (1 + 2 * j ≡ i)) × (¬ (2 + 2 * j ≡ i)) =
     λ j n. ⊎_elim (λ (h : i ≡ 1 + 2 * m). ((λ e. n (omega arith)), λ e. absurd (omega arith))) (λ (h : i ≡ 2 + 2 * m). ((λ e. absurd (omega arith)), λ e. n (omega arith))) which in
     let w' : get_or (set ws i x) 0 0 ≡ get_or ws 0 0 = get_or-set_other ws i 0 x 0 (λ e. ⊎_elim (λ (h : i ≡ 1 + 2 * m). omega arith) (λ (h : i ≡ 2 + 2 * m). omega arith) which) in
@@ -73,6 +82,9 @@ shows_fill ws s m i x which sh none =
       rest = ap rest_of w' ∙ sh.rest;
       payload = each_both (IsPaid ws) (λ w. ¬ (w.mailbox ≡ m)) (IsPaid (set ws i x)) s.queue
           (λ w h n. let t = far w.mailbox n in paid_on ws (set ws i x) w (get_or-set_other ws i (1 + 2 * w.mailbox) x 0 t.0) (get_or-set_other ws i (2 + 2 * w.mailbox) x 0 t.1) h) sh.payload (none_there s.queue m none);
+      heads = λ j small. dite (ℕ_discrete (1 + 2 * j) i)
+          (λ e. ⊎_elim (λ (h : (i ≡ 1 + 2 * m) × IsHead x). subst IsHead (sym (ap (λ k. get_or (set ws i x) k 0) e ∙ get_or-set_same ws i x 0 (let l = sh.seven in omega arith))) h.1) (λ (h : i ≡ 2 + 2 * m). absurd (omega arith)) new)
+          (λ n. subst IsHead (sym (get_or-set_other ws i (1 + 2 * j) x 0 n)) (sh.heads j small));
     }
 
 -- what filled mailbox m is requested
@@ -99,4 +111,5 @@ shows_request ws s r m n new f small there own packed sh law ls =
           (requested_lists (lists_of s r) (record { number = n; frame = f })) there (length-snoc (lists_of s r).requested (record { number = n; frame = f }))));
       payload = each-append (IsPaid (set ws 0 new)) s.queue (w ∷ []) (each_more (IsPaid ws) (IsPaid (set ws 0 new)) s.queue (λ w h. let t = aside ws new w.mailbox in paid_on ws (set ws 0 new) w t.0 t.1 h) sh.payload)
           ((let t = aside ws new m in paid_on ws (set ws 0 new) w t.0 t.1 packed), tt);
+      heads = heads_aside ws new sh.heads;
     }

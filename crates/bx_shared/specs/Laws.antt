@@ -9,7 +9,7 @@ use Rattle.bx_core.specs.States.{State}
 use Rattle.bx_core.specs.Law.{Law}
 use Rattle.bx_core.specs.Steps.{last_number}
 use Rattle.bx_words.specs.Lanes.{lane_of, filling, LaneSet, LaneRequested}
-use Rattle.bx_words.specs.Payloads.{ArePacked}
+use Rattle.bx_words.specs.Payloads.{IsHead, ArePacked}
 use Rattle.bx_shared.specs.declared.said.Said.{Said}
 use Rattle.bx_shared.specs.declared.route_view.RouteView.{RouteView}
 use Rattle.bx_shared.specs.declared.bus_view.BusView.{BusView}
@@ -31,7 +31,7 @@ pub record RouteSteps (txfp : Bool) (t : Table Said View) (core : State) (seat :
   pub miss : IsKeptAs txfp (stepped_to t 0 (control_of t) seat (missed p (control_of t))) core
   pub claim : (mailbox new : ℕ) → mailbox < 3 → p.route < 8 → p.claims ≡ false → lane_of (control_of t) mailbox ≡ 0 → LaneSet (control_of t) mailbox (filling p.route) new →
       IsEvent txfp core (Claim p.route mailbox) (stepped_to t 0 new seat (claimed p mailbox))
-  pub fill_head : (word : ℕ) → p.claims ≡ true → IsKeptAs txfp (stepped_to t (1 + 2 * p.mailbox) word seat (head_stored p word)) core
+  pub fill_head : (word : ℕ) → p.claims ≡ true → IsHead word → IsKeptAs txfp (stepped_to t (1 + 2 * p.mailbox) word seat (head_stored p word)) core
   pub fill_bytes : (word : ℕ) → p.claims ≡ true → p.stored ≡ 1 → IsKeptAs txfp (stepped_to t (2 + 2 * p.mailbox) word seat (bytes_stored p word)) core
   pub request : (new : ℕ) (e : Entry) → p.claims ≡ true → p.stored ≡ 2 → ArePacked e.frame e.number p.head p.bytes → last_number p.requested < e.number →
       LaneRequested (control_of t) p.mailbox (filling p.route + 2) new → IsEvent txfp core (Request p.route p.mailbox e.number e.frame) (stepped_to t 0 new seat (requested p e))

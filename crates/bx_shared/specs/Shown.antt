@@ -6,7 +6,7 @@ use mathlib.Core.Option.{some}
 use lib.ListN.{get_elem?}
 use Rattle.atomic_table.specs.Table.{State as Table}
 use Rattle.bx_words.specs.Lanes.{lane_of, rest_of, IsOlder}
-use Rattle.bx_words.specs.Payloads.{IsHeadOf, ArePacked}
+use Rattle.bx_words.specs.Payloads.{IsHead, IsHeadOf, ArePacked}
 use Rattle.bx_core.specs.declared.waiting.Waiting.{Waiting}
 use Rattle.bx_core.specs.Lists.{Each, Has}
 use Rattle.bx_core.specs.States.{State, claim_of, lists_of, on_bus, in_turn}
@@ -32,13 +32,14 @@ abbrev pub IsPaid : List ℕ → Waiting → Type 0
 IsPaid words w = ArePacked w.frame w.number (slice_index words (1 + 2 * w.mailbox)) (slice_index words (2 + 2 * w.mailbox))
 
 -- the words show the mailboxes of the core: claims and requests by their lanes, the order of requests by the order bits, whether
--- requests are counted and how many by the bits above, and frames and numbers by the payload words
+-- requests are counted and how many by the bits above, and frames and numbers by the payload words; each head is that of some frame
 pub record Shows (words : List ℕ) (s : State) : Type 0 where
   pub seven : length words ≡ 7
   pub lanes : (mailbox : ℕ) → mailbox < 3 → lane_of (slice_index words 0) mailbox ≡ claim_lane (claim_of s mailbox) + waiting_lane s.queue mailbox
   pub order : AreOrdered (slice_index words 0) s.queue
   pub rest : rest_of (slice_index words 0) ≡ rest_by s.txfp (count_requests s.routes)
   pub payload : Each (IsPaid words) s.queue
+  pub heads : (mailbox : ℕ) → mailbox < 3 → IsHead (slice_index words (1 + 2 * mailbox))
 
 -- the mailbox that a route's seat fills is claimed by it, and has the words that it stored so far
 pub record Fills (words : List ℕ) (s : State) (v : RouteView) : Type 0 where

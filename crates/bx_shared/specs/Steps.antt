@@ -1,5 +1,5 @@
 -- What each atomic step tells the seat that makes it, and what a seat then knows.
-use Rattle.std.specs.Prelude.{◌≡◌, ℕ, ◌+◌, ◌^◌, ◌<◌, None, List, [], ◌∷◌, ◌++◌, Bool, true, false, slice_set}
+use Rattle.std.specs.Prelude.{◌≡◌, ℕ, ◌+◌, ◌^◌, ◌<◌, None, List, [], ◌∷◌, ◌++◌, Bool, true, false, slice_index, slice_set}
 use mathlib.Core.Option.{Option as Maybe, none, some}
 use Rattle.atomic_table.specs.Table.{Me, Step}
 use Rattle.can_frame.specs.Frames.{standard, data_bytes}
@@ -130,6 +130,13 @@ requested p entry = record p { requested = p.requested ++ entry ∷ []; claims =
 abbrev pub withdrawn : RouteView → RouteView
 withdrawn p = record p { claims = false }
 
+-- the number that it put into this mailbox is aborted, or is asked to end
+abbrev pub aborted_at : RouteView → ℕ → RouteView
+aborted_at p mailbox = record p { aborted = p.aborted ++ slice_index p.last mailbox ∷ [] }
+
+abbrev pub asked_at : RouteView → ℕ → RouteView
+asked_at p mailbox = record p { asked = p.asked ++ slice_index p.last mailbox ∷ [] }
+
 -- What a word tells a route's seat: the lanes that fill under its route are those of its claim, a requested lane has one of the
 -- five marks, and there is room for one request more in the count.
 pub record IsOwn (p : RouteView) (word : ℕ) : Type 0 where
@@ -164,6 +171,13 @@ Requests st me found next = Tries (requested (part_of me) (entry_said st.said)) 
 
 abbrev pub Withdraws : Tells
 Withdraws st me found next = next ≡ seat_of (withdrawn (part_of me))
+
+-- an abort of what is not transmitting, and of what is
+abbrev pub Aborts : Tells
+Aborts st me found next = Tries (aborted_at (part_of me) (mailbox_said st.said)) st me found next
+
+abbrev pub Asks : Tells
+Asks st me found next = Tries (asked_at (part_of me) (mailbox_said st.said)) st me found next
 
 -- the first of a seat's routes is cut off
 abbrev pub rest_routes : List RouteView → List RouteView

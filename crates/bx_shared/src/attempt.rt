@@ -3,7 +3,7 @@ ghost use Rattle.std.specs.Prelude.{◌≡◌, ◌<◌, ◌^◌, true, false, Ma
 ghost use Rattle.bx_core.specs.declared.point.Point.TheVariants.{Look, Fill, Request, Withdraw};
 ghost use Rattle.bx_core.specs.Gate.{Passes};
 ghost use Rattle.bx_core.specs.Steps.{last_number};
-ghost use Rattle.bx_words.specs.Payloads.{ArePacked};
+ghost use Rattle.bx_words.specs.Payloads.{IsHead, ArePacked};
 ghost use Rattle.bx_shared.specs.Steps.{seat_of, part_of, head_stored, bytes_stored};
 ghost use Rattle.bx_shared.specs.Seats.{IsAt, IsFull, IsLowest, IsClaimed, IsUnclaimed, IsRequested, IsLost, Answers, HearsUnclaimed, Hears, to_claim};
 
@@ -63,6 +63,7 @@ fn fill<G: Gate>(words: &Words, seat: &mut Seat, mailbox: u8, head: u64, bytes: 
     requires table { IsAt words.now.shared.table_id seat.old.table_id }
     requires route { seat.old.me ≡ seat_of (part_of seat.old.me) }
     requires fills { (mailbox < 3) × ((part_of seat.old.me).claims ≡ true) × ((part_of seat.old.me).mailbox ≡ mailbox) }
+    requires head { IsHead head }
     ensures table { seat.new.table_id ≡ seat.old.table_id }
     ensures filled { seat.new.me ≡ seat_of (bytes_stored (head_stored (part_of seat.old.me) head) bytes) }
     ensures hears { Passes G.may_have_heard (Fill ∷ Fill ∷ []) gate.old gate.new }

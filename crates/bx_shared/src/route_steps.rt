@@ -2,7 +2,7 @@
 ghost use Rattle.std.specs.Prelude.{◌≡◌, ◌≢◌, ℕ, ◌+◌, ◌<◌, ◌^◌, true, false, bit_and};
 ghost use Rattle.bx_core.specs.Steps.{last_number};
 ghost use Rattle.bx_words.specs.Lanes.{lane_of, filling, LaneSet, LaneRequested};
-ghost use Rattle.bx_words.specs.Payloads.{ArePacked};
+ghost use Rattle.bx_words.specs.Payloads.{IsHead, ArePacked};
 ghost use Rattle.bx_shared.specs.Steps.{seat_of, part_of, looked, missed, claimed, head_stored, bytes_stored, requested, withdrawn, IsOwn};
 ghost use Rattle.bx_shared.specs.Seats.{IsAt};
 
@@ -53,6 +53,7 @@ pub(crate) fn store_head(words: &Words, seat: &mut Seat, mailbox: u8, head: u64)
     requires table { IsAt words.now.shared.table_id seat.old.table_id }
     requires route { seat.old.me ≡ seat_of (part_of seat.old.me) }
     requires fills { (mailbox < 3) × ((part_of seat.old.me).claims ≡ true) × ((part_of seat.old.me).mailbox ≡ mailbox) }
+    requires head { IsHead head }
     ensures table { seat.new.table_id ≡ seat.old.table_id }
     ensures stored { seat.new.me ≡ seat_of (head_stored (part_of seat.old.me) head) }
 {
