@@ -16,3 +16,4 @@ pub mod Finding
 pub mod BusMoves
 pub mod Transmitting
 pub mod Scheduling
+pub mod Aborting

@@ -69,7 +69,7 @@ bus_leaves txfp t k id new b d rs w x me f there leads ls requested aborted reap
     (λ z. subst (Each (IsKnown o)) (sym f.split.rest) (each-drop (IsKnown o) f.split.before f.split.behind w (subst (Each (IsKnown o)) f.split.whole z))) g)
 
 -- what was requested is still
-known_on : (s : State) (w : Waiting) (x : RouteLists) (items : List Item) → w.route < length s.routes → x.requested ≡ (lists_of s w.route).requested →
+pub known_on : (s : State) (w : Waiting) (x : RouteLists) (items : List Item) → w.route < length s.routes → x.requested ≡ (lists_of s w.route).requested →
     Each (λ y. Has (lists_of s y.0).requested (entry_on_bus y)) items → Each (λ y. Has (lists_of (without s (at_of s w) w.route x) y.0).requested (entry_on_bus y)) items
 known_on s w x items there same = each_more (λ (y : Item). Has (lists_of s y.0).requested (entry_on_bus y)) (λ (y : Item). Has (lists_of (without s (at_of s w) w.route x) y.0).requested (entry_on_bus y)) items
     (λ y h. same_requested s w x there (sym same) y.0 (entry_on_bus y) h)
