@@ -17,3 +17,5 @@ pub mod BusMoves
 pub mod Transmitting
 pub mod Scheduling
 pub mod Aborting
+pub mod BusKeeps
+pub mod Readying

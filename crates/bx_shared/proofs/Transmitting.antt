@@ -194,6 +194,18 @@ completes txfp t k id new b rs item me sends none ls =
           });
     })
 
+-- by the word its lane is that of a transmission
+pub transmits_in : (txfp : Bool) (t : St) (k : IsKept txfp t) (id : ℕ) (b : BusView) (rs : List RouteView) (item : Item) → get_elem? t.views id ≡ some (with_bus b rs) → b.sends ≡ Some item → IsTransmitting (get_or t.words 0 0) b.mailbox
+transmits_in txfp t k id b rs item me sends =
+    let s = k.core in
+    let word = get_or t.words 0 0 in
+    let law = law_of s k.reached in
+    let fit = bus_knows txfp t k id b rs me in
+    let g = is_sent s item (fit.sends ∙ sends) in
+    let w = g.request in
+    let lane = lane_sent t.words s w k.shows law (find-has (λ (y : Waiting). is_transmitting y.status) s.queue w g.on) (transmits s w g.on) in
+    subst (IsTransmitting word) (fit.mailbox w g.on) (sent_lane word w.mailbox w.abort_asked (sent_mark (lane_of word w.mailbox) w.route w.abort_asked lane))
+
 if_some : (c : Bool) (o : Option Item) (x : Item) → cond c o None ≡ Some x → (c ≡ true) × (o ≡ Some x)
 if_some true o x e = (refl, e)
 if_some false o x e = no_item x e

@@ -4,7 +4,7 @@ use Rattle.std.specs.List.{slice_index_or}
 use Rattle.can_frame.specs.Frames.{FrameValue}
 use Rattle.can_frame.specs.Keys.{key_of}
 use Rattle.bx_core.specs.TxBus.{Item}
-use Rattle.bx_words.specs.Lanes.{lane_of, mark_of, rest_of, IsRequested}
+use Rattle.bx_words.specs.Lanes.{lane_of, mark_of, rest_of, IsRequested, IsTransmitting}
 use Rattle.bx_words.specs.Orders.{IsOldest, IsLeastOf}
 use Rattle.bx_words.specs.Payloads.{IsHead, IsHeadOf, bytes_word}
 use Rattle.bx_shared.specs.declared.bus_view.BusView.{BusView}
@@ -100,7 +100,7 @@ abbrev pub Completes : Tells
 Completes st me found next = next ≡ bus_seat (bus_completed (bus_of me)) me.0.routes
 
 abbrev pub Fails : Tells
-Fails st me found next = next ≡ bus_seat (bus_failed (bus_of me) found) me.0.routes
+Fails st me found next = (next ≡ bus_seat (bus_failed (bus_of me) found) me.0.routes) × IsTransmitting found (bus_of me).mailbox
 
 abbrev pub Reaps : Tells
 Reaps st me found next = next ≡ bus_seat (bus_reaped (bus_of me)) me.0.routes

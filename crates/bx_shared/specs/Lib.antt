@@ -5,4 +5,5 @@ pub mod Steps
 pub mod BusSteps
 pub mod Seats
 pub mod SeatParts
+pub mod Calls
 pub mod Laws

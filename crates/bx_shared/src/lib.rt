@@ -1,8 +1,11 @@
 //! The three transmit mailboxes of a bxCAN controller in seven words that threads share by atomic steps.
 #![tactic(auto)]
 
+mod abort_answer;
 mod attempt;
+mod bus_calls;
 mod bus_seat;
+mod bus_steps;
 mod bus_view;
 mod dealing;
 pub mod laws;
@@ -15,6 +18,7 @@ mod route_view;
 mod said;
 mod view;
 
+pub use crate::abort_answer::AbortAnswer;
 pub use crate::bus_seat::BusSeat;
 pub use crate::mail::Mail;
 pub use crate::request_answer::RequestAnswer;

@@ -1,6 +1,7 @@
 //! The rule of the seven words, and the names of the steps on them.
 ghost use Rattle.bx_shared.specs.Shown.{IsKept};
-ghost use Rattle.bx_shared.specs.Steps.{Looks, Claims, StoresHead, StoresBytes, Requests, Withdraws, first_view, left_of, right_of, both_of, spent};
+ghost use Rattle.bx_shared.specs.Steps.{Looks, Claims, StoresHead, StoresBytes, Requests, Withdraws, Aborts, Asks, first_view, left_of, right_of, both_of, spent};
+ghost use Rattle.bx_shared.specs.BusSteps.{BusLooks, Schedules, Starts, ReadsHead, ReadsBytes, Completes, Fails, Reaps};
 
 use crate::said::Said;
 use crate::view::View;
@@ -55,6 +56,76 @@ pub struct Withdraw;
 
 impl Play<Said, View> for Withdraw {
     ghost then = { Withdraws };
+}
+
+/// A request that is not transmitting is aborted.
+pub struct Abort;
+
+impl Play<Said, View> for Abort {
+    ghost then = { Aborts };
+}
+
+/// The abort of a request that is transmitting is asked.
+pub struct Ask;
+
+impl Play<Said, View> for Ask {
+    ghost then = { Asks };
+}
+
+/// The bus's look at the control word.
+pub struct BusLook;
+
+impl Play<Said, View> for BusLook {
+    ghost then = { BusLooks };
+}
+
+/// The next request is scheduled.
+pub struct Schedule;
+
+impl Play<Said, View> for Schedule {
+    ghost then = { Schedules };
+}
+
+/// The scheduled request starts.
+pub struct Start;
+
+impl Play<Said, View> for Start {
+    ghost then = { Starts };
+}
+
+/// The bus reads the head of a mailbox.
+pub struct ReadHead;
+
+impl Play<Said, View> for ReadHead {
+    ghost then = { ReadsHead };
+}
+
+/// The bus reads the bytes of a mailbox.
+pub struct ReadBytes;
+
+impl Play<Said, View> for ReadBytes {
+    ghost then = { ReadsBytes };
+}
+
+/// What was transmitted is sent.
+pub struct Complete;
+
+impl Play<Said, View> for Complete {
+    ghost then = { Completes };
+}
+
+/// The transmission failed.
+pub struct Fail;
+
+impl Play<Said, View> for Fail {
+    ghost then = { Fails };
+}
+
+/// What failed with its abort asked leaves.
+pub struct Reap;
+
+impl Play<Said, View> for Reap {
+    ghost then = { Reaps };
 }
 
 /// Cuts the first route's place off.

@@ -1,12 +1,12 @@
 //! The atomic steps of a route's seat on the words.
-ghost use Rattle.std.specs.Prelude.{◌≡◌, ◌≢◌, ℕ, ◌+◌, ◌<◌, ◌^◌, true, false, bit_and};
+ghost use Rattle.std.specs.Prelude.{◌≡◌, ◌≢◌, ◌⊎◌, ℕ, ◌+◌, ◌/◌, ◌<◌, ◌^◌, true, false, bit_and};
 ghost use Rattle.bx_core.specs.Steps.{last_number};
-ghost use Rattle.bx_words.specs.Lanes.{lane_of, filling, LaneSet, LaneRequested};
+ghost use Rattle.bx_words.specs.Lanes.{lane_of, mark_of, filling, LaneSet, LaneRequested};
 ghost use Rattle.bx_words.specs.Payloads.{IsHead, ArePacked};
-ghost use Rattle.bx_shared.specs.Steps.{seat_of, part_of, looked, missed, claimed, head_stored, bytes_stored, requested, withdrawn, IsOwn};
+ghost use Rattle.bx_shared.specs.Steps.{seat_of, part_of, looked, missed, claimed, head_stored, bytes_stored, requested, withdrawn, aborted_at, asked_at, IsOwn};
 ghost use Rattle.bx_shared.specs.Seats.{IsAt};
 
-use crate::plays::{Claim, Look, Request, ShowsCore, StoreBytes, StoreHead, Withdraw};
+use crate::plays::{Abort, Ask, Claim, Look, Request, ShowsCore, StoreBytes, StoreHead, Withdraw};
 use crate::said::Said;
 use crate::view::View;
 use atomic_table::Table;
@@ -103,4 +103,42 @@ pub(crate) fn withdraw(words: &Words, seat: &mut Seat, mask: u64)
     ensures withdrawn { seat.new.me ≡ seat_of (withdrawn (part_of seat.old.me)) }
 {
     words.shared.fetch_and::<Withdraw>(seat, 0, mask);
+}
+
+/// One try to take a request out that isn't transmitting. Gives the word found: the mailbox is empty where that is `old`.
+pub(crate) fn abort(words: &Words, seat: &mut Seat, mailbox: u8, old: u64, new: u64) -> u64
+    requires table { IsAt words.now.shared.table_id seat.old.table_id }
+    requires route { seat.old.me ≡ seat_of (part_of seat.old.me) }
+    requires small { (part_of seat.old.me).route < 8 }
+    requires idle { (part_of seat.old.me).claims ≡ false }
+    requires mailbox { mailbox < 3 }
+    requires rests { (mark_of old mailbox ≡ 3) ⊎ (mark_of old mailbox ≡ 7) }
+    requires own { lane_of old mailbox / 32 ≡ (part_of seat.old.me).route }
+    requires abort { LaneSet old mailbox 0 new }
+    ensures table { seat.new.table_id ≡ seat.old.table_id }
+    ensures aborted { result ≡ old → seat.new.me ≡ seat_of (aborted_at (part_of seat.old.me) mailbox) }
+    ensures missed { result ≢ old → (seat.new.me ≡ seat_of (missed (part_of seat.old.me) result)) × IsOwn (part_of seat.old.me) result }
+{
+    words
+        .shared
+        .compare_exchange_with::<Abort>(seat, 0, old, new, &Said::Mailbox(mailbox))
+}
+
+/// One try to ask for the end of what is transmitting. Gives the word found: the abort is asked where that is `old`.
+pub(crate) fn ask(words: &Words, seat: &mut Seat, mailbox: u8, old: u64, new: u64) -> u64
+    requires table { IsAt words.now.shared.table_id seat.old.table_id }
+    requires route { seat.old.me ≡ seat_of (part_of seat.old.me) }
+    requires small { (part_of seat.old.me).route < 8 }
+    requires idle { (part_of seat.old.me).claims ≡ false }
+    requires mailbox { mailbox < 3 }
+    requires sends { mark_of old mailbox ≡ 15 }
+    requires own { lane_of old mailbox / 32 ≡ (part_of seat.old.me).route }
+    requires ask { LaneSet old mailbox (lane_of old mailbox + 16) new }
+    ensures table { seat.new.table_id ≡ seat.old.table_id }
+    ensures asked { result ≡ old → seat.new.me ≡ seat_of (asked_at (part_of seat.old.me) mailbox) }
+    ensures missed { result ≢ old → (seat.new.me ≡ seat_of (missed (part_of seat.old.me) result)) × IsOwn (part_of seat.old.me) result }
+{
+    words
+        .shared
+        .compare_exchange_with::<Ask>(seat, 0, old, new, &Said::Mailbox(mailbox))
 }

@@ -1,0 +1,20 @@
+use Rattle.std.proofs.Common.{sym, subst, arith, ◌==◌, ◌+◌, ◌*◌, bit_and}
+use mathlib.Core.Option.{none, some}
+use prog.Atomic.{either}
+use Rattle.atomic_table.specs.Table.{Me, step, Allows}
+use Rattle.bx_shared.specs.declared.said.Said.{Said}
+use Rattle.bx_shared.specs.declared.said.Said.TheVariants.{Mailbox}
+use Rattle.bx_shared.specs.declared.view.View.{View}
+use Rattle.bx_shared.specs.Shown.{IsKept}
+use Rattle.bx_shared.specs.Steps.{bus_of}
+use Rattle.bx_shared.specs.BusSteps.{Schedules}
+use Rattle.bx_shared.proofs.BusKeeps.{schedules-keep}
+use Rattle.bx_shared.proofs.bus_steps.schedule.Goals as goal
+
+pub compare_exchange_with-requires : goal.compare_exchange_with-requires
+compare_exchange_with-requires c = let h = c.args.words.now.shared in let t = h.table_id in let id = c.args.seat.now.id in let seven = c.requires.table.seven in let a = c.args in let b = bus_of a.seat.now.me in let rs = a.seat.now.me.0.routes in (
+  c.requires.table.same,
+  omega arith,
+  subst (λ (m : Me Said View). Allows (IsKept h.key) t.slots id m 0 (λ n. either (n == a.old) a.new n) (Schedules (step t.slots 0 a.old a.new (some (Mailbox a.mailbox))) m)) (sym c.requires.bus)
+      (schedules-keep h.key t.slots id a.mailbox a.old a.new b rs c.requires.mailbox c.requires.due c.requires.next c.requires.schedule),
+)
