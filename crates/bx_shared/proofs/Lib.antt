@@ -19,3 +19,4 @@ pub mod Scheduling
 pub mod Aborting
 pub mod BusKeeps
 pub mod Readying
+pub mod Gone

@@ -74,7 +74,7 @@ waits_in ws s last r w sh law has is put =
     (eq-eqb (get_or last w.mailbox 0) w.number put))
 
 -- one of two lists, by a truth value
-by_cases : {A : Type 0} (P : A → Type 0) (b : Bool) (x y : A) → (b ≡ true → P x) → (b ≡ false → P y) → P (cond b x y)
+pub by_cases : {A : Type 0} (P : A → Type 0) (b : Bool) (x y : A) → (b ≡ true → P x) → (b ≡ false → P y) → P (cond b x y)
 by_cases P true x y f g = f refl
 by_cases P false x y f g = g refl
 

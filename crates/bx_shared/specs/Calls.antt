@@ -12,8 +12,9 @@ use Rattle.bx_shared.specs.declared.bus_view.BusView.{BusView}
 use Rattle.bx_shared.specs.declared.abort_answer.AbortAnswer.{AbortAnswer}
 use Rattle.bx_shared.specs.declared.abort_answer.AbortAnswer.TheVariants.{Aborted, Asked, Gone, Contended}
 use Rattle.bx_shared.specs.Ended.{is_in}
+use Rattle.bx_shared.specs.Steps.{missed, aborted_at, asked_at}
 use Rattle.bx_shared.specs.BusSteps.{bus_failed, bus_reaped}
-use Rattle.bx_shared.specs.Seats.{SameFilling}
+use Rattle.bx_shared.specs.Seats.{SameFilling, BusPlace}
 
 -- the word has a mailbox whose request is scheduled and was not asked to end; and it has none
 pub record IsScheduled (word mailbox : ℕ) : Type 0 where
@@ -130,9 +131,34 @@ Answered p q number Asked = (q.aborted ≡ p.aborted) × AsksOrWas p q number
 Answered p q number Gone = (q.aborted ≡ p.aborted) × (q.asked ≡ p.asked) × Has q.ended number
 Answered p q number (Contended word) = IsMissed p q word
 
+-- the exchange of an abort found this word, and not the last one looked at; in both the same mailboxes fill under the route
+pub record IsMissedBy (p q : RouteView) (word : ℕ) : Type 0 where
+  pub is : q ≡ missed p word
+  pub differs : ¬ (word ≡ p.seen)
+  pub same : SameFilling p.route p.seen word
+
+-- the same where the request is taken out of its mailbox, and where it is asked to end
+abbrev pub TakesOut : RouteView → RouteView → ℕ → AbortAnswer → Type 0
+TakesOut p q mailbox Aborted = q ≡ aborted_at p mailbox
+TakesOut p q mailbox Asked = ⊥
+TakesOut p q mailbox Gone = ⊥
+TakesOut p q mailbox (Contended word) = IsMissedBy p q word
+
+abbrev pub AsksNow : RouteView → RouteView → ℕ → AbortAnswer → Type 0
+AsksNow p q mailbox Aborted = ⊥
+AsksNow p q mailbox Asked = q ≡ asked_at p mailbox
+AsksNow p q mailbox Gone = ⊥
+AsksNow p q mailbox (Contended word) = IsMissedBy p q word
+
 -- the points that an abort passes: it looks, and where the number is in a mailbox and its abort was not asked, it tries to abort
 abbrev pub HearsAbort : {G : Type 0} → (G → List Point → Type 0) → RouteView → RouteView → AbortAnswer → G → G → Type 0
 HearsAbort may_have_heard p q Aborted old new = Passes may_have_heard (Look ∷ Abort ∷ []) old new
 HearsAbort may_have_heard p q Asked old new = ((q.asked ≡ p.asked) × Passes may_have_heard (Look ∷ []) old new) ⊎ Passes may_have_heard (Look ∷ Abort ∷ []) old new
 HearsAbort may_have_heard p q Gone old new = Passes may_have_heard (Look ∷ []) old new
 HearsAbort may_have_heard p q (Contended word) old new = Passes may_have_heard (Look ∷ Abort ∷ []) old new
+
+-- the bus's seat is at the same mailboxes, with the same places of routes
+pub record SameMailboxes (a b : BusPlace) : Type 0 where
+  pub table : b.table ≡ a.table
+  pub priority : b.txfp ≡ a.txfp
+  pub routes : b.routes ≡ a.routes

@@ -1,5 +1,5 @@
 -- What the fields of the seats stand for.
-use Rattle.std.specs.Prelude.{◌≡◌, ◌<◌, false, length}
+use Rattle.std.specs.Prelude.{◌≡◌, ◌<◌, None, false, length}
 use Rattle.std.specs.Arc.{arc_value}
 use Rattle.bx_core.specs.Steps.{last_number}
 use Rattle.bx_shared.specs.Steps.{seat_of, part_of, bus_seat, bus_of}
@@ -18,12 +18,18 @@ pub record IsRouteSeat (s : RouteInside) : Type 0 where
   pub small : s.route < 8
   pub idle : (part_of s.seat.me).claims ≡ false
   pub newest : last_number (part_of s.seat.me).requested ≡ s.last
+  pub put : (part_of s.seat.me).last ≡ s.tops
 
 abbrev pub bus_view : BusInside → BusPlace
 bus_view s = bus_place s.seat.table_id (arc_value s.words).shared.key s.seat.me
 
--- it holds the bus's place, and those of the routes that no seat was made for
+-- it holds the bus's place, and those of the routes that no seat was made for; it keeps what it transmits and the mailbox of that, and
+-- between its calls nothing is to be reaped
 pub record IsBusSeat (s : BusInside) : Type 0 where
   pub at : IsAt (arc_value s.words).shared.table_id s.seat.table_id
   pub alone : s.seat.me ≡ bus_seat (bus_of s.seat.me) s.seat.me.0.routes
   pub others : s.seat.me.0.routes ≡ openings (length s.seat.me.0.routes)
+  pub sends : (bus_of s.seat.me).sends ≡ s.sends
+  pub mailbox : (bus_of s.seat.me).mailbox ≡ s.mailbox
+  pub small : s.mailbox < 3
+  pub due : (bus_of s.seat.me).reaps ≡ None

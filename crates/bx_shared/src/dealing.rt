@@ -53,7 +53,14 @@ pub(crate) fn deal(
             seat: own,
             route,
             last: 0,
+            tops: [0; 3],
         })?;
     }
-    Ok((BusSeat { words, seat }, seats))
+    let bus = BusSeat {
+        words,
+        seat,
+        mailbox: 0,
+        sends: None,
+    };
+    Ok((bus, seats))
 }

@@ -1,9 +1,12 @@
 //! A route's seat at the mailboxes.
-ghost use Rattle.std.specs.Prelude.{◌≡◌, ◌<◌, ◌↔◌, IfOk, IsErr, OnErr};
+ghost use Rattle.std.specs.Prelude.{◌≡◌, ◌<◌, ◌≤◌, ◌↔◌, IfOk, IsErr, OnErr};
 ghost use Rattle.bx_core.specs.Steps.{greatest_number, last_number};
 ghost use Rattle.bx_shared.specs.Seats.{Answers, Hears};
+ghost use Rattle.bx_shared.specs.Calls.{Stays, Answered, HearsAbort};
 
+use crate::abort_answer::AbortAnswer;
 use crate::attempt::attempt;
+use crate::ending::end;
 use crate::request_answer::RequestAnswer;
 use crate::route_steps::{Seat, Words};
 use bx_core::{Entry, Gate, NumberTooLarge};
@@ -22,6 +25,8 @@ pub struct RouteSeat {
     pub(crate) route: u8,
     // the newest number requested, or 0
     pub(crate) last: u32,
+    // of each mailbox, the number that was last requested there, or 0
+    pub(crate) tops: [u32; 3],
 }
 
 impl Model for RouteSeat {
@@ -69,9 +74,26 @@ impl RouteSeat {
         }
         let entry = Entry { number, frame };
         let answer = attempt(&self.words, &mut self.seat, self.route, entry, gate);
-        if let RequestAnswer::Taken(_) = answer {
+        if let RequestAnswer::Taken(mailbox) = answer {
             self.last = number;
+            self.tops[usize::from(mailbox)] = number;
         }
         Ok(answer)
+    }
+
+    /// One try to abort a request under a number of this route's, 1 to its last one (RM0008, bxCAN, "Abort"): a look,
+    /// and at most one exchange. `Aborted` where it was pending or scheduled, and its mailbox is empty now. `Asked` where
+    /// it is transmitting, or was asked to end before: it ends sent, or without another try. `Gone` where the number is in no
+    /// mailbox: it was sent, aborted or reaped, or never requested. `Contended` where the exchange found another word
+    /// than the one looked at: nothing changed. No other request is touched. Takes no memory.
+    pub fn abort<G: Gate>(&mut self, number: u32, gate: &mut G) -> AbortAnswer
+        requires some { 1 ≤ number }
+        requires most { number ≤ last_number self.old.part.requested }
+        ensures table { self.new.table ≡ self.old.table }
+        ensures stays { Stays self.old.part self.new.part }
+        ensures answer { Answered self.old.part self.new.part number result }
+        ensures hears { HearsAbort G.may_have_heard self.old.part self.new.part result gate.old gate.new }
+    {
+        end(&self.words, &mut self.seat, self.route, number, &self.tops, gate)
     }
 }

@@ -1,8 +1,9 @@
-use Rattle.std.proofs.Common.{List, ℕ, ◌-◌, sym, ap, ◌∙◌, subst, arith, length, []}
+use Rattle.std.proofs.Common.{List, ℕ, ◌-◌, ◌<◌, sym, ap, ◌∙◌, subst, arith, length, []}
 use Rattle.atomic_table.specs.Table.{opening as table_start}
 use Rattle.bx_shared.specs.declared.said.Said.{Said}
+use Rattle.bx_shared.specs.declared.bus_view.BusView.{BusView}
 use Rattle.bx_shared.specs.Shown.{IsKept}
-use Rattle.bx_shared.specs.Steps.{first_view, bus_seat, part_of, opening, opening_bus}
+use Rattle.bx_shared.specs.Steps.{first_view, bus_seat, bus_of, part_of, opening, opening_bus}
 use Rattle.bx_shared.specs.Seats.{AreDealt, openings, route_place}
 use Rattle.bx_shared.proofs.Places.{begins}
 use Rattle.bx_shared.proofs.Parting.{dealt-push, left_alone}
@@ -26,5 +27,17 @@ loop-route-preserved c =
           (ap part_of c.cut-own.ensures.one ∙ ap opening (let few = c.requires in let end = c.loop-route.auto.route-end in let on = c.loop-route-test.true in omega arith))),
     )
 
-pub invariant_of-result : goal.invariant_of-result
-invariant_of-result c = let i = c.loop-route.invariant in let t = left_alone c.loop-route.seat.me (8 - c.loop-route.route) i.2 in record { at = i.0; alone = t.0; others = t.1 }
+pub invariant_of-bus : goal.invariant_of-bus
+invariant_of-bus c =
+    let i = c.loop-route.invariant in
+    let t = left_alone c.loop-route.seat.me (8 - c.loop-route.route) i.2 in
+    let bus = ap bus_of i.2 in
+    record {
+      at = i.0;
+      alone = t.0;
+      others = t.1;
+      sends = ap (λ (b : BusView). b.sends) bus;
+      mailbox = ap (λ (b : BusView). b.mailbox) bus;
+      small = omega arith;
+      due = ap (λ (b : BusView). b.reaps) bus;
+    }

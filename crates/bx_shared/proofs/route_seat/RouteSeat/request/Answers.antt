@@ -1,5 +1,5 @@
 -- The seat keeps its invariant where a request is taken.
-use Rattle.std.proofs.Common.{ap, ◌∙◌}
+use Rattle.std.proofs.Common.{List, ℕ, set, sym, ap, ◌∙◌}
 use Rattle.bx_core.specs.Steps.{last_number}
 use Rattle.bx_shared.specs.Seats.{entry}
 use Rattle.bx_shared.specs.Steps.{part_of}
@@ -18,4 +18,5 @@ invariant_of-self g c =
       small = v.small;
       idle = a.0.claims;
       newest = ap last_number a.1.requested ∙ last_of-push 0 (part_of c.self.inside.seat.me).requested (entry c.args.number c.args.frame);
+      put = a.1.last ∙ ap (λ (l : List ℕ). set l c.in-Taken.mailbox c.args.number) v.put ∙ ap (λ (k : ℕ). set c.self.inside.tops k c.args.number) (sym c.from.ensures);
     }
