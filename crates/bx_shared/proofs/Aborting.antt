@@ -1,28 +1,27 @@
 -- The steps by which a route's seat aborts a request keep the rule.
-use Rattle.std.proofs.Common.{◌≡◌, ℕ, ◌+◌, ◌*◌, ◌/◌, ◌%◌, ◌<◌, ◌≤◌, ◌⊎◌, nat_lt, inl, inr, ⊎_elim, ◌==◌, List, [], ◌∷◌, ◌++◌, length, get_or, set, refl, sym, ap, ◌∙◌, subst, arith, eq-eqb, Some, None, Ok, Bool, true, false, true≢false}
+use Rattle.std.proofs.Common.{◌≡◌, ℕ, ◌+◌, ◌/◌, ◌<◌, ◌≤◌, ◌⊎◌, nat_lt, inr, ⊎_elim, ◌==◌, List, [], ◌∷◌, ◌++◌, length, get_or, set, refl, sym, ap, ◌∙◌, subst, arith, eq-eqb, Some, Ok, Bool, true, false, true≢false}
 use Rattle.std.specs.Prelude.{option_map}
-use Rattle.std.specs.List.{find, remove}
+use Rattle.std.specs.List.{find}
 use Rattle.std.proofs.lemmas.List.{length-set, get_or-set_same, get_or-set_other}
 use mathlib.Core.Option.{some}
 use lib.ListN.{get_elem?}
 use prog.Atomic.{either}
 use Rattle.atomic_table.specs.Table.{step, keeps, stepped, Allows}
-use Rattle.bx_core.specs.declared.entry.Entry.{Entry}
 use Rattle.bx_core.specs.declared.status.Status.{Status}
 use Rattle.bx_core.specs.declared.status.Status.TheVariants.{Pending, Scheduled, Transmitting}
 use Rattle.bx_core.specs.declared.waiting.Waiting.{Waiting}
 use Rattle.bx_core.specs.declared.event.Event.TheVariants.{Abort}
 use Rattle.bx_core.specs.Lists.{Each, Has}
-use Rattle.bx_core.specs.States.{State, RouteLists, no_lists, lists_of, at_mailbox, on_bus, in_turn, is_pending, is_scheduled, is_transmitting}
+use Rattle.bx_core.specs.States.{State, RouteLists, no_lists, lists_of, at_mailbox, on_bus, is_scheduled, is_transmitting}
 use Rattle.bx_core.specs.Steps.{with_waiting, without, aborted, aborted_lists}
 use Rattle.bx_core.specs.Law.{Law}
 use Rattle.bx_core.specs.PlainMail.{item_of}
-use Rattle.bx_core.proofs.Words.{each-append, each_more, each-drop, each-replace, each_here, each_of, has-left, has-last, set-each}
+use Rattle.bx_core.proofs.Words.{each_more, each-drop, each-replace, each_of, has-left, has-last, set-each}
 use Rattle.bx_core.proofs.Queues.{marked}
 use Rattle.bx_core.proofs.Found.{IsFound, at_of, is_alone}
 use Rattle.bx_core.proofs.Leads.{leads-abort, leads-ask}
 use Rattle.bx_core.proofs.Reaches.{law_of, leads-reached, scheduled_busy, transmitting_busy}
-use Rattle.bx_core.proofs.Sending.{bus-there, bus_of, item_in, item-asked}
+use Rattle.bx_core.proofs.Sending.{bus-there, bus_of}
 use Rattle.bx_core.proofs.Standing.{mark-bus, bus_on}
 use Rattle.bx_core.proofs.BusSide.{same_requested}
 use Rattle.bx_words.specs.Lanes.{lane_of, mark_of, LaneSet}
@@ -30,7 +29,7 @@ use Rattle.bx_shared.specs.declared.said.Said.TheVariants.{Mailbox}
 use Rattle.bx_shared.specs.declared.route_view.RouteView.{RouteView}
 use Rattle.bx_shared.specs.declared.bus_view.BusView.{BusView}
 use Rattle.bx_shared.specs.Marks.{mark_by}
-use Rattle.bx_shared.specs.Shown.{IsKnown, Fits, FitsBus, IsKept, IsEvent, past_of}
+use Rattle.bx_shared.specs.Shown.{IsKnown, FitsBus, IsKept, IsEvent, past_of}
 use Rattle.bx_shared.specs.Steps.{seat_of, aborted_at, asked_at, Aborts, Asks}
 use Rattle.bx_shared.proofs.Reading.{status_in, same_request}
 use Rattle.bx_shared.proofs.Marking.{shows_mark, shows_leave, fits_same}

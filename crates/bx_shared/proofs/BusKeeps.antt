@@ -1,23 +1,20 @@
 -- Each step of the bus's seat keeps the rule, whatever the words are by then.
-use Rattle.std.proofs.Common.{◌≡◌, ℕ, ◌+◌, ◌-◌, ◌*◌, ◌^◌, ◌<◌, ◌==◌, List, get_or, refl, sym, ap, ◌∙◌, subst, arith, eqb, Option, Some, None, Bool, true≢false, bit_and}
+use Rattle.std.proofs.Common.{◌≡◌, ℕ, ◌+◌, ◌-◌, ◌*◌, ◌^◌, ◌<◌, ◌==◌, List, get_or, refl, sym, ap, ◌∙◌, subst, arith, Option, Some, None, Bool, true≢false, bit_and}
 use Rattle.std.specs.Prelude.{IsSome}
-use mathlib.Core.Option.{Option as Maybe, none, some}
-use lib.ListN.{get_elem?}
+use mathlib.Core.Option.{none, some}
 use prog.Atomic.{either}
-use Rattle.atomic_table.specs.Table.{Me, step, keeps, stepped, Allows}
+use Rattle.atomic_table.specs.Table.{step, keeps, Allows}
 use Rattle.atomic_table.proofs.Lists.{exchanged}
 use Rattle.bx_core.specs.TxBus.{Item}
 use Rattle.bx_words.specs.Lanes.{lane_of, mark_of, IsTransmitting, LaneSet}
 use Rattle.bx_words.specs.Payloads.{IsHead}
-use Rattle.bx_shared.specs.declared.said.Said.{Said}
 use Rattle.bx_shared.specs.declared.said.Said.TheVariants.{Mailbox}
 use Rattle.bx_shared.specs.declared.route_view.RouteView.{RouteView}
 use Rattle.bx_shared.specs.declared.bus_view.BusView.{BusView}
-use Rattle.bx_shared.specs.declared.view.View.{View}
 use Rattle.bx_shared.specs.Shown.{IsKept}
 use Rattle.bx_shared.specs.Steps.{bus_seat}
 use Rattle.bx_shared.specs.BusSteps.{GoesNext, IsHeadSent, AreBytesSent, bus_looked, bus_tried, bus_completed, bus_failed, bus_reaped, head_read, BusLooks, Schedules, Starts, ReadsHead, ReadsBytes, Completes, Fails, Reaps}
-use Rattle.bx_shared.proofs.Moves.{St, Goes}
+use Rattle.bx_shared.proofs.Moves.{Goes}
 use Rattle.bx_shared.proofs.BusMoves.{with_bus}
 use Rattle.bx_shared.proofs.Scheduling.{bus_looks, bus_misses, reads_head, reads_bytes, schedules}
 use Rattle.bx_shared.proofs.Transmitting.{starts, completes, fails, reaps, transmits_in}
@@ -55,8 +52,7 @@ starts-keep txfp slots id m old new b rs small due mark ls t k long me fits =
 pub reads_head-keep : (txfp : Bool) (slots id m i : ℕ) (b : BusView) (rs : List RouteView) → i ≡ 1 + 2 * m → m < 3 → Allows (IsKept txfp) slots id (bus_seat b rs) i (λ n. n) (ReadsHead (step slots i 0 0 none) (bus_seat b rs))
 reads_head-keep txfp slots id m i b rs at small = subst (λ (j : ℕ). Allows (IsKept txfp) slots id (bus_seat b rs) j (λ n. n) (ReadsHead (step slots j 0 0 none) (bus_seat b rs))) (sym at) (λ t k long me fits.
     let x = reads_head txfp t k id m b rs me small in
-    let head = get_or t.words (1 + 2 * m) 0 in
-    (
+    let head = get_or t.words (1 + 2 * m) 0 in (
       with_bus (head_read b m head) rs,
       keeps,
       tt,

@@ -1,7 +1,7 @@
 -- A step of the bus's seat keeps the rule: what is left to show for each kind of step.
-use Rattle.std.proofs.Common.{◌≡◌, ◌≢◌, ℕ, ◌+◌, ◌*◌, ◌/◌, ◌^◌, ◌<◌, ◌≤◌, ◌⊎◌, ⊎_elim, List, [], ◌∷◌, ◌++◌, length, get_or, set, refl, sym, ap, ◌∙◌, subst, arith, Some, None, Bool, true, false}
-use Rattle.std.specs.List.{slice_index_or, remove}
-use mathlib.Core.Option.{Option as Maybe, some}
+use Rattle.std.proofs.Common.{◌≡◌, ◌≢◌, ℕ, ◌+◌, ◌<◌, ⊎_elim, List, [], ◌∷◌, length, get_or, set, refl, sym, ap, ◌∙◌, subst, arith, Some, None, Bool, false}
+use Rattle.std.specs.List.{slice_index_or}
+use mathlib.Core.Option.{some}
 use lib.ListN.{get_elem?}
 use lib.Seq.{set-get_or}
 use Rattle.atomic_table.specs.Table.{keeps, stepped}
@@ -11,7 +11,7 @@ use Rattle.bx_core.specs.declared.waiting.Waiting.{Waiting}
 use Rattle.bx_core.specs.Lists.{Each}
 use Rattle.bx_core.specs.States.{State, RouteLists, lists_of}
 use Rattle.bx_core.specs.Steps.{with_waiting, without}
-use Rattle.bx_core.specs.Law.{Law, Reached}
+use Rattle.bx_core.specs.Law.{Reached}
 use Rattle.bx_core.proofs.Words.{each_more, each-drop, each-replace}
 use Rattle.bx_core.proofs.Queues.{marked}
 use Rattle.bx_core.proofs.Found.{IsFound, at_of}

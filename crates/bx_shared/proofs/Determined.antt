@@ -1,15 +1,13 @@
 -- The words and the views of all places show one state of the core and no other.
-use Rattle.std.proofs.Common.{◌≡◌, ℕ, suc, ◌+◌, ◌*◌, ◌<◌, ◌≤◌, inl, inr, ⊎_elim, cond, nat_lt, ◌==◌, List, [], ◌∷◌, length, get_or, refl, sym, ap, ◌∙◌, subst, arith, eq-eqb, ne_eqb, eqb-true, lt-ltb, le-ltb, Some, None, Bool, true, false}
+use Rattle.std.proofs.Common.{◌≡◌, ℕ, suc, ◌+◌, ◌*◌, ◌<◌, ◌≤◌, ⊎_elim, cond, nat_lt, List, [], ◌∷◌, length, get_or, refl, sym, ap, ◌∙◌, subst, arith, eq-eqb, ne_eqb, Some, None, Bool, true, false}
 use mathlib.Core.Logic.{dite}
 use native.Mathlib.Decide.{ℕ_discrete, dec_le}
-use Rattle.bx_core.specs.declared.status.Status.{Status}
-use Rattle.bx_core.specs.declared.status.Status.TheVariants.{Pending, Scheduled, Transmitting}
 use Rattle.bx_core.specs.declared.waiting.Waiting.{Waiting}
-use Rattle.bx_core.specs.Lists.{Each, Has}
-use Rattle.bx_core.specs.States.{State, RouteLists, no_lists, claim_of, lists_of, is_at, at_mailbox, is_pending}
+use Rattle.bx_core.specs.Lists.{Each}
+use Rattle.bx_core.specs.States.{State, RouteLists, no_lists, claim_of, lists_of, at_mailbox}
 use Rattle.bx_core.specs.Law.{Law, IsAskedBusy, count_at}
 use Rattle.bx_core.proofs.Words.{each_of}
-use Rattle.bx_words.specs.Lanes.{field, filling, IsOlder, older_bit}
+use Rattle.bx_words.specs.Lanes.{filling, IsOlder}
 use Rattle.bx_words.proofs.Packed.{packed_once}
 use Rattle.bx_shared.specs.declared.route_view.RouteView.{RouteView}
 use Rattle.bx_shared.specs.declared.bus_view.BusView.{BusView}

@@ -1,12 +1,12 @@
 -- The request that a lane of the control word tells of, and what a search of the queue finds.
-use Rattle.std.proofs.Common.{◌≡◌, ℕ, zero, suc, ◌+◌, ◌*◌, ◌/◌, ◌%◌, ◌<◌, ◌≤◌, ◌⊎◌, inl, inr, ⊎_elim, cond, nat_lt, ◌==◌, List, [], ◌∷◌, ◌++◌, length, get_or, refl, sym, ap, ◌∙◌, subst, arith, Option, Some, None, Bool, true, false, true≢false}
+use Rattle.std.proofs.Common.{◌≡◌, ℕ, ◌+◌, ◌*◌, ◌/◌, ◌%◌, ◌<◌, ◌≤◌, ⊎_elim, cond, nat_lt, List, [], ◌∷◌, ◌++◌, length, refl, sym, ap, ◌∙◌, arith, Some, None, Bool, true, false}
 use Rattle.std.specs.Prelude.{option_map}
 use Rattle.std.specs.List.{find}
 use Rattle.bx_core.specs.declared.status.Status.{Status}
 use Rattle.bx_core.specs.declared.status.Status.TheVariants.{Pending, Scheduled, Transmitting}
 use Rattle.bx_core.specs.declared.waiting.Waiting.{Waiting}
-use Rattle.bx_core.specs.Lists.{Each, Has}
-use Rattle.bx_core.specs.States.{State, claim_of, at_mailbox, is_pending, is_scheduled, is_transmitting, on_bus, in_turn}
+use Rattle.bx_core.specs.Lists.{Has}
+use Rattle.bx_core.specs.States.{State, claim_of, is_pending, is_scheduled, on_bus, in_turn}
 use Rattle.bx_core.specs.Law.{Law, IsInPlace, IsAskedBusy, count_busy}
 use Rattle.bx_core.specs.TxBus.{Item}
 use Rattle.bx_core.specs.PlainMail.{item_of}
@@ -35,13 +35,13 @@ pub is_there : (s : State) (m lane : ℕ) → Law s → lane ≡ claim_lane (cla
 is_there s m lane law is low = ⊎_elim (λ (e : IsEmptyLane s m). let l = e.lane in absurd (omega arith)) (λ k. ⊎_elim
     (λ (f : IsFillingLane s m). let l = f.lane in absurd (omega arith))
     (λ (q : IsRequestLane s m).
-      let w = q.one.request in
-      let b = within w in
-      let at = at_has m s.queue w q.one.at in
-      let l : lane ≡ lane_by w = is ∙ q.lane in
-      let n = low_five lane (mark_by w.status w.abort_asked) w.route b.1 l in
-      let place = each_of (IsInPlace (length s.routes)) s.queue w law.in_place at.0 in
-      record { request = w; mailbox_is = at.1; has = at.0; found = found s w law at.0; mark = n.0; owner = n.1; lane_is = l; there = place.route; small = place.mailbox }) k) (reads s m law)
+    let w = q.one.request in
+    let b = within w in
+    let at = at_has m s.queue w q.one.at in
+    let l : lane ≡ lane_by w = is ∙ q.lane in
+    let n = low_five lane (mark_by w.status w.abort_asked) w.route b.1 l in
+    let place = each_of (IsInPlace (length s.routes)) s.queue w law.in_place at.0 in
+    record { request = w; mailbox_is = at.1; has = at.0; found = found s w law at.0; mark = n.0; owner = n.1; lane_is = l; there = place.route; small = place.mailbox }) k) (reads s m law)
 
 -- the status of the request, and whether its abort was asked, by the mark
 pub status_of : (s : State) (m lane : ℕ) (t : IsThere s m lane) (n : ℕ) → lane % 32 ≡ n → t.request.status ≡ status_in n

@@ -1,5 +1,5 @@
 -- What a route's seat knows after a try to abort.
-use Rattle.std.proofs.Common.{◌≡◌, ℕ, zero, suc, ◌+◌, ◌/◌, ◌%◌, ◌<◌, ◌≤◌, ◌⊎◌, inl, inr, ⊎_elim, ◌==◌, ◌&&◌, nat_lt, List, [], ◌∷◌, ◌++◌, get_or, refl, sym, ap, ◌∙◌, subst, arith, ltb-true, eqb-true, Bool, true, false, true≢false}
+use Rattle.std.proofs.Common.{◌≡◌, ℕ, zero, suc, ◌/◌, ◌<◌, ◌≤◌, ◌⊎◌, inl, inr, ⊎_elim, ◌==◌, ◌&&◌, nat_lt, List, [], ◌∷◌, get_or, sym, ap, ◌∙◌, subst, arith, ltb-true, eqb-true, true, false, true≢false}
 use Rattle.std.proofs.lemmas.Bool.{and_parts}
 use mathlib.Core.Logic.{dite}
 use native.Mathlib.Decide.{ℕ_discrete}
@@ -10,8 +10,8 @@ use Rattle.bx_core.specs.Lists.{Has}
 use Rattle.bx_core.specs.Steps.{last_number}
 use Rattle.bx_words.specs.Lanes.{lane_of, mark_of}
 use Rattle.bx_shared.specs.declared.route_view.RouteView.{RouteView}
-use Rattle.bx_shared.specs.declared.abort_answer.AbortAnswer.{AbortAnswer}
-use Rattle.bx_shared.specs.declared.abort_answer.AbortAnswer.TheVariants.{Aborted, Asked, Gone, Contended}
+use Rattle.bx_shared.specs.declared.abort_outcome.AbortOutcome.{AbortOutcome}
+use Rattle.bx_shared.specs.declared.abort_outcome.AbortOutcome.TheVariants.{Aborted, Asked, Gone, Contended}
 use Rattle.bx_shared.specs.Marks.{IsMark}
 use Rattle.bx_shared.specs.Ended.{is_in, stays_in, ended_of, up_to}
 use Rattle.bx_shared.specs.Steps.{looked, IsOwn}
@@ -67,13 +67,13 @@ was_asked p seen number route mailbox tops put own small o here above = record {
 }
 
 -- what the gate heard
-pub hears_ask : {G : Type 0} (may : G → List Point → Type 0) (p v q : RouteView) (m : ℕ) (r : AbortAnswer) (a b c : G) → AsksNow v q m r → Passes may (Look ∷ []) a b → Passes may (Abort ∷ []) b c → HearsAbort may p q r a c
+pub hears_ask : {G : Type 0} (may : G → List Point → Type 0) (p v q : RouteView) (m : ℕ) (r : AbortOutcome) (a b c : G) → AsksNow v q m r → Passes may (Look ∷ []) a b → Passes may (Abort ∷ []) b c → HearsAbort may p q r a c
 hears_ask may p v q m Aborted a b c is f g = absurd is
 hears_ask may p v q m Asked a b c is f g = inr (passes_on may (Look ∷ []) (Abort ∷ []) a b c f g)
 hears_ask may p v q m Gone a b c is f g = absurd is
 hears_ask may p v q m (Contended word) a b c is f g = passes_on may (Look ∷ []) (Abort ∷ []) a b c f g
 
-pub hears_take : {G : Type 0} (may : G → List Point → Type 0) (p v q : RouteView) (m : ℕ) (r : AbortAnswer) (a b c : G) → TakesOut v q m r → Passes may (Look ∷ []) a b → Passes may (Abort ∷ []) b c → HearsAbort may p q r a c
+pub hears_take : {G : Type 0} (may : G → List Point → Type 0) (p v q : RouteView) (m : ℕ) (r : AbortOutcome) (a b c : G) → TakesOut v q m r → Passes may (Look ∷ []) a b → Passes may (Abort ∷ []) b c → HearsAbort may p q r a c
 hears_take may p v q m Aborted a b c is f g = passes_on may (Look ∷ []) (Abort ∷ []) a b c f g
 hears_take may p v q m Asked a b c is f g = absurd is
 hears_take may p v q m Gone a b c is f g = absurd is

@@ -20,3 +20,4 @@ pub mod Aborting
 pub mod BusKeeps
 pub mod Readying
 pub mod Gone
+pub mod Answering

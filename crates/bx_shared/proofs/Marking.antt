@@ -1,7 +1,7 @@
 -- What the words show where a request's status changes, or where it leaves; and what the seats of routes then know.
-use Rattle.std.proofs.Common.{◌≡◌, ◌≢◌, ℕ, zero, suc, ◌+◌, ◌*◌, ◌<◌, ◌≤◌, ◌⊎◌, inl, inr, ⊎_elim, cond, List, [], ◌∷◌, ◌++◌, length, get_or, set, refl, sym, ap, ◌∙◌, subst, arith, eq-eqb, ne_eqb, length-set, Some, None, Bool, true, false}
+use Rattle.std.proofs.Common.{◌≡◌, ℕ, zero, suc, ◌+◌, ◌<◌, cond, List, [], ◌∷◌, ◌++◌, length, get_or, set, refl, sym, ap, ◌∙◌, subst, arith, eq-eqb, ne_eqb, length-set, Some, None, Bool, true, false}
 use Rattle.std.specs.List.{remove}
-use Rattle.std.proofs.lemmas.List.{get_or-set_same, get_or-set_other}
+use Rattle.std.proofs.lemmas.List.{get_or-set_same}
 use mathlib.Core.Logic.{dite}
 use native.Mathlib.Decide.{ℕ_discrete}
 use Rattle.bx_core.specs.declared.status.Status.{Status}
@@ -9,16 +9,16 @@ use Rattle.bx_core.specs.declared.waiting.Waiting.{Waiting}
 use Rattle.bx_core.specs.Lists.{Each, Has}
 use Rattle.bx_core.specs.States.{State, RouteLists, no_lists, claim_of, lists_of, is_at}
 use Rattle.bx_core.specs.Steps.{with_waiting, without}
-use Rattle.bx_core.specs.Law.{Law, IsInPlace, count_at, count_of_claim}
-use Rattle.bx_core.proofs.Words.{each-append, each_more, each_here, each-drop, each-replace}
-use Rattle.bx_core.proofs.Queues.{Split, marked}
+use Rattle.bx_core.specs.Law.{Law, count_at, count_of_claim}
+use Rattle.bx_core.proofs.Words.{each_more, each-drop, each-replace}
+use Rattle.bx_core.proofs.Queues.{marked}
 use Rattle.bx_core.proofs.Found.{IsFound, at_of}
 use Rattle.bx_words.specs.Lanes.{lane_of, rest_of, LaneSet, IsOlder}
 use Rattle.bx_shared.specs.declared.route_view.RouteView.{RouteView}
 use Rattle.bx_shared.specs.Marks.{claim_lane, waiting_lane, lane_by, count_requests, rest_by}
 use Rattle.bx_shared.specs.Shown.{AreOrdered, IsPaid, Shows, IsKnown, Fits}
 use Rattle.bx_shared.proofs.Reading.{waiting_lane-none}
-use Rattle.bx_shared.proofs.Orders.{AreApart, ordered, none_there}
+use Rattle.bx_shared.proofs.Orders.{ordered}
 use Rattle.bx_shared.proofs.Showing.{aside, heads_aside, paid_on, small_mailboxes, apart_queue}
 
 -- one request of a list, by the mailbox that it is in

@@ -1,5 +1,5 @@
 -- What the bus's seat knows after its calls.
-use Rattle.std.proofs.Common.{◌≡◌, ◌≢◌, ℕ, ◌+◌, ◌*◌, ◌/◌, ◌%◌, ◌<◌, List, [], ◌∷◌, length, get_or, refl, sym, ap, ◌∙◌, subst, arith, Option, Some, None}
+use Rattle.std.proofs.Common.{◌≡◌, ℕ, ◌/◌, ◌%◌, ◌<◌, [], ◌∷◌, get_or, refl, sym, ap, ◌∙◌, subst, arith, Option, Some, None}
 use Rattle.std.specs.Prelude.{IfSome}
 use Rattle.std.proofs.lemmas.List.{get_or-set_other}
 use Rattle.bx_core.specs.TxBus.{Item}
@@ -8,8 +8,8 @@ use Rattle.bx_words.specs.Orders.{IsLeastOf}
 use Rattle.bx_words.specs.Payloads.{ArePacked}
 use Rattle.bx_words.proofs.Cases.{of_mailboxes}
 use Rattle.bx_shared.specs.declared.bus_view.BusView.{BusView}
-use Rattle.bx_shared.specs.BusSteps.{HasKey, IsLeastRead, GoesNext, IsStarted, IsHeadSent, AreBytesSent, bus_looked, bus_started, head_read}
-use Rattle.bx_shared.specs.Calls.{HasReadHeads, Began}
+use Rattle.bx_shared.specs.BusSteps.{HasKey, GoesNext, IsStarted, IsHeadSent, AreBytesSent, bus_looked, bus_started, head_read}
+use Rattle.bx_shared.specs.Calls.{Began}
 
 -- what holds of a value holds of another that follows from it
 pub if_some_more : {A : Type 0} (o : Option A) (P Q : A → Type 0) → ((x : A) → P x → Q x) → IfSome o P → IfSome o Q
@@ -59,4 +59,4 @@ module _ (b : BusView) (word written m : ℕ) (d : BusView) (st : IsStarted (bus
       let same : st.item ≡ item = λ k. (sym r k, sym number k, sym frame k) in
       let whole : e ≡ head_read (bus_started (bus_looked b word) word written m st.item) m head = is ∙ ap (λ x. head_read x m head) st.is in
       subst (λ (x : Item). Began b e x) same (subst (λ (x : BusView). Began b x st.item) (sym whole)
-      (record { idle = st.idle; sends = refl; started = refl; done = refl; reaped = refl; reaps = refl; looks = refl; won = record { exchanges = refl; found = refl } }))
+      (record { idle = st.idle; undone = record { unsent = st.undone.unsent; unreaped = st.undone.unreaped }; sends = refl; started = refl; done = refl; reaped = refl; reaps = refl; looks = refl; won = record { exchanges = refl; found = refl } }))

@@ -1,5 +1,5 @@
 -- The steps by which the bus's seat looks, reads payload words and schedules keep the rule.
-use Rattle.std.proofs.Common.{◌≡◌, ℕ, zero, suc, ◌+◌, ◌-◌, ◌*◌, ◌%◌, ◌<◌, ◌≤◌, ◌⊎◌, inl, inr, ⊎_elim, cond, nat_lt, nat_le, ◌==◌, ◌&&◌, ◌||◌, List, [], ◌∷◌, ◌++◌, length, get_or, set, refl, sym, ap, ◌∙◌, subst, arith, eq-eqb, lt-ltb, le-leb, length-set, Option, Some, None, Ok, Bool, true, false}
+use Rattle.std.proofs.Common.{◌≡◌, ℕ, suc, ◌+◌, ◌*◌, ◌%◌, ◌<◌, ◌≤◌, ◌⊎◌, inl, inr, ⊎_elim, nat_lt, nat_le, ◌==◌, ◌&&◌, ◌||◌, List, [], ◌∷◌, ◌++◌, length, get_or, set, refl, sym, ap, ◌∙◌, subst, arith, eq-eqb, lt-ltb, le-leb, length-set, Option, Some, None, Bool, true, false}
 use Rattle.std.specs.Prelude.{option_map}
 use Rattle.std.specs.List.{find, list_all, slice_index_or}
 use Rattle.std.proofs.lemmas.List.{get_or-set_same, get_or-set_other, get_or_past}
@@ -14,7 +14,7 @@ use Rattle.bx_core.specs.declared.status.Status.TheVariants.{Pending, Scheduled}
 use Rattle.bx_core.specs.declared.waiting.Waiting.{Waiting}
 use Rattle.bx_core.specs.declared.event.Event.TheVariants.{Schedule}
 use Rattle.bx_core.specs.Lists.{Each, Has}
-use Rattle.bx_core.specs.States.{State, at_mailbox, place_of, on_bus, is_pending, is_transmitting}
+use Rattle.bx_core.specs.States.{State, at_mailbox, on_bus, is_pending, is_transmitting}
 use Rattle.bx_core.specs.Priority.{comes_before, goes_before, goes_first, is_next_by, is_next}
 use Rattle.bx_core.specs.Steps.{with_waiting}
 use Rattle.bx_core.specs.Law.{Law}
@@ -28,14 +28,14 @@ use Rattle.bx_core.proofs.Leads.{leads-schedule}
 use Rattle.bx_core.proofs.Reaches.{law_of}
 use Rattle.bx_core.proofs.Sending.{pending_idle}
 use Rattle.bx_core.proofs.Standing.{mark-bus}
-use Rattle.bx_words.specs.Lanes.{lane_of, mark_of, rest_of, LaneSet, IsRequested, IsOlder}
-use Rattle.bx_words.specs.Orders.{IsOldest, GoesBefore}
+use Rattle.bx_words.specs.Lanes.{lane_of, mark_of, LaneSet, IsRequested, IsOlder}
+use Rattle.bx_words.specs.Orders.{IsOldest}
 use Rattle.bx_words.specs.Payloads.{IsHead, IsHeadOf, bytes_word}
 use Rattle.bx_shared.specs.declared.route_view.RouteView.{RouteView}
 use Rattle.bx_shared.specs.declared.bus_view.BusView.{BusView}
-use Rattle.bx_shared.specs.Marks.{mark_by, lane_by, rest_by, count_requests}
+use Rattle.bx_shared.specs.Marks.{mark_by, rest_by, count_requests}
 use Rattle.bx_shared.specs.Shown.{AreOrdered, IsPaid, Shows, count_in, AreHeads, FitsBus, IsKept, IsKeptAs, IsEvent, past_of}
-use Rattle.bx_shared.specs.BusSteps.{HasKey, IsLeastRead, GoesNext, IsHeadSent, AreBytesSent, bus_looked, bus_tried, head_read}
+use Rattle.bx_shared.specs.BusSteps.{IsLeastRead, GoesNext, IsHeadSent, AreBytesSent, bus_looked, bus_tried, head_read}
 use Rattle.bx_shared.proofs.Reading.{within, status_in, status_back, same_request}
 use Rattle.bx_shared.proofs.Orders.{AreApart, apart_first, older_once}
 use Rattle.bx_shared.proofs.Showing.{apart_queue, small_mailboxes}
@@ -103,8 +103,7 @@ reads_head txfp t k id m b rs me small =
     let s = k.core in
     let ws = t.words in
     let head = get_or ws (1 + 2 * m) 0 in
-    let P : BusView → Waiting → Type 0 = λ c w. (x : ℕ) → slice_index_or c.heads w.mailbox None ≡ Some x → IsHeadOf w.frame w.number x in
-    (
+    let P : BusView → Waiting → Type 0 = λ c w. (x : ℕ) → slice_index_or c.heads w.mailbox None ≡ Some x → IsHeadOf w.frame w.number x in (
       bus_stays txfp t k id (1 + 2 * m) b (head_read b m head) rs me (λ f. record {
         stands = record { started_known = f.stands.started_known; done_is = f.stands.done_is; reaped_is = f.stands.reaped_is };
         reaped_known = f.reaped_known;
@@ -166,18 +165,18 @@ first_by_key ws s w b sh law by heads has least =
     λ x h small. let r = least.read x.mailbox small (lanes_hold ws s x sh law h).1 in r.key_is x.frame x.number (each_of P s.queue x known h r.head r.read) in
     let small = small_mailboxes s law in
     all_of (λ x. is_pending x.status && goes_before w x) s.queue (each_all (λ x. (is_pending x.status && goes_before w x) ≡ true) s.queue s.queue (λ x h.
-      let there = each_of (λ (y : Waiting). y.mailbox < 3) s.queue x small h in
-      let here = each_of (λ (y : Waiting). y.mailbox < 3) s.queue w small has in
-      let l = lanes_hold ws s x sh law h in
-      let st : x.status ≡ Pending = sym (status_back x.status x.abort_asked) ∙ ap status_in (sym l.0 ∙ least.pending x.mailbox there l.1) in
-      ap (λ c. c && goes_before w x) (pending_is x.status st) ∙ before_is (key_of w.frame) w.mailbox (key_of x.frame) x.mailbox (dite (ℕ_discrete x.mailbox w.mailbox)
-      (λ e. let one : (y : Waiting) → Has s.queue y → at_mailbox y.mailbox s.queue ≡ Some y = λ y has. has-at_mailbox s.queue y has (let m = law.apart y.mailbox in omega arith) in
-      let same : x ≡ w = same_request x w (sym (one x h) ∙ ap (λ j. at_mailbox j s.queue) e ∙ one w has) in
-      inr (ap (λ (y : Waiting). key_of y.frame) (sym same), let m : w.mailbox ≡ x.mailbox = sym e in omega arith))
-      (λ n. let kw = key w has here in let kx = key x h there in ⊎_elim
-      (λ (l : get_or least.keys w.mailbox 0 < get_or least.keys x.mailbox 0). inl (omega arith))
-      (λ (t : (get_or least.keys w.mailbox 0 ≡ get_or least.keys x.mailbox 0) × (w.mailbox < x.mailbox)). let y = t.0 in let z = t.1 in inr (omega arith, omega arith))
-      (least.least.least x.mailbox there n l.1)))) (λ x h. h))
+    let there = each_of (λ (y : Waiting). y.mailbox < 3) s.queue x small h in
+    let here = each_of (λ (y : Waiting). y.mailbox < 3) s.queue w small has in
+    let l = lanes_hold ws s x sh law h in
+    let st : x.status ≡ Pending = sym (status_back x.status x.abort_asked) ∙ ap status_in (sym l.0 ∙ least.pending x.mailbox there l.1) in
+    ap (λ c. c && goes_before w x) (pending_is x.status st) ∙ before_is (key_of w.frame) w.mailbox (key_of x.frame) x.mailbox (dite (ℕ_discrete x.mailbox w.mailbox)
+    (λ e. let one : (y : Waiting) → Has s.queue y → at_mailbox y.mailbox s.queue ≡ Some y = λ y has. has-at_mailbox s.queue y has (let m = law.apart y.mailbox in omega arith) in
+    let same : x ≡ w = same_request x w (sym (one x h) ∙ ap (λ j. at_mailbox j s.queue) e ∙ one w has) in
+    inr (ap (λ (y : Waiting). key_of y.frame) (sym same), let m : w.mailbox ≡ x.mailbox = sym e in omega arith))
+    (λ n. let kw = key w has here in let kx = key x h there in ⊎_elim
+    (λ (l : get_or least.keys w.mailbox 0 < get_or least.keys x.mailbox 0). inl (omega arith))
+    (λ (t : (get_or least.keys w.mailbox 0 ≡ get_or least.keys x.mailbox 0) × (w.mailbox < x.mailbox)). let y = t.0 in let z = t.1 in inr (omega arith, omega arith))
+    (least.least.least x.mailbox there n l.1)))) (λ x h. h))
 
 -- the next request by the word may be scheduled
 is_the_next : (ws : List ℕ) (s : State) (w : Waiting) (b : BusView) → Shows ws s → Law s → FitsBus s b → Has s.queue w → IsFound s w → GoesNext b (get_or ws 0 0) w.mailbox → is_next s (at_of s w) w ≡ true

@@ -1,8 +1,8 @@
 -- The steps by which the bus's seat starts a transmission, and by which it ends, keep the rule.
-use Rattle.std.proofs.Common.{◌≡◌, ℕ, ◌+◌, ◌-◌, ◌*◌, ◌%◌, ◌^◌, ◌<◌, ◌≤◌, ◌⊎◌, inl, inr, cond, nat_lt, not, ◌&&◌, List, [], ◌∷◌, ◌++◌, length, map, get_or, set, refl, sym, ap, ◌∙◌, subst, arith, Option, Some, None, Ok, Bool, true, false}
+use Rattle.std.proofs.Common.{◌≡◌, ℕ, ◌+◌, ◌-◌, ◌*◌, ◌%◌, ◌<◌, inl, inr, cond, nat_lt, not, ◌&&◌, List, [], ◌∷◌, ◌++◌, length, map, get_or, set, refl, sym, ap, ◌∙◌, subst, arith, Option, Some, None, Bool, true, false}
 use Rattle.std.specs.Prelude.{option_map, option_to_list}
 use Rattle.std.specs.List.{find}
-use Rattle.std.proofs.lemmas.List.{append-nil, length-set}
+use Rattle.std.proofs.lemmas.List.{length-set}
 use mathlib.Core.Option.{some}
 use lib.ListN.{get_elem?}
 use Rattle.atomic_table.specs.Table.{keeps, stepped}
@@ -11,30 +11,31 @@ use Rattle.bx_core.specs.declared.status.Status.TheVariants.{Pending, Scheduled,
 use Rattle.bx_core.specs.declared.waiting.Waiting.{Waiting}
 use Rattle.bx_core.specs.declared.event.Event.TheVariants.{Start, Complete, Fail, Reap}
 use Rattle.bx_core.specs.Lists.{Each, Has}
-use Rattle.bx_core.specs.States.{State, RouteLists, no_lists, lists_of, on_bus, in_turn, is_pending, is_scheduled, is_transmitting}
-use Rattle.bx_core.specs.Steps.{after, Leads, with_waiting, without, done_lists, reaped_lists, may_start, may_reap}
-use Rattle.bx_core.specs.Law.{Law, IsInPlace, Reached}
-use Rattle.bx_core.specs.TxBus.{Item, label_of, BusPast, after_complete, after_start, after_fail}
+use Rattle.bx_core.specs.States.{State, RouteLists, no_lists, lists_of, on_bus, is_scheduled, is_transmitting}
+use Rattle.bx_core.specs.Steps.{Leads, with_waiting, without, done_lists, reaped_lists, may_start, may_reap}
+use Rattle.bx_core.specs.Law.{Law, IsInPlace}
+use Rattle.bx_core.specs.TxBus.{Item, label_of, after_complete}
 use Rattle.bx_core.specs.PlainMail.{item_of, sending, Starts, Completes}
 use Rattle.bx_core.specs.Stands.{BusStands, entry_on_bus}
 use Rattle.bx_core.proofs.Words.{has-right, each-append, each_more, each-drop, each-replace, each_of, set-each}
 use Rattle.bx_core.proofs.Queues.{marked}
-use Rattle.bx_core.proofs.Found.{IsFound, IsAlone, at_of, found, find-has, find-is, is_alone, scheduled_alone, sent_alone, transmits, goes-start, goes-complete, goes-fail, goes-reap}
+use Rattle.bx_core.proofs.Found.{IsFound, at_of, find-has, find-is, is_alone, scheduled_alone, sent_alone, transmits, goes-start, goes-complete, goes-fail, goes-reap}
 use Rattle.bx_core.proofs.Leads.{leads-start, leads-complete, leads-fail, leads-reap}
-use Rattle.bx_core.proofs.Reaches.{law_of, leads-reached, scheduled_busy, transmitting_busy}
-use Rattle.bx_core.proofs.Sending.{bus_of, bus-there, bus-idle, item_in, scheduled_idle, sending-yes}
+use Rattle.bx_core.proofs.Reaches.{law_of, leads-reached, scheduled_busy}
+use Rattle.bx_core.proofs.Sending.{bus_of, bus-there, bus-idle, item_in, scheduled_idle}
 use Rattle.bx_core.proofs.Standing.{mark-bus}
-use Rattle.bx_core.proofs.BusSide.{route_there, known_there, idle_without, same_requested, reaped-bus, starts-bus, starts-idle, starts-sends, completes-bus, completes-idle}
+use Rattle.bx_core.proofs.BusSide.{known_there, idle_without, same_requested, reaped-bus, starts-bus, starts-idle, starts-sends, completes-bus, completes-idle}
+use Rattle.bx_core.proofs.Undone.{starts_undone}
 use Rattle.bx_words.specs.Lanes.{lane_of, mark_of, IsTransmitting, LaneSet}
 use Rattle.bx_shared.specs.declared.route_view.RouteView.{RouteView}
 use Rattle.bx_shared.specs.declared.bus_view.BusView.{BusView}
 use Rattle.bx_shared.specs.Marks.{mark_by, lane_by}
-use Rattle.bx_shared.specs.Shown.{Shows, Fits, FitsBus, IsKnown, IsToReap, IsKept, IsKeptAs, IsEvent, past_of}
+use Rattle.bx_shared.specs.Shown.{Shows, FitsBus, IsKnown, IsKept, IsKeptAs, IsEvent, past_of}
 use Rattle.bx_shared.specs.BusSteps.{IsStarted, bus_started, bus_completed, bus_failed, bus_reaped}
-use Rattle.bx_shared.proofs.Reading.{same_request, asked_back}
+use Rattle.bx_shared.proofs.Reading.{same_request}
 use Rattle.bx_shared.proofs.Marking.{shows_mark, shows_leave, fits_same}
 use Rattle.bx_shared.proofs.Looking.{lane_of_request}
-use Rattle.bx_shared.proofs.Finding.{IsThere, is_there, status_of, asked_by, find-there, turn_there, turn_passes, IsSent, is_sent, some_item, no_item, none_sent}
+use Rattle.bx_shared.proofs.Finding.{is_there, status_of, asked_by, find-there, turn_there, turn_passes, is_sent, some_item, no_item, none_sent}
 use Rattle.bx_shared.proofs.Moves.{St}
 use Rattle.bx_shared.proofs.BusMoves.{with_bus, bus_moves, bus_knows, heads_mark, heads_leave}
 
@@ -111,10 +112,9 @@ starts txfp t k id m new b rs me small mark none ls =
     let go : Starts s (Some item) next = (w, turn, refl, gone) in
     let on : on_bus next ≡ Some x = ap bus_of (alone.split.set x) ∙ bus-there alone.split.before alone.split.behind x alone.before refl in
     let d = bus_started b word new m item in
-    let set_to : LaneSet word w.mailbox (lane_of word m + 8) new = subst (λ (j : ℕ). LaneSet word j (lane_of word m + 8) new) (sym g.mailbox_is) ls in
-    (
+    let set_to : LaneSet word w.mailbox (lane_of word m + 8) new = subst (λ (j : ℕ). LaneSet word j (lane_of word m + 8) new) (sym g.mailbox_is) ls in (
       d,
-      record { item = item; lane = let o = g.owner in let q = mark in omega arith; idle = sym fit.sends ∙ starts-idle s next (Some item) law go; is = refl },
+      record { item = item; lane = let o = g.owner in let q = mark in omega arith; idle = sym fit.sends ∙ starts-idle s next (Some item) law go; undone = starts_undone s next (Some item) (past_of b) law go fit.stands; is = refl },
       subst (λ (j : ℕ). IsEvent txfp s (Start j) (stepped t 0 new id [] (with_bus d rs) keeps)) g.mailbox_is (record {
         next = next;
         after_is = gone;

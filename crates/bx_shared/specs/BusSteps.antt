@@ -3,11 +3,12 @@ use Rattle.std.specs.Prelude.{◌≡◌, ℕ, ◌+◌, ◌*◌, ◌%◌, ◌<◌
 use Rattle.std.specs.List.{slice_index_or}
 use Rattle.can_frame.specs.Frames.{FrameValue}
 use Rattle.can_frame.specs.Keys.{key_of}
-use Rattle.bx_core.specs.TxBus.{Item}
+use Rattle.bx_core.specs.TxBus.{Item, IsUndone}
 use Rattle.bx_words.specs.Lanes.{lane_of, mark_of, rest_of, IsRequested, IsTransmitting}
 use Rattle.bx_words.specs.Orders.{IsOldest, IsLeastOf}
 use Rattle.bx_words.specs.Payloads.{IsHead, IsHeadOf, bytes_word}
 use Rattle.bx_shared.specs.declared.bus_view.BusView.{BusView}
+use Rattle.bx_shared.specs.Shown.{past_of}
 use Rattle.bx_shared.specs.Steps.{Tells, bus_seat, bus_of, mailbox_said}
 
 -- no mailbox's head was read
@@ -43,11 +44,12 @@ bus_failed b word = record b { sends = None; reaps = if nat_lt 15 (mark_of word 
 abbrev pub bus_reaped : BusView → BusView
 bus_reaped b = record b { reaped = b.reaped ++ option_to_list b.reaps; reaps = None }
 
--- The exchange started this: it was scheduled under this route, and nothing was transmitting.
+-- The exchange started this: it was scheduled under this route, it was neither sent nor reaped, and nothing was transmitting.
 pub record IsStarted (b d : BusView) (mailbox word written : ℕ) : Type 0 where
   pub item : Item
   pub lane : lane_of word mailbox ≡ 7 + 32 * item.0
   pub idle : b.sends ≡ None
+  pub undone : IsUndone (past_of b) item
   pub is : d ≡ bus_started b word written mailbox item
 
 -- the head of this mailbox was read, and this is the arbitration key of its frame

@@ -1,17 +1,18 @@
 -- What the calls of the bus's seat, and the aborts of a route's, are to their callers.
-use Rattle.std.specs.Prelude.{◌≡◌, ◌⊎◌, ℕ, ◌+◌, ◌*◌, ◌/◌, ◌%◌, ◌<◌, Option, Some, None, List, [], ◌∷◌, ◌++◌, Bool, true, false, length, slice_index}
+use Rattle.std.specs.Prelude.{◌≡◌, ◌⊎◌, ℕ, ◌+◌, ◌%◌, ◌<◌, Some, None, List, [], ◌∷◌, ◌++◌, Bool, true, false, length}
 use Rattle.bx_core.specs.declared.point.Point.{Point}
 use Rattle.bx_core.specs.declared.point.Point.TheVariants.{Look, Abort}
 use Rattle.bx_core.specs.Gate.{Passes}
 use Rattle.bx_core.specs.Lists.{Has}
-use Rattle.bx_core.specs.TxBus.{Item}
-use Rattle.bx_words.specs.Lanes.{lane_of, mark_of, rest_of, IsRequested}
+use Rattle.bx_core.specs.TxBus.{Item, IsUndone}
+use Rattle.bx_words.specs.Lanes.{mark_of, rest_of, IsRequested}
 use Rattle.bx_words.specs.Orders.{IsOldest}
 use Rattle.bx_shared.specs.declared.route_view.RouteView.{RouteView}
 use Rattle.bx_shared.specs.declared.bus_view.BusView.{BusView}
-use Rattle.bx_shared.specs.declared.abort_answer.AbortAnswer.{AbortAnswer}
-use Rattle.bx_shared.specs.declared.abort_answer.AbortAnswer.TheVariants.{Aborted, Asked, Gone, Contended}
+use Rattle.bx_shared.specs.declared.abort_outcome.AbortOutcome.{AbortOutcome}
+use Rattle.bx_shared.specs.declared.abort_outcome.AbortOutcome.TheVariants.{Aborted, Asked, Gone, Contended}
 use Rattle.bx_shared.specs.Ended.{is_in}
+use Rattle.bx_shared.specs.Shown.{past_of}
 use Rattle.bx_shared.specs.Steps.{missed, aborted_at, asked_at}
 use Rattle.bx_shared.specs.BusSteps.{bus_failed, bus_reaped}
 use Rattle.bx_shared.specs.Seats.{SameFilling, BusPlace}
@@ -73,9 +74,10 @@ pub record Readied (b d : BusView) (result : Bool) : Type 0 where
   pub yes : result ≡ true → (NoExchange b d × HasScheduled d.seen) ⊎ (Won b d × HasScheduled d.written)
   pub no : result ≡ false → (NoExchange b d × NoneScheduled d.seen × NoneToSchedule d.seen) ⊎ Lost b d
 
--- This transmission started: nothing was transmitting, started grew by just it. The seat looked once and its one exchange was made.
+-- This transmission started: nothing was transmitting, it was neither sent nor reaped, and started grew by just it. The seat looked once and its one exchange was made.
 pub record Began (b d : BusView) (item : Item) : Type 0 where
   pub idle : b.sends ≡ None
+  pub undone : IsUndone (past_of b) item
   pub sends : d.sends ≡ Some item
   pub started : d.started ≡ b.started ++ item ∷ []
   pub done : d.done ≡ b.done
@@ -125,7 +127,7 @@ pub record IsMissed (p q : RouteView) (word : ℕ) : Type 0 where
   pub same : SameFilling p.route q.seen word
 
 -- what an answer to an abort says of the seat before and after
-abbrev pub Answered : RouteView → RouteView → ℕ → AbortAnswer → Type 0
+abbrev pub Answered : RouteView → RouteView → ℕ → AbortOutcome → Type 0
 Answered p q number Aborted = (q.aborted ≡ p.aborted ++ number ∷ []) × (q.asked ≡ p.asked)
 Answered p q number Asked = (q.aborted ≡ p.aborted) × AsksOrWas p q number
 Answered p q number Gone = (q.aborted ≡ p.aborted) × (q.asked ≡ p.asked) × Has q.ended number
@@ -138,20 +140,20 @@ pub record IsMissedBy (p q : RouteView) (word : ℕ) : Type 0 where
   pub same : SameFilling p.route p.seen word
 
 -- the same where the request is taken out of its mailbox, and where it is asked to end
-abbrev pub TakesOut : RouteView → RouteView → ℕ → AbortAnswer → Type 0
+abbrev pub TakesOut : RouteView → RouteView → ℕ → AbortOutcome → Type 0
 TakesOut p q mailbox Aborted = q ≡ aborted_at p mailbox
 TakesOut p q mailbox Asked = ⊥
 TakesOut p q mailbox Gone = ⊥
 TakesOut p q mailbox (Contended word) = IsMissedBy p q word
 
-abbrev pub AsksNow : RouteView → RouteView → ℕ → AbortAnswer → Type 0
+abbrev pub AsksNow : RouteView → RouteView → ℕ → AbortOutcome → Type 0
 AsksNow p q mailbox Aborted = ⊥
 AsksNow p q mailbox Asked = q ≡ asked_at p mailbox
 AsksNow p q mailbox Gone = ⊥
 AsksNow p q mailbox (Contended word) = IsMissedBy p q word
 
 -- the points that an abort passes: it looks, and where the number is in a mailbox and its abort was not asked, it tries to abort
-abbrev pub HearsAbort : {G : Type 0} → (G → List Point → Type 0) → RouteView → RouteView → AbortAnswer → G → G → Type 0
+abbrev pub HearsAbort : {G : Type 0} → (G → List Point → Type 0) → RouteView → RouteView → AbortOutcome → G → G → Type 0
 HearsAbort may_have_heard p q Aborted old new = Passes may_have_heard (Look ∷ Abort ∷ []) old new
 HearsAbort may_have_heard p q Asked old new = ((q.asked ≡ p.asked) × Passes may_have_heard (Look ∷ []) old new) ⊎ Passes may_have_heard (Look ∷ Abort ∷ []) old new
 HearsAbort may_have_heard p q Gone old new = Passes may_have_heard (Look ∷ []) old new

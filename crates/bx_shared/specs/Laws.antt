@@ -38,7 +38,6 @@ pub record RouteSteps (txfp : Bool) (t : Table Said View) (core : State) (seat :
   pub request : (new : ℕ) (e : Entry) → p.claims ≡ true → p.stored ≡ 2 → ArePacked e.frame e.number p.head p.bytes → last_number p.requested < e.number →
       LaneRequested (control_of t) p.mailbox (filling p.route + 2) new → IsEvent txfp core (Request p.route p.mailbox e.number e.frame) (stepped_to t 0 new seat (requested p e))
   pub withdraw : (new : ℕ) → p.claims ≡ true → LaneSet (control_of t) p.mailbox 0 new → IsEvent txfp core (Withdraw p.route p.mailbox) (stepped_to t 0 new seat (withdrawn p))
-
   pub abort : (mailbox new : ℕ) → mailbox < 3 → p.route < 8 → p.claims ≡ false → (mark_of (control_of t) mailbox ≡ 3) ⊎ (mark_of (control_of t) mailbox ≡ 7) →
       lane_of (control_of t) mailbox / 32 ≡ p.route → LaneSet (control_of t) mailbox 0 new → IsEvent txfp core (Abort p.route mailbox) (stepped_to t 0 new seat (aborted_at p mailbox))
   pub ask : (mailbox new : ℕ) → mailbox < 3 → p.route < 8 → p.claims ≡ false → mark_of (control_of t) mailbox ≡ 15 →

@@ -6,4 +6,5 @@ pub mod BusSteps
 pub mod Seats
 pub mod SeatParts
 pub mod Calls
+pub mod Sides
 pub mod Laws

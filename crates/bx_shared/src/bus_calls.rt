@@ -14,6 +14,7 @@ use can_frame::Frame;
 
 /// The low five bits of a lane whose request is pending, and of one whose request is scheduled.
 const PENDING: u64 = 3;
+
 const SCHEDULED: u64 = 7;
 
 /// A mailbox whose request is scheduled and was not asked to end.

@@ -9,7 +9,7 @@ ghost use Rattle.bx_shared.specs.Steps.{seat_of, part_of, IsOwn};
 ghost use Rattle.bx_shared.specs.Seats.{IsAt};
 ghost use Rattle.bx_shared.specs.Calls.{Stays, Answered, TakesOut, AsksNow, HearsAbort};
 
-use crate::abort_answer::AbortAnswer;
+use crate::abort_outcome::AbortOutcome;
 use crate::route_steps::{Seat, Words, abort, ask, look};
 use bx_core::{Gate, Point};
 use bx_words::{lane, lane_mask, with_abort};
@@ -50,7 +50,7 @@ fn take_out<G: Gate>(
     seen: u64,
     mailbox: u8,
     gate: &mut G,
-) -> AbortAnswer
+) -> AbortOutcome
     requires table { IsAt words.now.shared.table_id seat.old.table_id }
     requires route { seat.old.me ≡ seat_of (part_of seat.old.me) }
     requires idle { ((part_of seat.old.me).route < 8) × ((part_of seat.old.me).claims ≡ false) }
@@ -66,9 +66,9 @@ fn take_out<G: Gate>(
     gate.pass(Point::Abort);
     let found = abort(words, seat, mailbox, seen, seen & lane_mask(mailbox));
     if found == seen {
-        AbortAnswer::Aborted
+        AbortOutcome::Aborted
     } else {
-        AbortAnswer::Contended(found)
+        AbortOutcome::Contended(found)
     }
 }
 
@@ -79,7 +79,7 @@ fn ask_end<G: Gate>(
     seen: u64,
     mailbox: u8,
     gate: &mut G,
-) -> AbortAnswer
+) -> AbortOutcome
     requires table { IsAt words.now.shared.table_id seat.old.table_id }
     requires route { seat.old.me ≡ seat_of (part_of seat.old.me) }
     requires idle { ((part_of seat.old.me).route < 8) × ((part_of seat.old.me).claims ≡ false) }
@@ -95,9 +95,9 @@ fn ask_end<G: Gate>(
     gate.pass(Point::Abort);
     let found = ask(words, seat, mailbox, seen, with_abort(seen, mailbox));
     if found == seen {
-        AbortAnswer::Asked
+        AbortOutcome::Asked
     } else {
-        AbortAnswer::Contended(found)
+        AbortOutcome::Contended(found)
     }
 }
 
@@ -109,7 +109,7 @@ pub(crate) fn end<G: Gate>(
     number: u32,
     tops: &[u32; 3],
     gate: &mut G,
-) -> AbortAnswer
+) -> AbortOutcome
     requires table { IsAt words.now.shared.table_id seat.old.table_id }
     requires route { (seat.old.me ≡ seat_of (part_of seat.old.me)) × ((part_of seat.old.me).route ≡ route) × (route < 8) }
     requires idle { (part_of seat.old.me).claims ≡ false }
@@ -124,11 +124,11 @@ pub(crate) fn end<G: Gate>(
     gate.pass(Point::Look);
     let seen = look(words, seat);
     let Some(mailbox) = place(seen, route, number, tops) else {
-        return AbortAnswer::Gone;
+        return AbortOutcome::Gone;
     };
     let mark = lane(seen, mailbox) % 32;
     if mark > TRANSMITTING {
-        return AbortAnswer::Asked;
+        return AbortOutcome::Asked;
     }
     if mark == TRANSMITTING {
         ask_end(words, seat, seen, mailbox, gate)

@@ -1,10 +1,11 @@
 //! The three transmit mailboxes of a bxCAN controller in seven words that threads share by atomic steps.
 #![tactic(auto)]
 
-mod abort_answer;
+mod abort_outcome;
 mod attempt;
 mod bus_calls;
 mod bus_seat;
+mod bus_side;
 mod bus_steps;
 mod bus_view;
 mod dealing;
@@ -14,12 +15,13 @@ mod mail;
 mod plays;
 mod request_answer;
 mod route_seat;
+mod route_side;
 mod route_steps;
 mod route_view;
 mod said;
 mod view;
 
-pub use crate::abort_answer::AbortAnswer;
+pub use crate::abort_outcome::AbortOutcome;
 pub use crate::bus_seat::BusSeat;
 pub use crate::mail::Mail;
 pub use crate::request_answer::RequestAnswer;

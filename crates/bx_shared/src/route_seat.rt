@@ -4,7 +4,7 @@ ghost use Rattle.bx_core.specs.Steps.{greatest_number, last_number};
 ghost use Rattle.bx_shared.specs.Seats.{Answers, Hears};
 ghost use Rattle.bx_shared.specs.Calls.{Stays, Answered, HearsAbort};
 
-use crate::abort_answer::AbortAnswer;
+use crate::abort_outcome::AbortOutcome;
 use crate::attempt::attempt;
 use crate::ending::end;
 use crate::request_answer::RequestAnswer;
@@ -86,7 +86,7 @@ impl RouteSeat {
     /// it is transmitting, or was asked to end before: it ends sent, or without another try. `Gone` where the number is in no
     /// mailbox: it was sent, aborted or reaped, or never requested. `Contended` where the exchange found another word
     /// than the one looked at: nothing changed. No other request is touched. Takes no memory.
-    pub fn abort<G: Gate>(&mut self, number: u32, gate: &mut G) -> AbortAnswer
+    pub fn abort<G: Gate>(&mut self, number: u32, gate: &mut G) -> AbortOutcome
         requires some { 1 ≤ number }
         requires most { number ≤ last_number self.old.part.requested }
         ensures table { self.new.table ≡ self.old.table }
@@ -94,6 +94,13 @@ impl RouteSeat {
         ensures answer { Answered self.old.part self.new.part number result }
         ensures hears { HearsAbort G.may_have_heard self.old.part self.new.part result gate.old gate.new }
     {
-        end(&self.words, &mut self.seat, self.route, number, &self.tops, gate)
+        end(
+            &self.words,
+            &mut self.seat,
+            self.route,
+            number,
+            &self.tops,
+            gate,
+        )
     }
 }

@@ -1,8 +1,8 @@
 -- The payload words are those of what was started.
-use Rattle.std.proofs.Common.{◌≡◌, ◌/◌, ◌∙◌, ap, refl, sym, subst}
+use Rattle.std.proofs.Common.{◌/◌, ◌∙◌, ap, refl, subst}
 use Rattle.bx_shared.specs.declared.bus_view.BusView.{BusView}
 use Rattle.bx_shared.specs.Steps.{bus_of}
-use Rattle.bx_shared.specs.BusSteps.{IsStarted, bus_looked}
+use Rattle.bx_shared.specs.BusSteps.{IsStarted}
 use Rattle.bx_shared.proofs.Readying.{are_packed, began}
 use Rattle.bx_shared.proofs.bus_calls.begin.Goals as goal
 

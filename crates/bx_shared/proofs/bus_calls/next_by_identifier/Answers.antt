@@ -1,7 +1,6 @@
 -- All three keys were read, each since the look.
 use Rattle.std.proofs.Common.{◌≡◌, ℕ, ◌<◌, ap, ◌∙◌, arith}
 use Rattle.bx_words.specs.Lanes.{mark_of, IsRequested}
-use Rattle.bx_words.specs.Orders.{IsLeastOf}
 use Rattle.bx_words.proofs.Cases.{of_mailboxes}
 use Rattle.bx_shared.specs.declared.bus_view.BusView.{BusView}
 use Rattle.bx_shared.specs.Steps.{bus_of}

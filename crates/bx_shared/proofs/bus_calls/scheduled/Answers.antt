@@ -1,5 +1,5 @@
 -- None of the three mailboxes has it.
-use Rattle.std.proofs.Common.{◌≡◌, ◌%◌, arith}
+use Rattle.std.proofs.Common.{◌≡◌, arith}
 use Rattle.bx_words.specs.Lanes.{mark_of}
 use Rattle.bx_words.proofs.Cases.{of_mailboxes}
 use Rattle.bx_shared.proofs.bus_calls.scheduled.Goals as goal

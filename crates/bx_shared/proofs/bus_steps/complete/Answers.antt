@@ -1,9 +1,7 @@
-use Rattle.std.proofs.Common.{sym, subst, arith, ◌==◌, ◌+◌, ◌*◌, bit_and}
-use mathlib.Core.Option.{none, some}
-use prog.Atomic.{either}
+use Rattle.std.proofs.Common.{sym, subst, arith, bit_and}
+use mathlib.Core.Option.{none}
 use Rattle.atomic_table.specs.Table.{Me, step, Allows}
 use Rattle.bx_shared.specs.declared.said.Said.{Said}
-use Rattle.bx_shared.specs.declared.said.Said.TheVariants.{Mailbox}
 use Rattle.bx_shared.specs.declared.view.View.{View}
 use Rattle.bx_shared.specs.Shown.{IsKept}
 use Rattle.bx_shared.specs.Steps.{bus_of}

@@ -1,5 +1,5 @@
-use Rattle.std.proofs.Common.{sym, subst, arith, ◌==◌, ◌+◌, ◌*◌, bit_and}
-use mathlib.Core.Option.{none, some}
+use Rattle.std.proofs.Common.{sym, subst, arith, ◌==◌}
+use mathlib.Core.Option.{some}
 use prog.Atomic.{either}
 use Rattle.atomic_table.specs.Table.{Me, step, Allows}
 use Rattle.bx_shared.specs.declared.said.Said.{Said}

@@ -1,4 +1,4 @@
-use Rattle.std.proofs.Common.{List, ℕ, ◌-◌, ◌<◌, sym, ap, ◌∙◌, subst, arith, length, []}
+use Rattle.std.proofs.Common.{List, ℕ, ◌-◌, sym, ap, ◌∙◌, subst, arith, length, []}
 use Rattle.atomic_table.specs.Table.{opening as table_start}
 use Rattle.bx_shared.specs.declared.said.Said.{Said}
 use Rattle.bx_shared.specs.declared.bus_view.BusView.{BusView}

@@ -1,11 +1,10 @@
 -- What the look tells of the number, and what the gate heard.
-use Rattle.std.proofs.Common.{◌≡◌, ◌%◌, ◌<◌, refl, sym, ap, subst, inr, arith}
-use Rattle.bx_core.specs.Lists.{Has}
+use Rattle.std.proofs.Common.{◌<◌, refl, sym, ap, subst, inr, arith}
 use Rattle.bx_words.specs.Lanes.{mark_of}
 use Rattle.bx_shared.specs.declared.route_view.RouteView.{RouteView}
 use Rattle.bx_shared.specs.Steps.{part_of}
-use Rattle.bx_shared.specs.Calls.{Answered, AsksOrWas}
-use Rattle.bx_shared.specs.declared.abort_answer.AbortAnswer.TheVariants.{Asked, Gone}
+use Rattle.bx_shared.specs.Calls.{Answered}
+use Rattle.bx_shared.specs.declared.abort_outcome.AbortOutcome.TheVariants.{Asked, Gone}
 use Rattle.bx_shared.proofs.Gone.{is_gone, was_asked, hears_ask, hears_take}
 use Rattle.bx_shared.proofs.ending.end.Goals as goal
 

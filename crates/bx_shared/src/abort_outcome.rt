@@ -1,8 +1,8 @@
 //! How one try to abort a request ended.
 
-/// The answer of a route's seat to one try to abort a request (RM0008, bxCAN, "Abort").
+/// How one try of a route's seat to abort a request ended (RM0008, bxCAN, "Abort").
 #[derive(Clone, Copy, Debug, PartialEq, Eq)]
-pub enum AbortAnswer {
+pub enum AbortOutcome {
     /// The mailbox is empty now: the request will not be sent.
     Aborted,
     /// It is transmitting, or was asked to end before: it ends sent, or without another try.
