@@ -65,6 +65,7 @@ bus_abort s w b law f there asked idle k =
       stands = bus_on s next (past_of b) (same_requested s w x there refl)
           (set-each (λ r (y : RouteLists). (lists_of s r).done ≡ y.done) s.routes w.route x no_lists there refl (λ r n. refl))
           (set-each (λ r (y : RouteLists). (lists_of s r).reaped ≡ y.reaped) s.routes w.route x no_lists there refl (λ r n. refl)) k.stands;
+      priority = k.priority;
       reaped_known = known_on s w x b.reaped there refl k.reaped_known;
       sends = ap (option_map item_of) same ∙ k.sends;
       mailbox = λ y e. k.mailbox y (sym same ∙ e);
@@ -94,6 +95,7 @@ bus_ask s w b law f sends k =
     let z = mark-bus s (at_of s w) x (past_of b) k.stands in
     record {
       stands = record { started_known = z.started_known; done_is = z.done_is; reaped_is = z.reaped_is };
+      priority = k.priority;
       reaped_known = k.reaped_known;
       sends = ap (option_map item_of) on ∙ ap (option_map item_of) (sym was) ∙ k.sends;
       mailbox = λ y e. ap (λ (v : Waiting). v.mailbox) (sym (same_request x y (sym on ∙ e))) ∙ k.mailbox w was;

@@ -23,6 +23,7 @@ use Rattle.bx_shared.proofs.Showing.{length-snoc}
 pub bus_claim : (s : State) (m : ℕ) (owner : Option ℕ) (b : BusView) → FitsBus s b → FitsBus (with_claim s m owner) b
 bus_claim s m owner b f = record {
   stands = record { started_known = f.stands.started_known; done_is = f.stands.done_is; reaped_is = f.stands.reaped_is };
+  priority = f.priority;
   reaped_known = f.reaped_known;
   sends = f.sends;
   mailbox = f.mailbox;
@@ -51,6 +52,7 @@ bus_request s r m n f b there k =
       stands = bus_on s t (past_of b) grows
           (set-each (λ (i : ℕ) (x : RouteLists). (lists_of s i).done ≡ x.done) s.routes r l no_lists there refl (λ i ne. refl))
           (set-each (λ (i : ℕ) (x : RouteLists). (lists_of s i).reaped ≡ x.reaped) s.routes r l no_lists there refl (λ i ne. refl)) k.stands;
+      priority = k.priority;
       reaped_known = each_more (λ (x : Item). Has (lists_of s x.0).requested (entry_on_bus x)) (λ (x : Item). Has (lists_of t x.0).requested (entry_on_bus x)) b.reaped
           (λ x h. grows x.0 (entry_on_bus x) h) k.reaped_known;
       sends = ap (option_map item_of) on_bus ∙ k.sends;

@@ -14,26 +14,26 @@ openings-next : (n : ℕ) → 0 < n → openings n ≡ opening (8 - n) ∷ openi
 openings-next zero h = absurd (omega arith)
 openings-next (suc n) h = λ i. opening ((let e : 7 - n ≡ 8 - suc n = omega arith in e) i) ∷ openings ((let e : n ≡ suc n - 1 = omega arith in e) i)
 
-next_seat : (me : Me Said View) (n : ℕ) → 0 < n → me ≡ bus_seat opening_bus (openings n) → me ≡ bus_seat opening_bus (opening (8 - n) ∷ openings (n - 1))
-next_seat me n some e = e ∙ ap (bus_seat opening_bus) (openings-next n some)
+next_seat : (by : Bool) (me : Me Said View) (n : ℕ) → 0 < n → me ≡ bus_seat (opening_bus by) (openings n) → me ≡ bus_seat (opening_bus by) (opening (8 - n) ∷ openings (n - 1))
+next_seat by me n some e = e ∙ ap (bus_seat (opening_bus by)) (openings-next n some)
 
-pub cuts : (txfp : Bool) (id : ℕ) (me : Me Said View) (n : ℕ) → 0 < n → me ≡ bus_seat opening_bus (openings n) → Splits {S = Said} (IsKept txfp) id me.0 (left_of me.0) (right_of me.0)
-cuts txfp id me n some e = subst (λ (m : Me Said View). Splits {S = Said} (IsKept txfp) id m.0 (left_of m.0) (right_of m.0)) (sym (next_seat me n some e))
-    (splits-keep txfp id (opening_bus ∷ []) (opening (8 - n)) (openings (n - 1)))
+pub cuts : (txfp by : Bool) (id : ℕ) (me : Me Said View) (n : ℕ) → 0 < n → me ≡ bus_seat (opening_bus by) (openings n) → Splits {S = Said} (IsKept txfp) id me.0 (left_of me.0) (right_of me.0)
+cuts txfp by id me n some e = subst (λ (m : Me Said View). Splits {S = Said} (IsKept txfp) id m.0 (left_of m.0) (right_of m.0)) (sym (next_seat by me n some e))
+    (splits-keep txfp id (opening_bus by ∷ []) (opening (8 - n)) (openings (n - 1)))
 
-pub cut_left : (me next : Me Said View) (n : ℕ) → 0 < n → me ≡ bus_seat opening_bus (openings n) → next ≡ (left_of me.0, me.1) → next ≡ bus_seat opening_bus (openings (n - 1))
-cut_left me next n some e f = f ∙ ap (λ (m : Me Said View). (left_of m.0, m.1)) (next_seat me n some e)
+pub cut_left : (by : Bool) (me next : Me Said View) (n : ℕ) → 0 < n → me ≡ bus_seat (opening_bus by) (openings n) → next ≡ (left_of me.0, me.1) → next ≡ bus_seat (opening_bus by) (openings (n - 1))
+cut_left by me next n some e f = f ∙ ap (λ (m : Me Said View). (left_of m.0, m.1)) (next_seat by me n some e)
 
-pub cut_right : (me next : Me Said View) (n : ℕ) → 0 < n → me ≡ bus_seat opening_bus (openings n) → next ≡ (right_of me.0, []) → next ≡ seat_of (opening (8 - n))
-cut_right me next n some e f = f ∙ ap (λ (m : Me Said View). (right_of m.0, [])) (next_seat me n some e)
+pub cut_right : (by : Bool) (me next : Me Said View) (n : ℕ) → 0 < n → me ≡ bus_seat (opening_bus by) (openings n) → next ≡ (right_of me.0, []) → next ≡ seat_of (opening (8 - n))
+cut_right by me next n some e f = f ∙ ap (λ (m : Me Said View). (right_of m.0, [])) (next_seat by me n some e)
 
 length-openings : (n : ℕ) → length (openings n) ≡ n
 length-openings zero = refl
 length-openings (suc n) = ap suc (length-openings n)
 
 -- the bus's seat as it is left
-pub left_alone : (me : Me Said View) (n : ℕ) → me ≡ bus_seat opening_bus (openings n) → (me ≡ bus_seat (bus_of me) me.0.routes) × (me.0.routes ≡ openings (length me.0.routes))
-left_alone me n e = subst (λ (m : Me Said View). (m ≡ bus_seat (bus_of m) m.0.routes) × (m.0.routes ≡ openings (length m.0.routes))) (sym e) (refl, ap openings (sym (length-openings n)))
+pub left_alone : (by : Bool) (me : Me Said View) (n : ℕ) → me ≡ bus_seat (opening_bus by) (openings n) → (me ≡ bus_seat (bus_of me) me.0.routes) × (me.0.routes ≡ openings (length me.0.routes))
+left_alone by me n e = subst (λ (m : Me Said View). (m ≡ bus_seat (bus_of m) m.0.routes) × (m.0.routes ≡ openings (length m.0.routes))) (sym e) (refl, ap openings (sym (length-openings n)))
 
 -- one seat more is dealt out
 pub dealt-push : (table old : TableId) (seats : List RoutePlace) (n : ℕ) (s : RoutePlace) → length seats ≡ n → AreDealt old seats → table ≡ old → s.table ≡ table → s.part ≡ opening n → AreDealt table (seats ++ s ∷ [])

@@ -182,9 +182,10 @@ first_fits txfp r = let none = no_list txfp r in record {
   ended = tt;
 }
 
-first_bus_fits : (txfp : Bool) → FitsBus (opening_by txfp 8) opening_bus
+first_bus_fits : (txfp : Bool) → FitsBus (opening_by txfp 8) (opening_bus txfp)
 first_bus_fits txfp = record {
   stands = record { started_known = tt; done_is = λ r. sym (ap (λ (l : RouteLists). l.done) (no_list txfp r)); reaped_is = λ r. sym (ap (λ (l : RouteLists). l.reaped) (no_list txfp r)) };
+  priority = refl;
   reaped_known = tt;
   sends = refl;
   mailbox = λ w is. cc;
@@ -207,8 +208,8 @@ eight_apart = (
   ),
 )
 
-first_held : (txfp : Bool) (j : ℕ) (v : View) → get_elem? (first_view txfp ∷ []) j ≡ some v → Holds [] (λ _. 0) opening 0 opening_bus j v
-first_held txfp zero v e = subst (Holds [] (λ _. 0) opening 0 opening_bus 0) (some-injective (first_view txfp) v e) (record {
+first_held : (txfp : Bool) (j : ℕ) (v : View) → get_elem? (first_view txfp ∷ []) j ≡ some v → Holds [] (λ _. 0) opening 0 (opening_bus txfp) j v
+first_held txfp zero v e = subst (Holds [] (λ _. 0) opening 0 (opening_bus txfp) 0) (some-injective (first_view txfp) v e) (record {
   routes = ((refl, refl), ((refl, refl), ((refl, refl), ((refl, refl), ((refl, refl), ((refl, refl), ((refl, refl), ((refl, refl), tt))))))));
   buses = ((refl, refl), tt);
   once = eight_apart;
@@ -224,7 +225,7 @@ begins txfp = record {
   eight = refl;
   shows = first_shows txfp;
   part = opening;
-  bus = opening_bus;
+  bus = opening_bus txfp;
   at = λ _. 0;
   bus_at = 0;
   route = λ r. (refl, first_fits txfp r);

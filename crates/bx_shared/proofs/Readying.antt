@@ -59,4 +59,4 @@ module _ (b : BusView) (word written m : ℕ) (d : BusView) (st : IsStarted (bus
       let same : st.item ≡ item = λ k. (sym r k, sym number k, sym frame k) in
       let whole : e ≡ head_read (bus_started (bus_looked b word) word written m st.item) m head = is ∙ ap (λ x. head_read x m head) st.is in
       subst (λ (x : Item). Began b e x) same (subst (λ (x : BusView). Began b x st.item) (sym whole)
-      (record { idle = st.idle; undone = record { unsent = st.undone.unsent; unreaped = st.undone.unreaped }; sends = refl; started = refl; done = refl; reaped = refl; reaps = refl; looks = refl; won = record { exchanges = refl; found = refl } }))
+      (record { priority = refl; idle = st.idle; undone = record { unsent = st.undone.unsent; unreaped = st.undone.unreaped }; sends = refl; started = refl; done = refl; reaped = refl; reaps = refl; looks = refl; won = record { exchanges = refl; found = refl } }))

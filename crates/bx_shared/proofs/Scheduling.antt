@@ -51,6 +51,7 @@ pub bus_looks : (txfp : Bool) (t : St) (k : IsKept txfp t) (id : ℕ) (b : BusVi
     IsKeptAs txfp (stepped t 0 (get_or t.words 0 0) id [] (with_bus (bus_looked b (get_or t.words 0 0)) rs) keeps) k.core
 bus_looks txfp t k id b rs me = bus_stays txfp t k id 0 b (bus_looked b (get_or t.words 0 0)) rs me (λ f. record {
   stands = record { started_known = f.stands.started_known; done_is = f.stands.done_is; reaped_is = f.stands.reaped_is };
+  priority = f.priority;
   reaped_known = f.reaped_known;
   sends = f.sends;
   mailbox = f.mailbox;
@@ -62,6 +63,7 @@ pub bus_misses : (txfp : Bool) (t : St) (k : IsKept txfp t) (id new : ℕ) (b : 
     IsKeptAs txfp (stepped t 0 (get_or t.words 0 0) id [] (with_bus (bus_tried b (get_or t.words 0 0) new) rs) keeps) k.core
 bus_misses txfp t k id new b rs me = bus_stays txfp t k id 0 b (bus_tried b (get_or t.words 0 0) new) rs me (λ f. record {
   stands = record { started_known = f.stands.started_known; done_is = f.stands.done_is; reaped_is = f.stands.reaped_is };
+  priority = f.priority;
   reaped_known = f.reaped_known;
   sends = f.sends;
   mailbox = f.mailbox;
@@ -106,6 +108,7 @@ reads_head txfp t k id m b rs me small =
     let P : BusView → Waiting → Type 0 = λ c w. (x : ℕ) → slice_index_or c.heads w.mailbox None ≡ Some x → IsHeadOf w.frame w.number x in (
       bus_stays txfp t k id (1 + 2 * m) b (head_read b m head) rs me (λ f. record {
         stands = record { started_known = f.stands.started_known; done_is = f.stands.done_is; reaped_is = f.stands.reaped_is };
+        priority = f.priority;
         reaped_known = f.reaped_known;
         sends = f.sends;
         mailbox = f.mailbox;
@@ -216,6 +219,7 @@ schedules txfp t k id m new b rs me small none goes ls =
           (let l = g.lane_is in let y = ap (λ z. mark_by z w.abort_asked) st in let v = ap (mark_by Scheduled) asked in omega arith)
           (record {
             stands = record { started_known = stands.started_known; done_is = stands.done_is; reaped_is = stands.reaped_is };
+            priority = fit.priority;
             reaped_known = fit.reaped_known;
             sends = ap (option_map item_of) same ∙ fit.sends;
             mailbox = λ y e. fit.mailbox y (sym same ∙ e);

@@ -122,6 +122,7 @@ starts txfp t k id m new b rs me small mark none ls =
             (let l = g.lane_is in let y = ap (λ z. mark_by z w.abort_asked) st in let z = ap (mark_by Scheduled) asked in let v = ap (mark_by Transmitting) asked in omega arith)
             (record {
               stands = starts-bus s next (Some item) (past_of b) law go fit.stands;
+              priority = fit.priority;
               reaped_known = fit.reaped_known;
               sends = starts-sends s next (Some item) law go;
               mailbox = λ y e. ap (λ (z : Waiting). z.mailbox) (sym (same_request x y (sym on ∙ e))) ∙ g.mailbox_is;
@@ -186,6 +187,7 @@ completes txfp t k id new b rs item me sends none ls =
           (subst (λ (j : ℕ). LaneSet (get_or t.words 0 0) j 0 new) (sym m) ls) refl refl (λ o z e r. r)
           (record {
             stands = subst (λ (i : Option Item). BusStands next (after_complete (past_of b) i)) fit.sends (completes-bus s next (past_of b) law go fit.stands);
+            priority = fit.priority;
             reaped_known = known_on s w x b.reaped here.0 refl fit.reaped_known;
             sends = idle;
             mailbox = λ y e. none_sent next y idle e;
@@ -241,6 +243,7 @@ fails txfp t k id new b rs item me sends ls =
           (less_eight (lane_of word w.mailbox) w.route w.abort_asked lane)
           (record {
             stands = (let z = mark-bus s (at_of s w) x (past_of b) fit.stands in record { started_known = z.started_known; done_is = z.done_is; reaped_is = z.reaped_is });
+            priority = fit.priority;
             reaped_known = fit.reaped_known;
             sends = idle;
             mailbox = λ y e. none_sent next y idle e;
@@ -287,6 +290,7 @@ reaps txfp t k id new b rs item me due ls =
           ((each_of (IsKnown o) s.queue w z (find-has (λ (y : Waiting). is_scheduled y.status) s.queue w g.turn) e).1 g.asked, tt))
           (record {
             stands = subst (λ (l : List (ℕ × ℕ)). BusStands next (record { started = b.started; done = b.done; reaped = l })) (sym all) (reaped-bus s w (past_of b) f.split law fit.stands);
+            priority = fit.priority;
             reaped_known = subst (λ (l : List Item). Each (λ y. Has (lists_of next y.0).requested (entry_on_bus y)) (b.reaped ++ l)) (sym (ap option_to_list due))
                 (each-append (λ y. Has (lists_of next y.0).requested (entry_on_bus y)) b.reaped (item ∷ []) (known_on s w x b.reaped here.0 refl fit.reaped_known) (known, tt));
             sends = idle_next ∙ sym idle ∙ fit.sends;

@@ -32,4 +32,5 @@ pub record IsBusSeat (s : BusInside) : Type 0 where
   pub sends : (bus_of s.seat.me).sends ≡ s.sends
   pub mailbox : (bus_of s.seat.me).mailbox ≡ s.mailbox
   pub small : s.mailbox < 3
+  pub priority : (bus_of s.seat.me).txfp ≡ (arc_value s.words).shared.key
   pub due : (bus_of s.seat.me).reaps ≡ None

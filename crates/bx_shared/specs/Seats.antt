@@ -157,5 +157,5 @@ AreDealt table seats = (route : ℕ) (s : RoutePlace) → slice_get seats route 
 -- a new bus's seat for so many routes
 pub record IsNewBus (txfp : Bool) (routes : ℕ) (b : BusPlace) : Type 0 where
   pub priority : b.txfp ≡ txfp
-  pub bus : b.bus ≡ opening_bus
+  pub bus : b.bus ≡ opening_bus txfp
   pub others : b.routes ≡ openings (8 - routes)

@@ -88,6 +88,7 @@ pub record AreHeads (s : State) (b : BusView) : Type 0 where
 
 -- what the bus's seat knows is so
 pub record FitsBus (s : State) (b : BusView) : Type 0 where
+  pub priority : s.txfp ≡ b.txfp
   pub stands : BusStands s (past_of b)
   -- what it reaped was requested, with that frame
   pub reaped_known : Each (λ x. Has (lists_of s x.0).requested (entry_on_bus x)) b.reaped

@@ -43,8 +43,9 @@ opening route = record {
 }
 
 -- what the bus's seat knows as it begins
-abbrev pub opening_bus : BusView
-opening_bus = record {
+abbrev pub opening_bus : Bool → BusView
+opening_bus txfp = record {
+  txfp = txfp;
   started = [];
   done = [];
   reaped = [];
@@ -61,7 +62,7 @@ opening_bus = record {
 
 -- the seat that has all places at first
 abbrev pub first_view : Bool → View
-first_view txfp = view (opening_bus ∷ []) (opening 0 ∷ opening 1 ∷ opening 2 ∷ opening 3 ∷ opening 4 ∷ opening 5 ∷ opening 6 ∷ opening 7 ∷ [])
+first_view txfp = view (opening_bus txfp ∷ []) (opening 0 ∷ opening 1 ∷ opening 2 ∷ opening 3 ∷ opening 4 ∷ opening 5 ∷ opening 6 ∷ opening 7 ∷ [])
 
 -- the words as they begin: all mailboxes are empty, and where the priority is by identifier bit 27 says that requests are counted
 abbrev pub first_word : Bool → ℕ
@@ -84,7 +85,7 @@ abbrev pub bus_seat : BusView → List RouteView → Me Said View
 bus_seat b routes = (view (b ∷ []) routes, [])
 
 abbrev pub bus_first : List BusView → BusView
-bus_first [] = opening_bus
+bus_first [] = opening_bus true
 bus_first (b ∷ bs) = b
 
 abbrev pub bus_of : Me Said View → BusView

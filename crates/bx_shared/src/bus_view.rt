@@ -4,6 +4,8 @@ use std::collections::LinkedList;
 
 /// What the bus's seat knows of the mailboxes. Only contracts see it: no value of this type is made.
 pub struct BusView {
+    /// Their priority: true is the order of requests (TXFP is set), false is by identifier.
+    pub txfp: bool,
     /// Route, number and frame of each transmission that it started, in order.
     pub started: LinkedList<(u8, u32, Frame)>,
     /// Those that were sent, in order.

@@ -22,10 +22,10 @@ fn first_words(txfp: bool) -> [u64; 7]
 fn cut(words: &Words, seat: &mut Seat, left: u8) -> Seat
     requires table { IsAt words.now.shared.table_id seat.old.table_id }
     requires some { 0 < left }
-    requires seat { seat.old.me ≡ bus_seat opening_bus (openings left) }
+    requires seat { seat.old.me ≡ bus_seat (opening_bus words.now.shared.key) (openings left) }
     ensures table { seat.new.table_id ≡ seat.old.table_id }
     ensures theirs { result.table_id ≡ seat.old.table_id }
-    ensures rest { seat.new.me ≡ bus_seat opening_bus (openings (left - 1)) }
+    ensures rest { seat.new.me ≡ bus_seat (opening_bus words.now.shared.key) (openings (left - 1)) }
     ensures one { result.me ≡ seat_of (opening (8 - left)) }
 {
     words.shared.split_seat::<Cut>(seat)
