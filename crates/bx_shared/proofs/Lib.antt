@@ -21,3 +21,4 @@ pub mod BusKeeps
 pub mod Readying
 pub mod Gone
 pub mod Answering
+pub mod Sealing

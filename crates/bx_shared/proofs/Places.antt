@@ -38,7 +38,7 @@ each-map P [] a = tt
 each-map P (p ∷ ps) a = (a.0, each-map P ps a.1)
 
 -- the words, the core and what the places know stay, and the places stand at these seats
-seated : (txfp : Bool) (t : St) (k : IsKept txfp t) (views : List View) (at : ℕ → ℕ) (bus_at : ℕ) →
+pub seated : (txfp : Bool) (t : St) (k : IsKept txfp t) (views : List View) (at : ℕ → ℕ) (bus_at : ℕ) →
     ((j : ℕ) (v : View) → get_elem? views j ≡ some v → Holds k.core.queue at k.part bus_at k.bus j v) → IsKeptAs txfp (record { words = t.words; homes = t.homes; views = views }) k.core
 seated txfp t k views at bus_at held = record {
   core_is = refl;

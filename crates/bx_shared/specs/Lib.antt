@@ -7,4 +7,5 @@ pub mod Seats
 pub mod SeatParts
 pub mod Calls
 pub mod Sides
+pub mod Closing
 pub mod Laws
