@@ -107,7 +107,7 @@ same_list d [] (y ∷ ys) l e = absurd (omega arith)
 same_list d (x ∷ xs) [] l e = absurd (omega arith)
 same_list d (x ∷ xs) (y ∷ ys) l e = let first = e 0 (omega arith) in let rest = same_list d xs ys (omega arith) (λ k h. e (suc k) (omega arith)) in λ i. first i ∷ rest i
 
-same_lists : (a b : RouteLists) → a.requested ≡ b.requested → a.done ≡ b.done → a.aborted ≡ b.aborted → a.reaped ≡ b.reaped → a ≡ b
+pub same_lists : (a b : RouteLists) → a.requested ≡ b.requested → a.done ≡ b.done → a.aborted ≡ b.aborted → a.reaped ≡ b.reaped → a ≡ b
 same_lists a b w x y z = λ k. record { requested = w k; done = x k; aborted = y k; reaped = z k }
 
 same_state : (s t : State) → s.txfp ≡ t.txfp → s.claims ≡ t.claims → s.queue ≡ t.queue → s.routes ≡ t.routes → s ≡ t

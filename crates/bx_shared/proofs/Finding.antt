@@ -28,7 +28,7 @@ pub record IsThere (s : State) (m lane : ℕ) : Type 0 where
   pub there : request.route < length s.routes
   pub small : request.mailbox < 3
 
-low_five : (lane n r : ℕ) → n < 32 → lane ≡ n + 32 * r → (lane % 32 ≡ n) × (lane / 32 ≡ r)
+pub low_five : (lane n r : ℕ) → n < 32 → lane ≡ n + 32 * r → (lane % 32 ≡ n) × (lane / 32 ≡ r)
 low_five lane n r b is = (omega arith, omega arith)
 
 pub is_there : (s : State) (m lane : ℕ) → Law s → lane ≡ claim_lane (claim_of s m) + waiting_lane s.queue m → 3 ≤ lane % 32 → IsThere s m lane

@@ -22,3 +22,5 @@ pub mod Readying
 pub mod Gone
 pub mod Answering
 pub mod Sealing
+pub mod Leaving
+pub mod Tying

@@ -21,7 +21,7 @@ use Rattle.bx_shared.specs.Steps.{seat_of, looked, Looks}
 use Rattle.bx_shared.proofs.Reading.{same_request, reads, within, IsEmptyLane, IsFillingLane, IsRequestLane}
 use Rattle.bx_shared.proofs.Moves.{St, alone, stays, own_word}
 
-none_not_some : (w : Waiting) → None ≡ Some w → ⊥
+pub none_not_some : (w : Waiting) → None ≡ Some w → ⊥
 none_not_some w e = cc
 
 -- the lane of a request that waits

@@ -2,7 +2,7 @@
 use Rattle.std.proofs.Common.{◌≡◌, ◌≢◌, ℕ, zero, suc, ◌+◌, ◌*◌, ◌^◌, ◌<◌, ◌⊎◌, inl, inr, ⊎_elim, ◌==◌, cond, List, [], ◌∷◌, ◌++◌, map, length, get_or, set, refl, sym, ap, ◌∙◌, subst, arith, eq-eqb, ne_eqb, Some, None, Bool, true, false, true≢false}
 use mathlib.Core.Option.{some, some-injective, some-ne-none}
 use lib.ListN.{get_elem?}
-use Rattle.atomic_table.specs.Table.{Splits, opening as table_start}
+use Rattle.atomic_table.specs.Table.{Splits, Joins, opening as table_start}
 use Rattle.atomic_table.proofs.Lists.{at_set}
 use Rattle.can_frame.specs.Frames.{standard, data_bytes}
 use Rattle.bx_core.specs.Lists.{Each}
@@ -145,6 +145,9 @@ joins txfp t k id other v w me apart it =
     })
     (at_set t.views id j (both_of v w) u z.1))
     (at_set (set t.views id (both_of v w)) other j spent u e))
+
+pub joins-keep : (txfp : Bool) (id other : ℕ) (v w : View) → Joins {S = Said} (IsKept txfp) id v other w (both_of v w) spent
+joins-keep txfp id other v w t k me apart it = (joins txfp t k id other v w me apart it).kept
 
 -- the words as they begin
 

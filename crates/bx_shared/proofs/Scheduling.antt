@@ -129,7 +129,7 @@ pub reads_bytes : (txfp : Bool) (t : St) (k : IsKept txfp t) (id m : ℕ) (b : B
 reads_bytes txfp t k id m b rs me = (bus_stays txfp t k id (2 + 2 * m) b b rs me (λ f. f), bytes_sent k.core t.words b m k.shows (bus_knows txfp t k id b rs me))
 
 -- the oldest request by the order bits stands first
-first_by_order : (word : ℕ) (xs ys : List Waiting) (w : Waiting) → AreApart (xs ++ w ∷ ys) → AreOrdered word (xs ++ w ∷ ys) → Each (λ x. (x.mailbox < 3) × IsRequested word x.mailbox) (xs ++ w ∷ ys) → IsOldest word w.mailbox →
+pub first_by_order : (word : ℕ) (xs ys : List Waiting) (w : Waiting) → AreApart (xs ++ w ∷ ys) → AreOrdered word (xs ++ w ∷ ys) → Each (λ x. (x.mailbox < 3) × IsRequested word x.mailbox) (xs ++ w ∷ ys) → IsOldest word w.mailbox →
     length xs ≡ 0
 first_by_order word [] ys w a o r is = refl
 first_by_order word (x ∷ xs) ys w a o r is =
@@ -137,7 +137,7 @@ first_by_order word (x ∷ xs) ys w a o r is =
     absurd (older_once word x.mailbox w.mailbox (λ e. apart (sym e)) (each_here (λ (y : Waiting). IsOlder word x.mailbox y.mailbox) xs ys w o.0) (is.oldest x.mailbox r.0.0 (λ e. apart (sym e)) r.0.1))
 
 -- each request's lane holds a request
-requested_lane : (lane n r : ℕ) → 3 ≤ n → n < 32 → lane ≡ n + 32 * r → (lane % 32 ≡ n) × (3 ≤ lane % 32)
+pub requested_lane : (lane n r : ℕ) → 3 ≤ n → n < 32 → lane ≡ n + 32 * r → (lane % 32 ≡ n) × (3 ≤ lane % 32)
 requested_lane lane n r a b is = (omega arith, omega arith)
 
 lanes_hold : (ws : List ℕ) (s : State) (w : Waiting) → Shows ws s → Law s → Has s.queue w → (mark_of (get_or ws 0 0) w.mailbox ≡ mark_by w.status w.abort_asked) × IsRequested (get_or ws 0 0) w.mailbox

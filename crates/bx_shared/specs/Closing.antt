@@ -1,5 +1,5 @@
 -- How the mailboxes end: the bus's seat takes all places back, seals the mailboxes, and tells what waits, the oldest first.
-use Rattle.std.specs.Prelude.{◌≡◌, ℕ, ◌+◌, ◌-◌, ◌*◌, ◌^◌, ◌<◌, ◌≤◌, Some, List, [], ◌∷◌, ◌++◌, false, map, length, slice_index}
+use Rattle.std.specs.Prelude.{◌≡◌, ℕ, ◌+◌, ◌-◌, ◌*◌, ◌/◌, ◌<◌, ◌≤◌, Option, Some, None, List, [], ◌∷◌, ◌++◌, false, map, length, slice_index}
 use Rattle.std.proofs.Common.{◌∙◌, sym, ap, lit≤}
 use Rattle.atomic_table.specs.Table.{Me}
 use Rattle.bx_core.specs.declared.left.Left.{Left}
@@ -58,6 +58,21 @@ IsLast es place found = Each (λ w. (place ≡ 1 + 2 * w.mailbox → IsHeadOf w.
 -- a payload word of sealed mailboxes
 abbrev pub ReadsLast : Tells
 ReadsLast st me found next = (next ≡ me) × ((es : List Waiting) → me.0.sealed ≡ Some es → IsLast es st.word found)
+
+-- the requests that wait, as a seat that sealed the mailboxes knows them
+abbrev pub list_in : Option (List Waiting) → List Waiting
+list_in None = []
+list_in (Some es) = es
+
+abbrev pub waiting_in : Me Said View → List Waiting
+waiting_in me = list_in me.0.sealed
+
+-- by this word one of them is in this mailbox
+pub record IsInMailbox (es : List Waiting) (word mailbox : ℕ) : Type 0 where
+  pub request : Waiting
+  pub there : Has es request
+  pub mailbox_is : request.mailbox ≡ mailbox
+  pub owner : lane_of word mailbox / 32 ≡ request.route
 
 -- Some of the requests that wait were told, in their order; the lanes and the order bits of the word are those of the rest.
 pub record Remains (word : ℕ) (es : List Waiting) (left : List Left) : Type 0 where

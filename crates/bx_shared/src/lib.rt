@@ -8,6 +8,7 @@ mod bus_seat;
 mod bus_side;
 mod bus_steps;
 mod bus_view;
+mod closing;
 mod dealing;
 mod ending;
 pub mod laws;

@@ -1,6 +1,7 @@
 //! The rule of the seven words, and the names of the steps on them.
 ghost use Rattle.bx_shared.specs.Shown.{IsKept};
 ghost use Rattle.bx_shared.specs.Steps.{Looks, Claims, StoresHead, StoresBytes, Requests, Withdraws, Aborts, Asks, first_view, left_of, right_of, both_of, spent};
+ghost use Rattle.bx_shared.specs.Closing.{Seals, ReadsLast};
 ghost use Rattle.bx_shared.specs.BusSteps.{BusLooks, Schedules, Starts, ReadsHead, ReadsBytes, Completes, Fails, Reaps};
 
 use crate::said::Said;
@@ -126,6 +127,20 @@ pub struct Reap;
 
 impl Play<Said, View> for Reap {
     ghost then = { Reaps };
+}
+
+/// The last look at the control word, by the seat that holds every place.
+pub struct Seal;
+
+impl Play<Said, View> for Seal {
+    ghost then = { Seals };
+}
+
+/// That seat reads a payload word.
+pub struct ReadLast;
+
+impl Play<Said, View> for ReadLast {
+    ghost then = { ReadsLast };
 }
 
 /// Cuts the first route's place off.
