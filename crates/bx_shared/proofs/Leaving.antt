@@ -1,18 +1,18 @@
 -- How what waits is told at the end, the oldest first.
-use Rattle.std.proofs.Common.{◌≡◌, ℕ, zero, suc, ◌+◌, ◌*◌, ◌/◌, ◌%◌, ◌<◌, ◌≤◌, ⊎_elim, inl, inr, ◌==◌, cond, List, [], ◌∷◌, ◌++◌, map, length, get_or, refl, sym, ap, ◌∙◌, subst, arith, eq-eqb, ne_eqb, append_assoc, append-nil, Some, None, Bool, true, false, true≢false}
+use Rattle.std.proofs.Common.{◌≡◌, ℕ, suc, ◌+◌, ◌*◌, ◌/◌, ◌<◌, ◌≤◌, ⊎_elim, inl, inr, ◌==◌, cond, List, [], ◌∷◌, ◌++◌, map, length, refl, sym, ap, ◌∙◌, subst, arith, eq-eqb, ne_eqb, append_assoc, append-nil, Some, None, Bool, true, false, true≢false}
 use Rattle.std.proofs.lemmas.List.{length-map, map-append, length-append}
 use mathlib.Core.Logic.{dite}
 use native.Mathlib.Decide.{ℕ_discrete}
 use Rattle.bx_core.specs.declared.left.Left.{Left}
 use Rattle.bx_core.specs.declared.waiting.Waiting.{Waiting}
 use Rattle.bx_core.specs.Lists.{Each, Has}
-use Rattle.bx_core.specs.States.{State, RouteLists, claim_of, at_mailbox, is_at}
-use Rattle.bx_core.specs.Law.{Law, count_at, count_of_claim}
+use Rattle.bx_core.specs.States.{claim_of, at_mailbox, is_at}
+use Rattle.bx_core.specs.Law.{count_at}
 use Rattle.bx_core.specs.Ties.{as_left}
 use Rattle.bx_core.proofs.Words.{each_more, each_of, has-right, some_or_none}
-use Rattle.bx_core.proofs.Queues.{Split, split_at}
+use Rattle.bx_core.proofs.Queues.{split_at}
 use Rattle.bx_core.proofs.Numbers.{has-at_mailbox}
-use Rattle.bx_words.specs.Lanes.{lane_of, mark_of, IsRequested, IsOlder, LaneSet}
+use Rattle.bx_words.specs.Lanes.{lane_of, IsRequested, IsOlder, LaneSet}
 use Rattle.bx_words.specs.Orders.{IsOldest, HasNoOldest}
 use Rattle.bx_words.specs.Payloads.{IsHeadOf, ArePacked, bytes_word}
 use Rattle.bx_words.proofs.Cases.{of_mailboxes}
@@ -22,7 +22,7 @@ use Rattle.bx_shared.specs.Marks.{mark_by, lane_by, claim_lane, waiting_lane}
 use Rattle.bx_shared.specs.Shown.{AreOrdered, Fits}
 use Rattle.bx_shared.specs.Closing.{AreAllIdle, Ends, IsLast, IsInMailbox, Remains}
 use Rattle.bx_shared.proofs.Reading.{within, holds, waiting_lane-none, at_has, same_request, HoldsNone, HoldsOne}
-use Rattle.bx_shared.proofs.Orders.{AreApart, ordered, apart_first, apart_rest, none_there}
+use Rattle.bx_shared.proofs.Orders.{AreApart, ordered, apart_rest, none_there}
 use Rattle.bx_shared.proofs.Showing.{small_mailboxes, apart_queue}
 use Rattle.bx_shared.proofs.Looking.{none_not_some}
 use Rattle.bx_shared.proofs.Finding.{low_five}
@@ -154,9 +154,9 @@ no_claim : (b : BusView) (rs : List RouteView) (es : List Waiting) (word : ℕ) 
 no_claim b rs es word t all m = ⊎_elim
     (λ (none : claim_of t.core m ≡ None). ap claim_lane none)
     (λ (some : (r : ℕ) × (claim_of t.core m ≡ Some r)).
-      let p = all some.0 (let own = t.law.owners m some.0 some.1 in let e = t.eight in omega arith) in
-      let f = each_of (Fits t.words t.core) rs p.part t.parts p.there in
-      absurd (true≢false (sym (f.only m (some.1 ∙ ap Some (sym p.route_is))).0 ∙ p.idle)))
+    let p = all some.0 (let own = t.law.owners m some.0 some.1 in let e = t.eight in omega arith) in
+    let f = each_of (Fits t.words t.core) rs p.part t.parts p.there in
+    absurd (true≢false (sym (f.only m (some.1 ∙ ap Some (sym p.route_is))).0 ∙ p.idle)))
     (some_or_none (claim_of t.core m))
 
 pub begins_left : (b : BusView) (rs : List RouteView) (es : List Waiting) (word : ℕ) → Ends b rs es word → AreAllIdle rs → Remains word es []

@@ -27,7 +27,7 @@ cut_left by me next n some e f = f ∙ ap (λ (m : Me Said View). (left_of m.0, 
 pub cut_right : (by : Bool) (me next : Me Said View) (n : ℕ) → 0 < n → me ≡ bus_seat (opening_bus by) (openings n) → next ≡ (right_of me.0, []) → next ≡ seat_of (opening (8 - n))
 cut_right by me next n some e f = f ∙ ap (λ (m : Me Said View). (right_of m.0, [])) (next_seat by me n some e)
 
-length-openings : (n : ℕ) → length (openings n) ≡ n
+pub length-openings : (n : ℕ) → length (openings n) ≡ n
 length-openings zero = refl
 length-openings (suc n) = ap suc (length-openings n)
 

@@ -1,23 +1,21 @@
 -- The last steps of the bus's seat, which holds every place, keep the rule.
-use Rattle.std.proofs.Common.{◌≡◌, ◌≢◌, ℕ, ◌+◌, ◌*◌, ◌<◌, ⊎_elim, List, [], ◌∷◌, length, get_or, set, refl, sym, ap, ◌∙◌, subst, Some, Bool}
+use Rattle.std.proofs.Common.{◌≡◌, ◌≢◌, ℕ, ◌+◌, ◌*◌, ⊎_elim, List, [], ◌∷◌, get_or, set, refl, sym, ap, ◌∙◌, subst, Some, Bool}
 use mathlib.Core.Option.{none, some}
 use lib.ListN.{get_elem?}
 use lib.Seq.{set-get_or}
-use Rattle.atomic_table.specs.Table.{Me, step, keeps, stepped, Allows}
+use Rattle.atomic_table.specs.Table.{step, keeps, Allows}
 use Rattle.atomic_table.proofs.Lists.{at_set, set_again}
 use Rattle.bx_core.specs.declared.waiting.Waiting.{Waiting}
 use Rattle.bx_core.specs.Lists.{Each}
 use Rattle.bx_core.proofs.Words.{each_more, each_of}
 use Rattle.bx_core.proofs.Reaches.{law_of}
 use Rattle.bx_words.specs.Payloads.{IsHeadOf, bytes_word}
-use Rattle.bx_shared.specs.declared.said.Said.{Said}
 use Rattle.bx_shared.specs.declared.route_view.RouteView.{RouteView}
 use Rattle.bx_shared.specs.declared.bus_view.BusView.{BusView}
 use Rattle.bx_shared.specs.declared.view.View.{View}
 use Rattle.bx_shared.specs.Shown.{IsPaid, Fits, Holds, IsKept}
 use Rattle.bx_shared.specs.Steps.{bus_seat}
-use Rattle.bx_shared.specs.Closing.{AreAllIdle, Ends, Seals, ReadsLast, sealed_seat}
-use Rattle.bx_shared.proofs.Moves.{St}
+use Rattle.bx_shared.specs.Closing.{AreAllIdle, Seals, ReadsLast}
 use Rattle.bx_shared.proofs.BusMoves.{with_bus, bus_knows}
 use Rattle.bx_shared.proofs.Places.{seated}
 
@@ -40,8 +38,7 @@ seals-keep txfp slots id b rs all t k long me fits =
       seal = λ es y. (some_list s.queue es y, h.buses.0.0, λ r small. let p = all r small in ap k.at (sym p.route_is) ∙ (each_of (λ o. (k.at o.route ≡ id) × (k.part o.route ≡ o)) rs p.part h.routes p.there).0);
     }))
     (λ (z : (j ≢ id) × (get_elem? t.views j ≡ some u)). k.held j u z.1)
-    (at_set t.views id j v u e)) in
-    (
+    (at_set t.views id j v u e)) in (
       v,
       keeps,
       tt,

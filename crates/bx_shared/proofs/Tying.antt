@@ -1,5 +1,5 @@
 -- What the seats did is tied together at the end.
-use Rattle.std.proofs.Common.{◌≡◌, ℕ, zero, suc, ◌+◌, ◌-◌, ◌<◌, ◌≤◌, ⊎_elim, inl, inr, ◌==◌, ◌&&◌, cond, List, [], ◌∷◌, ◌++◌, map, length, get_or, refl, sym, ap, ◌∙◌, subst, arith, Some, None, Result, Ok, Err, IfOk, slice_get, eqb-true, Bool, true, false}
+use Rattle.std.proofs.Common.{◌≡◌, ℕ, zero, suc, ◌-◌, ◌<◌, ◌≤◌, inl, inr, ◌==◌, ◌&&◌, cond, List, [], ◌∷◌, ◌++◌, map, length, refl, sym, ap, ◌∙◌, subst, arith, Some, None, Result, Ok, Err, IfOk, slice_get, eqb-true, Bool, true, false}
 use Rattle.std.proofs.lemmas.List.{get_or_past}
 use Rattle.std.proofs.lemmas.Bool.{and_parts}
 use mathlib.Core.Logic.{dite}
@@ -8,8 +8,7 @@ use Rattle.bx_core.specs.declared.left.Left.{Left}
 use Rattle.bx_core.specs.declared.entry.Entry.{Entry}
 use Rattle.bx_core.specs.declared.waiting.Waiting.{Waiting}
 use Rattle.bx_core.specs.Lists.{Each, Has}
-use Rattle.bx_core.specs.States.{State, RouteLists, no_lists, lists_of}
-use Rattle.bx_core.specs.Law.{Law}
+use Rattle.bx_core.specs.States.{State, no_lists, lists_of}
 use Rattle.bx_core.specs.Stands.{BusStands, RouteStands, asked_of}
 use Rattle.bx_core.specs.RouteTx.{RoutePast}
 use Rattle.bx_core.specs.TxBus.{BusPast}
@@ -17,12 +16,11 @@ use Rattle.bx_core.specs.Ties.{RouteTied, AllTied, NothingBeyond, NothingOf, as_
 use Rattle.bx_core.proofs.Words.{each_of, has-left, has-right}
 use Rattle.bx_core.proofs.PlainTied.{plain_tied, plain_beyond}
 use Rattle.bx_shared.specs.declared.route_view.RouteView.{RouteView}
-use Rattle.bx_shared.specs.declared.bus_view.BusView.{BusView}
-use Rattle.bx_shared.specs.Shown.{IsKnown, Fits, past_of}
+use Rattle.bx_shared.specs.Shown.{IsKnown, Fits}
 use Rattle.bx_shared.specs.Steps.{opening}
 use Rattle.bx_shared.specs.Seats.{BusPlace, RoutePlace, openings}
 use Rattle.bx_shared.specs.Sides.{BusAfter, RouteAfter}
-use Rattle.bx_shared.specs.Closing.{IsIdleIn, AreAllIdle, Ends, routes_of}
+use Rattle.bx_shared.specs.Closing.{AreAllIdle, Ends, routes_of}
 use Rattle.bx_shared.proofs.Determined.{same_lists}
 
 abbrev pub parts_of : List RoutePlace → List RouteView
@@ -106,9 +104,9 @@ module _ (b : BusPlace) (sides : List RoutePlace) (es : List Waiting) (word : �
   none_of : b.routes ≡ openings (length b.routes) → (r : ℕ) → routes_of b ≤ r → lists_of t.core r ≡ no_lists
   none_of is r past = dite (dec_le (suc r) 8)
       (λ small.
-        let f = each_of (Fits t.words t.core) (b.routes ++ parts_of sides) (opening r) t.parts (has-left b.routes (parts_of sides) (opening r) (subst (λ (l : List RouteView). Has l (opening r)) (sym is) (openings_have (length b.routes) r past small))) in
-        let done : Each (Has {A = Entry} []) (lists_of t.core r).done = subst (λ (l : List Entry). Each (Has l) (lists_of t.core r).done) f.requested (t.law.route r).done_known in
-        same_lists (lists_of t.core r) no_lists f.requested (empty_of (lists_of t.core r).done done) f.aborted (empty_of (lists_of t.core r).reaped f.reaped))
+      let f = each_of (Fits t.words t.core) (b.routes ++ parts_of sides) (opening r) t.parts (has-left b.routes (parts_of sides) (opening r) (subst (λ (l : List RouteView). Has l (opening r)) (sym is) (openings_have (length b.routes) r past small))) in
+      let done : Each (Has {A = Entry} []) (lists_of t.core r).done = subst (λ (l : List Entry). Each (Has l) (lists_of t.core r).done) f.requested (t.law.route r).done_known in
+      same_lists (lists_of t.core r) no_lists f.requested (empty_of (lists_of t.core r).done done) f.aborted (empty_of (lists_of t.core r).reaped f.reaped))
       (λ n. get_or_past t.core.routes r no_lists (let e = t.eight in omega arith))
 
   pub nothing_beyond : b.routes ≡ openings (length b.routes) → NothingBeyond BusAfter (routes_of b) b left

@@ -1,6 +1,6 @@
 -- How the mailboxes end: the bus's seat takes all places back, seals the mailboxes, and tells what waits, the oldest first.
 use Rattle.std.specs.Prelude.{◌≡◌, ℕ, ◌+◌, ◌-◌, ◌*◌, ◌/◌, ◌<◌, ◌≤◌, Option, Some, None, List, [], ◌∷◌, ◌++◌, false, map, length, slice_index}
-use Rattle.std.proofs.Common.{◌∙◌, sym, ap, lit≤}
+use Rattle.std.proofs.Common.{◌∙◌, sym, ap}
 use Rattle.atomic_table.specs.Table.{Me}
 use Rattle.bx_core.specs.declared.left.Left.{Left}
 use Rattle.bx_core.specs.declared.waiting.Waiting.{Waiting}

@@ -95,12 +95,7 @@ fn told(words: &Words, seat: &mut Seat, word: u64, mailbox: u8) -> Left
 }
 
 /// What waits, the oldest first.
-fn leave(
-    words: &Words,
-    seat: &mut Seat,
-    alloc: Global,
-    word: u64,
-) -> Result<Vec<Left>, AllocError>
+fn leave(words: &Words, seat: &mut Seat, alloc: Global, word: u64) -> Result<Vec<Left>, AllocError>
     requires table { IsAt words.now.shared.table_id seat.old.table_id }
     requires sealed { (seat.old.me.0.sealed ≡ Some (waiting_in seat.old.me)) × (seat.old.me.1 ≡ []) }
     requires remains { Remains word (waiting_in seat.old.me) [] }

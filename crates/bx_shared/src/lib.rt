@@ -13,6 +13,7 @@ mod dealing;
 mod ending;
 pub mod laws;
 mod mail;
+mod mail_set;
 mod plays;
 mod request_answer;
 mod route_seat;

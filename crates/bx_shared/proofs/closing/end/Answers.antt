@@ -1,8 +1,7 @@
 -- The seat holds every place, and what it knows is tied to what waits.
-use Rattle.std.proofs.Common.{◌≡◌, ◌-◌, ◌∙◌, ◌++◌, List, map, length, sym, ap, subst}
+use Rattle.std.proofs.Common.{◌≡◌, ◌-◌, ◌∙◌, ◌++◌, map, length, sym, ap, subst}
 use Rattle.atomic_table.specs.Table.{Me}
 use Rattle.bx_core.specs.Ties.{AllTied, NothingBeyond, as_left}
-use Rattle.bx_shared.specs.declared.route_view.RouteView.{RouteView}
 use Rattle.bx_shared.specs.declared.said.Said.{Said}
 use Rattle.bx_shared.specs.declared.view.View.{View}
 use Rattle.bx_shared.specs.Steps.{bus_of}

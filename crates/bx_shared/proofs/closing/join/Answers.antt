@@ -1,5 +1,5 @@
 -- The places of both seats together.
-use Rattle.std.proofs.Common.{arith, rules}
+use Rattle.std.proofs.Common.{rules}
 use Rattle.bx_shared.proofs.Places.{joins-keep}
 use Rattle.bx_shared.proofs.closing.join.Goals as goal
 

@@ -1,8 +1,7 @@
 -- Each turn tells of the oldest that remains.
-use Rattle.std.proofs.Common.{◌≡◌, ◌+◌, ◌^◌, ◌<◌, ◌∙◌, List, length, sym, ap, subst, arith, bit_and}
+use Rattle.std.proofs.Common.{◌∙◌, List, length, sym, ap, subst, arith, bit_and}
 use Rattle.atomic_table.specs.Table.{Me}
 use Rattle.bx_core.specs.declared.left.Left.{Left}
-use Rattle.bx_core.specs.declared.waiting.Waiting.{Waiting}
 use Rattle.bx_core.specs.Lists.{Has}
 use Rattle.bx_shared.specs.declared.said.Said.{Said}
 use Rattle.bx_shared.specs.declared.view.View.{View}
