@@ -6,6 +6,7 @@ use prog.Atomic.{either}
 use Rattle.atomic_table.specs.Table.{step, keeps, Allows}
 use Rattle.atomic_table.proofs.Lists.{exchanged}
 use Rattle.bx_core.specs.TxBus.{Item}
+use Rattle.bx_core.proofs.Reaches.{law_of}
 use Rattle.bx_words.specs.Lanes.{lane_of, mark_of, IsTransmitting, LaneSet}
 use Rattle.bx_words.specs.Payloads.{IsHead}
 use Rattle.bx_shared.specs.declared.said.Said.TheVariants.{Mailbox}
@@ -15,7 +16,8 @@ use Rattle.bx_shared.specs.Shown.{IsKept}
 use Rattle.bx_shared.specs.Steps.{bus_seat}
 use Rattle.bx_shared.specs.BusSteps.{GoesNext, IsHeadSent, AreBytesSent, bus_looked, bus_tried, bus_completed, bus_failed, bus_reaped, head_read, BusLooks, Schedules, Starts, ReadsHead, ReadsBytes, Completes, Fails, Reaps}
 use Rattle.bx_shared.proofs.Moves.{Goes}
-use Rattle.bx_shared.proofs.BusMoves.{with_bus}
+use Rattle.bx_shared.proofs.BusMoves.{with_bus, bus_knows}
+use Rattle.bx_shared.proofs.Few.{bus_few}
 use Rattle.bx_shared.proofs.Scheduling.{bus_looks, bus_misses, reads_head, reads_bytes, schedules}
 use Rattle.bx_shared.proofs.Transmitting.{starts, completes, fails, reaps, transmits_in}
 
@@ -69,7 +71,7 @@ pub completes-keep : (txfp : Bool) (slots id mask : ℕ) (b : BusView) (rs : Lis
     Allows (IsKept txfp) slots id (bus_seat b rs) 0 (λ n. bit_and n mask) (Completes (step slots 0 mask 0 none) (bus_seat b rs))
 completes-keep txfp slots id mask b rs sends due clears t k long me fits =
     let x = some_of b.sends sends in
-    (with_bus (bus_completed b) rs, keeps, tt, (completes txfp t k id (bit_and (get_or t.words 0 0) mask) b rs x.0 me x.1 due (clears (get_or t.words 0 0) fits)).then.kept, refl)
+    (with_bus (bus_completed b) rs, keeps, tt, (completes txfp t k id (bit_and (get_or t.words 0 0) mask) b rs x.0 me x.1 due (clears (get_or t.words 0 0) fits)).then.kept, (refl, bus_few k.core b (law_of k.core k.reached) (bus_knows txfp t k id b rs me)))
 
 pub fails-keep : (txfp : Bool) (slots id mask : ℕ) (b : BusView) (rs : List RouteView) → IsSome b.sends → ((w : ℕ) → w < 2 ^ 64 → IsTransmitting w b.mailbox → LaneSet w b.mailbox (lane_of w b.mailbox - 8) (bit_and w mask)) →
     Allows (IsKept txfp) slots id (bus_seat b rs) 0 (λ n. bit_and n mask) (Fails (step slots 0 mask 0 none) (bus_seat b rs))
@@ -82,4 +84,4 @@ pub reaps-keep : (txfp : Bool) (slots id mask : ℕ) (b : BusView) (rs : List Ro
     Allows (IsKept txfp) slots id (bus_seat b rs) 0 (λ n. bit_and n mask) (Reaps (step slots 0 mask 0 none) (bus_seat b rs))
 reaps-keep txfp slots id mask b rs due clears t k long me fits =
     let x = some_of b.reaps due in
-    (with_bus (bus_reaped b) rs, keeps, tt, (reaps txfp t k id (bit_and (get_or t.words 0 0) mask) b rs x.0 me x.1 (clears (get_or t.words 0 0) fits)).then.kept, refl)
+    (with_bus (bus_reaped b) rs, keeps, tt, (reaps txfp t k id (bit_and (get_or t.words 0 0) mask) b rs x.0 me x.1 (clears (get_or t.words 0 0) fits)).then.kept, (refl, bus_few k.core b (law_of k.core k.reached) (bus_knows txfp t k id b rs me)))

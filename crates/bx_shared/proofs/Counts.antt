@@ -26,7 +26,7 @@ few_rise : (k most : ℕ) (xs : List ℕ) → k ≤ most → Each (λ x. k < x) 
 few_rise k most [] h a b r = omega arith
 few_rise k most (x ∷ xs) h a b r = let t = few_rise x most xs b.0 r.0 b.1 r.1 in let first = a.0 in omega arith
 
-few_requests : (txfp : Bool) (l : RouteLists) (waits : List ℕ) → IsRouteLawful txfp l waits → length l.requested ≤ greatest_number
+pub few_requests : (txfp : Bool) (l : RouteLists) (waits : List ℕ) → IsRouteLawful txfp l waits → length l.requested ≤ greatest_number
 few_requests txfp l waits law =
     let t = few_rise 0 greatest_number (numbers l.requested) (omega arith)
     (each_more (λ n. (1 ≤ n) × (n ≤ greatest_number)) (λ n. 0 < n) (numbers l.requested) (λ n h. let one = h.0 in omega arith) law.in_range)

@@ -3,6 +3,7 @@ pub mod Orders
 pub mod Counts
 pub mod Showing
 pub mod Knowing
+pub mod Few
 pub mod Moves
 pub mod Claiming
 pub mod Requesting

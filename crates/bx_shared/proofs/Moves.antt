@@ -1,5 +1,5 @@
 -- A step of a route's seat keeps the rule: what is left to show for each kind of step.
-use Rattle.std.proofs.Common.{◌≡◌, ◌≢◌, ℕ, suc, ◌+◌, ◌<◌, ◌⊎◌, inl, ⊎_elim, ◌==◌, cond, List, [], ◌∷◌, length, get_or, set, refl, sym, ap, ◌∙◌, subst, arith, eqb, eq-eqb, ne_eqb, Some, None, Bool}
+use Rattle.std.proofs.Common.{◌≡◌, ◌≢◌, ℕ, suc, ◌+◌, ◌<◌, ◌≤◌, ◌⊎◌, inl, ⊎_elim, ◌==◌, cond, List, [], ◌∷◌, length, get_or, set, refl, sym, ap, ◌∙◌, subst, arith, eqb, eq-eqb, ne_eqb, Some, None, Bool}
 use Rattle.std.proofs.lemmas.List.{get_or_past}
 use mathlib.Core.Option.{Option as Maybe, some}
 use mathlib.Core.Logic.{dite}
@@ -10,7 +10,7 @@ use prog.Atomic.{either}
 use Rattle.atomic_table.specs.Table.{State as Table, Me, step, Act, Valid, carried_after, keeps, stepped}
 use Rattle.atomic_table.proofs.Lists.{at_set, exchanged}
 use Rattle.bx_core.specs.declared.waiting.Waiting.{Waiting}
-use Rattle.bx_core.specs.States.{State, claim_of}
+use Rattle.bx_core.specs.States.{State, claim_of, lists_of, waits_of}
 use Rattle.bx_core.specs.Law.{Law, Reached, count_at, count_of_claim}
 use Rattle.bx_core.proofs.Reaches.{law_of}
 use Rattle.bx_core.proofs.Words.{each_more}
@@ -23,6 +23,7 @@ use Rattle.bx_shared.specs.Shown.{Shows, Fits, FitsBus, Holds, IsKept, IsKeptAs}
 use Rattle.bx_shared.specs.Steps.{view, seat_of, missed, IsOwn, Tries}
 use Rattle.bx_shared.proofs.Reading.{is_filling, has_mark, waiting_lane-none}
 use Rattle.bx_shared.proofs.Counts.{has_count}
+use Rattle.bx_shared.proofs.Few.{few_of}
 
 -- f with y at x
 abbrev pub put : {B : Type 0} → (ℕ → B) → ℕ → B → ℕ → B
@@ -136,6 +137,7 @@ own_word txfp t k id p me =
       only = λ m small is. f.only m (is_filling s m p.route law (sym (k.shows.lanes m small) ∙ is));
       marks = λ m small low. has_mark s m (lane_of (get_or t.words 0 0) m) law (k.shows.lanes m small) low;
       count = has_count s (get_or t.words 0 0) law k.eight k.shows.rest;
+      few = let e = ap length f.aborted in let h = (few_of s.txfp (lists_of s p.route) (waits_of p.route s.queue) (law.route p.route)).aborted in omega arith;
     }
 
 -- what one step has to give

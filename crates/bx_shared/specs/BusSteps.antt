@@ -1,9 +1,11 @@
 -- What each atomic step of the bus's seat tells it, and what it then knows.
-use Rattle.std.specs.Prelude.{◌≡◌, ℕ, ◌+◌, ◌*◌, ◌%◌, ◌<◌, Option, Some, None, List, [], ◌∷◌, ◌++◌, nat_lt, if◌then◌else◌, option_to_list, slice_index, slice_set}
+use Rattle.std.specs.Prelude.{◌≡◌, ℕ, ◌+◌, ◌*◌, ◌%◌, ◌<◌, ◌≤◌, Option, Some, None, List, [], ◌∷◌, ◌++◌, nat_lt, if◌then◌else◌, option_to_list, map, length, slice_index, slice_set}
 use Rattle.std.specs.List.{slice_index_or}
 use Rattle.can_frame.specs.Frames.{FrameValue}
 use Rattle.can_frame.specs.Keys.{key_of}
-use Rattle.bx_core.specs.TxBus.{Item, IsUndone}
+use Rattle.bx_core.specs.Stands.{entries_of, numbers_of}
+use Rattle.bx_core.specs.Steps.{greatest_number}
+use Rattle.bx_core.specs.TxBus.{Item, IsUndone, label_of}
 use Rattle.bx_words.specs.Lanes.{lane_of, mark_of, rest_of, IsRequested, IsTransmitting}
 use Rattle.bx_words.specs.Orders.{IsOldest, IsLeastOf}
 use Rattle.bx_words.specs.Payloads.{IsHead, IsHeadOf, bytes_word}
@@ -80,6 +82,10 @@ IsHeadSent b mailbox head = (item : Item) → b.sends ≡ Some item → b.mailbo
 abbrev pub AreBytesSent : BusView → ℕ → ℕ → Type 0
 AreBytesSent b mailbox bytes = (item : Item) → b.sends ≡ Some item → b.mailbox ≡ mailbox → bytes ≡ bytes_word item.2
 
+-- of each route at most as many were sent and reaped as there are numbers
+abbrev pub AreFew : BusView → Type 0
+AreFew b = (route : ℕ) → (length (entries_of route b.done) ≤ greatest_number) × (length (numbers_of route (map label_of b.reaped)) ≤ greatest_number)
+
 abbrev pub BusLooks : Tells
 BusLooks st me found next = next ≡ bus_seat (bus_looked (bus_of me) found) me.0.routes
 
@@ -99,10 +105,10 @@ abbrev pub ReadsBytes : Tells
 ReadsBytes st me found next = (next ≡ me) × ((mailbox : ℕ) → st.word ≡ 2 + 2 * mailbox → AreBytesSent (bus_of me) mailbox found)
 
 abbrev pub Completes : Tells
-Completes st me found next = next ≡ bus_seat (bus_completed (bus_of me)) me.0.routes
+Completes st me found next = (next ≡ bus_seat (bus_completed (bus_of me)) me.0.routes) × AreFew (bus_of me)
 
 abbrev pub Fails : Tells
 Fails st me found next = (next ≡ bus_seat (bus_failed (bus_of me) found) me.0.routes) × IsTransmitting found (bus_of me).mailbox
 
 abbrev pub Reaps : Tells
-Reaps st me found next = next ≡ bus_seat (bus_reaped (bus_of me)) me.0.routes
+Reaps st me found next = (next ≡ bus_seat (bus_reaped (bus_of me)) me.0.routes) × AreFew (bus_of me)

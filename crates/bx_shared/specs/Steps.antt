@@ -1,10 +1,10 @@
 -- What each atomic step tells the seat that makes it, and what a seat then knows.
-use Rattle.std.specs.Prelude.{◌≡◌, ℕ, ◌+◌, ◌^◌, ◌<◌, None, List, [], ◌∷◌, ◌++◌, Bool, true, false, slice_index, slice_set}
+use Rattle.std.specs.Prelude.{◌≡◌, ℕ, ◌+◌, ◌^◌, ◌<◌, ◌≤◌, None, List, [], ◌∷◌, ◌++◌, Bool, true, false, length, slice_index, slice_set}
 use mathlib.Core.Option.{Option as Maybe, none, some}
 use Rattle.atomic_table.specs.Table.{Me, Step}
 use Rattle.can_frame.specs.Frames.{standard, data_bytes}
 use Rattle.bx_core.specs.declared.entry.Entry.{Entry}
-use Rattle.bx_core.specs.Steps.{last_number}
+use Rattle.bx_core.specs.Steps.{last_number, greatest_number}
 use Rattle.bx_words.specs.Lanes.{lane_of, mark_of, filling, IsRequested, HasCount}
 use Rattle.bx_shared.specs.declared.said.Said.{Said}
 use Rattle.bx_shared.specs.declared.said.Said.TheVariants.{Mailbox, Request}
@@ -139,12 +139,13 @@ abbrev pub asked_at : RouteView → ℕ → RouteView
 asked_at p mailbox = record p { asked = p.asked ++ slice_index p.last mailbox ∷ [] }
 
 -- What a word tells a route's seat: the lanes that fill under its route are those of its claim, a requested lane has one of the
--- five marks, and there is room for one request more in the count.
+-- five marks, there is room for one request more in the count, and at most as many requests were aborted as there are numbers.
 pub record IsOwn (p : RouteView) (word : ℕ) : Type 0 where
   pub own : p.claims ≡ true → lane_of word p.mailbox ≡ filling p.route
   pub only : (mailbox : ℕ) → mailbox < 3 → lane_of word mailbox ≡ filling p.route → (p.claims ≡ true) × (p.mailbox ≡ mailbox)
   pub marks : (mailbox : ℕ) → mailbox < 3 → IsRequested word mailbox → IsMark (mark_of word mailbox)
   pub count : HasCount word
+  pub few : length p.aborted ≤ greatest_number
 
 -- what a step tells: of its words, of the seat before, of the word that it found, and of the seat after
 abbrev pub Tells : Type 1

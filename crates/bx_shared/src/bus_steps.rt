@@ -3,7 +3,7 @@ ghost use Rattle.std.specs.Prelude.{◌≡◌, ◌≢◌, ℕ, ◌+◌, ◌-◌,
 ghost use Rattle.bx_words.specs.Lanes.{lane_of, mark_of, IsTransmitting, LaneSet};
 ghost use Rattle.bx_words.specs.Payloads.{IsHead};
 ghost use Rattle.bx_shared.specs.Steps.{bus_seat, bus_of};
-ghost use Rattle.bx_shared.specs.BusSteps.{bus_looked, bus_tried, head_read, bus_completed, bus_failed, bus_reaped, GoesNext, IsStarted, IsHeadSent, AreBytesSent};
+ghost use Rattle.bx_shared.specs.BusSteps.{bus_looked, bus_tried, head_read, bus_completed, bus_failed, bus_reaped, GoesNext, IsStarted, IsHeadSent, AreBytesSent, AreFew};
 ghost use Rattle.bx_shared.specs.Seats.{IsAt};
 
 use crate::plays::{BusLook, Complete, Fail, ReadBytes, ReadHead, Reap, Schedule, Start};
@@ -92,6 +92,7 @@ pub(crate) fn complete(words: &Words, seat: &mut Seat, mask: u64)
     requires mask { (word : ℕ) → word < 2 ^ 64 → LaneSet word (bus_of seat.old.me).mailbox 0 (bit_and word mask) }
     ensures table { seat.new.table_id ≡ seat.old.table_id }
     ensures completed { seat.new.me ≡ bus_seat (bus_completed (bus_of seat.old.me)) seat.old.me.0.routes }
+    ensures few { AreFew (bus_of seat.old.me) }
 {
     words.shared.fetch_and::<Complete>(seat, 0, mask);
 }
@@ -118,6 +119,7 @@ pub(crate) fn reap(words: &Words, seat: &mut Seat, mask: u64)
     requires mask { (word : ℕ) → word < 2 ^ 64 → LaneSet word (bus_of seat.old.me).mailbox 0 (bit_and word mask) }
     ensures table { seat.new.table_id ≡ seat.old.table_id }
     ensures reaped { seat.new.me ≡ bus_seat (bus_reaped (bus_of seat.old.me)) seat.old.me.0.routes }
+    ensures few { AreFew (bus_of seat.old.me) }
 {
     words.shared.fetch_and::<Reap>(seat, 0, mask);
 }

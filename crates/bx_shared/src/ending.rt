@@ -1,8 +1,8 @@
 //! One try of a route's seat to abort a request.
-ghost use Rattle.std.specs.Prelude.{◌≡◌, ◌⊎◌, ◌/◌, ◌≤◌, ◌<◌, true, false, IfSome, IfNone, [], ◌∷◌};
+ghost use Rattle.std.specs.Prelude.{◌≡◌, ◌⊎◌, ◌/◌, ◌≤◌, ◌<◌, true, false, length, IfSome, IfNone, [], ◌∷◌};
 ghost use Rattle.bx_core.specs.declared.point.Point.TheVariants.{Look, Abort};
 ghost use Rattle.bx_core.specs.Gate.{Passes};
-ghost use Rattle.bx_core.specs.Steps.{last_number};
+ghost use Rattle.bx_core.specs.Steps.{last_number, greatest_number};
 ghost use Rattle.bx_words.specs.Lanes.{lane_of, mark_of};
 ghost use Rattle.bx_shared.specs.Ended.{is_in, stays_in};
 ghost use Rattle.bx_shared.specs.Steps.{seat_of, part_of, IsOwn};
@@ -120,6 +120,7 @@ pub(crate) fn end<G: Gate>(
     ensures stays { Stays (part_of seat.old.me) (part_of seat.new.me) }
     ensures answer { Answered (part_of seat.old.me) (part_of seat.new.me) number result }
     ensures hears { HearsAbort G.may_have_heard (part_of seat.old.me) (part_of seat.new.me) result gate.old gate.new }
+    ensures few { length (part_of seat.old.me).aborted ≤ greatest_number }
 {
     gate.pass(Point::Look);
     let seen = look(words, seat);
