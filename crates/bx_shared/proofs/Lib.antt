@@ -25,3 +25,5 @@ pub mod Answering
 pub mod Sealing
 pub mod Leaving
 pub mod Tying
+pub mod Tallying
+pub mod Keeping

@@ -1,11 +1,12 @@
 -- What the bus's seat knows after its calls.
-use Rattle.std.proofs.Common.{◌≡◌, ℕ, ◌/◌, ◌%◌, ◌<◌, [], ◌∷◌, get_or, refl, sym, ap, ◌∙◌, subst, arith, Option, Some, None}
+use Rattle.std.proofs.Common.{◌≡◌, ℕ, ◌/◌, ◌%◌, ◌<◌, [], ◌∷◌, get_or, refl, sym, ap, ◌∙◌, subst, arith, Option, Some, None, ◌^◌, ◌*◌, ◌+◌}
 use Rattle.std.specs.Prelude.{IfSome}
 use Rattle.std.proofs.lemmas.List.{get_or-set_other}
 use Rattle.bx_core.specs.TxBus.{Item}
 use Rattle.bx_words.specs.Lanes.{lane_of, mark_of, rest_of, IsRequested}
 use Rattle.bx_words.specs.Orders.{IsLeastOf}
 use Rattle.bx_words.specs.Payloads.{ArePacked}
+use Rattle.bx_words.proofs.Bits.{field_below}
 use Rattle.bx_words.proofs.Cases.{of_mailboxes}
 use Rattle.bx_shared.specs.declared.bus_view.BusView.{BusView}
 use Rattle.bx_shared.specs.BusSteps.{HasKey, GoesNext, IsStarted, IsHeadSent, AreBytesSent, bus_looked, bus_started, head_read}
@@ -59,4 +60,4 @@ module _ (b : BusView) (word written m : ℕ) (d : BusView) (st : IsStarted (bus
       let same : st.item ≡ item = λ k. (sym r k, sym number k, sym frame k) in
       let whole : e ≡ head_read (bus_started (bus_looked b word) word written m st.item) m head = is ∙ ap (λ x. head_read x m head) st.is in
       subst (λ (x : Item). Began b e x) same (subst (λ (x : BusView). Began b x st.item) (sym whole)
-      (record { priority = refl; idle = st.idle; undone = record { unsent = st.undone.unsent; unreaped = st.undone.unreaped }; sends = refl; started = refl; done = refl; reaped = refl; reaps = refl; looks = refl; won = record { exchanges = refl; found = refl } }))
+      (record { route = (let l = st.lane in let below = field_below word (8 * m) 8 in let is : 2 ^ 8 ≡ 256 = refl in omega arith); priority = refl; idle = st.idle; undone = record { unsent = st.undone.unsent; unreaped = st.undone.unreaped }; sends = refl; started = refl; done = refl; reaped = refl; reaps = refl; looks = refl; won = record { exchanges = refl; found = refl } }))

@@ -158,7 +158,7 @@ asked_sent : (asked : Bool) → nat_lt 15 (mark_by Transmitting asked) ≡ asked
 asked_sent true = refl
 asked_sent false = refl
 
-labels-push : (xs : List Item) (x : Item) → map label_of (xs ++ x ∷ []) ≡ map label_of xs ++ label_of x ∷ []
+pub labels-push : (xs : List Item) (x : Item) → map label_of (xs ++ x ∷ []) ≡ map label_of xs ++ label_of x ∷ []
 labels-push [] x = refl
 labels-push (y ∷ ys) x = ap (λ l. label_of y ∷ l) (labels-push ys x)
 

@@ -77,6 +77,7 @@ pub record Readied (b d : BusView) (result : Bool) : Type 0 where
 
 -- This transmission started: nothing was transmitting, it was neither sent nor reaped, and started grew by just it. The seat looked once and its one exchange was made.
 pub record Began (b d : BusView) (item : Item) : Type 0 where
+  pub route : item.0 < 8
   pub priority : d.txfp ≡ b.txfp
   pub idle : b.sends ≡ None
   pub undone : IsUndone (past_of b) item

@@ -4,6 +4,7 @@ pub mod Ended
 pub mod Steps
 pub mod BusSteps
 pub mod Seats
+pub mod Tallies
 pub mod SeatParts
 pub mod Calls
 pub mod Sides

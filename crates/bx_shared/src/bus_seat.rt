@@ -7,6 +7,7 @@ ghost use Rattle.bx_shared.specs.Calls.{SameMailboxes, Readied, Began, NotBegan,
 use crate::bus_calls::{begin, ready};
 use crate::bus_steps::{complete, fail, reap};
 use crate::route_steps::{Seat, Words};
+use crate::tally::Tally;
 use bx_words::{fail_mask, lane, lane_mask};
 use can_frame::Frame;
 use std::alloc::Global;
@@ -22,6 +23,7 @@ pub struct BusSeat {
     // the mailbox of what it transmits, and that: its route, its number and its frame
     pub(crate) mailbox: u8,
     pub(crate) sends: Option<(u8, u32, Frame)>,
+    pub(crate) tally: Tally,
 }
 
 impl Model for BusSeat {
@@ -74,7 +76,9 @@ impl BusSeat {
         ensures completed { self.new.bus ≡ bus_completed self.old.bus }
     {
         complete(&self.words, &mut self.seat, lane_mask(self.mailbox));
-        self.sends = None;
+        if let Some(item) = self.sends.take() {
+            self.tally.add_done(item);
+        }
     }
 
     /// The transmission failed, by an error or by lost arbitration. It is scheduled again, in one step; or, where its
@@ -94,6 +98,7 @@ impl BusSeat {
             return None;
         }
         reap(&self.words, &mut self.seat, lane_mask(self.mailbox));
+        self.tally.add_reaped((route, number));
         Some((route, number))
     }
 }

@@ -32,6 +32,8 @@ fn join(words: &Words, seat: &mut Seat, side: RouteSeat)
         route: _,
         last: _,
         tops: _,
+        requested: _,
+        aborted: _,
     } = side;
     words.shared.join_seat::<Paste>(seat, theirs);
 }
@@ -132,6 +134,7 @@ pub(crate) fn end(
         mut seat,
         mailbox: _,
         sends: _,
+        tally: _,
     } = bus;
     join_all(&words, &mut seat, sides);
     let word = seal(&words, &mut seat);

@@ -7,6 +7,7 @@ use crate::bus_seat::BusSeat;
 use crate::plays::Cut;
 use crate::route_seat::RouteSeat;
 use crate::route_steps::{Seat, Words};
+use crate::tally::Tally;
 use std::alloc::{AllocError, Global};
 use std::sync::Arc;
 
@@ -54,6 +55,8 @@ pub(crate) fn deal(
             route,
             last: 0,
             tops: [0; 3],
+            requested: 0,
+            aborted: 0,
         })?;
     }
     let bus = BusSeat {
@@ -61,6 +64,7 @@ pub(crate) fn deal(
         seat,
         mailbox: 0,
         sends: None,
+        tally: Tally::new(),
     };
     Ok((bus, seats))
 }

@@ -21,6 +21,7 @@ mod route_side;
 mod route_steps;
 mod route_view;
 mod said;
+mod tally;
 mod view;
 
 pub use crate::abort_outcome::AbortOutcome;

@@ -27,6 +27,9 @@ pub struct RouteSeat {
     pub(crate) last: u32,
     // of each mailbox, the number that was last requested there, or 0
     pub(crate) tops: [u32; 3],
+    // how many requests it made, and how many of them it aborted
+    pub(crate) requested: u32,
+    pub(crate) aborted: u32,
 }
 
 impl Model for RouteSeat {
@@ -77,6 +80,7 @@ impl RouteSeat {
         if let RequestAnswer::Taken(mailbox) = answer {
             self.last = number;
             self.tops[usize::from(mailbox)] = number;
+            self.requested += 1;
         }
         Ok(answer)
     }
@@ -94,13 +98,17 @@ impl RouteSeat {
         ensures answer { Answered self.old.part self.new.part number result }
         ensures hears { HearsAbort G.may_have_heard self.old.part self.new.part result gate.old gate.new }
     {
-        end(
+        let outcome = end(
             &self.words,
             &mut self.seat,
             self.route,
             number,
             &self.tops,
             gate,
-        )
+        );
+        if outcome == AbortOutcome::Aborted {
+            self.aborted += 1;
+        }
+        outcome
     }
 }

@@ -1,9 +1,11 @@
-use Rattle.std.proofs.Common.{List, ℕ, ◌+◌, ◌-◌, sym, ap, ◌∙◌, subst, arith, length, []}
+use Rattle.std.proofs.Common.{List, ℕ, ◌+◌, ◌-◌, sym, ap, ◌∙◌, subst, arith, map, length, []}
 use Rattle.std.specs.Arc.{arc_value}
 use Rattle.atomic_table.specs.Table.{opening as table_start}
 use Rattle.bx_shared.specs.declared.said.Said.{Said}
 use Rattle.bx_shared.specs.declared.bus_view.BusView.{BusView}
+use Rattle.bx_core.specs.TxBus.{label_of}
 use Rattle.bx_shared.specs.Shown.{IsKept}
+use Rattle.bx_shared.specs.Tallies.{IsTally}
 use Rattle.bx_shared.specs.Steps.{first_view, bus_seat, bus_of, part_of, opening, opening_bus}
 use Rattle.bx_shared.specs.Seats.{AreDealt, openings, route_place}
 use Rattle.bx_shared.proofs.Places.{begins}
@@ -42,4 +44,6 @@ invariant_of-bus c =
       small = omega arith;
       priority = ap (λ (b : BusView). b.txfp) bus;
       due = ap (λ (b : BusView). b.reaps) bus;
+      route = tt;
+      tally = subst (λ (b : BusView). IsTally b.done (map label_of b.reaped) c.new-2.result) (sym bus) c.new-2.ensures;
     }
