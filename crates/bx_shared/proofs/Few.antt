@@ -1,5 +1,5 @@
 -- Of each route at most 16,777,215 requests were made, aborted, sent and reaped.
-use Rattle.std.proofs.Common.{◌≡◌, ◌≢◌, ℕ, suc, ◌+◌, ◌<◌, ◌≤◌, List, [], ◌∷◌, map, length, refl, sym, ap, ◌∙◌, subst, arith, inl, inr, Bool}
+use Rattle.std.proofs.Common.{◌≡◌, ℕ, suc, ◌+◌, ◌<◌, ◌≤◌, List, [], ◌∷◌, length, refl, ap, arith, inl, inr, Bool}
 use Rattle.std.proofs.lemmas.Bool.Decides.{eqb_tells}
 use Rattle.std.proofs.lemmas.List.{length-map}
 use Rattle.bx_core.specs.declared.entry.Entry.{Entry}
@@ -7,8 +7,6 @@ use Rattle.bx_core.specs.Lists.{times}
 use Rattle.bx_core.specs.States.{State, RouteLists, lists_of, numbers}
 use Rattle.bx_core.specs.Steps.{greatest_number}
 use Rattle.bx_core.specs.Law.{Law, IsRouteLawful}
-use Rattle.bx_core.specs.TxBus.{label_of}
-use Rattle.bx_core.specs.Stands.{entries_of, numbers_of}
 use Rattle.bx_core.proofs.Times.{mark, times_self, times_other}
 use Rattle.bx_shared.specs.declared.bus_view.BusView.{BusView}
 use Rattle.bx_shared.specs.Shown.{FitsBus}
@@ -26,7 +24,7 @@ is_without x [] h = absurd (omega arith)
 is_without x (y ∷ ys) h = elim (eqb_tells y x) [
   | inl e ↦ record { rest = ys; size = refl; each = λ n. ap (λ z. mark z n + times n ys) e.1 }
   | inr e ↦ (let t : mark y x ≡ 0 = times_other y x e.1 in let d = is_without x ys (omega (arith, h, t)) in
-    record { rest = y ∷ d.rest; size = ap suc d.size; each = λ n. let z = d.each n in omega arith })
+      record { rest = y ∷ d.rest; size = ap suc d.size; each = λ n. let z = d.each n in omega arith })
 ]
 
 -- a list has no more elements than one in which each number stands as often or more

@@ -1,5 +1,5 @@
 -- A step of a route's seat keeps the rule: what is left to show for each kind of step.
-use Rattle.std.proofs.Common.{◌≡◌, ◌≢◌, ℕ, suc, ◌+◌, ◌<◌, ◌≤◌, ◌⊎◌, inl, ⊎_elim, ◌==◌, cond, List, [], ◌∷◌, length, get_or, set, refl, sym, ap, ◌∙◌, subst, arith, eqb, eq-eqb, ne_eqb, Some, None, Bool}
+use Rattle.std.proofs.Common.{◌≡◌, ◌≢◌, ℕ, suc, ◌+◌, ◌<◌, ◌⊎◌, inl, ⊎_elim, ◌==◌, cond, List, [], ◌∷◌, length, get_or, set, refl, sym, ap, ◌∙◌, subst, arith, eqb, eq-eqb, ne_eqb, Some, None, Bool}
 use Rattle.std.proofs.lemmas.List.{get_or_past}
 use mathlib.Core.Option.{Option as Maybe, some}
 use mathlib.Core.Logic.{dite}

@@ -1,5 +1,5 @@
 -- One more is counted.
-use Rattle.std.proofs.Common.{◌≡◌, ◌≢◌, ℕ, ◌+◌, ◌<◌, ◌==◌, cond, List, [], ◌∷◌, ◌++◌, length, get_or, set, refl, sym, ap, ◌∙◌, subst, arith, eq-eqb, ne_eqb, length-set}
+use Rattle.std.proofs.Common.{◌≡◌, ◌≢◌, ℕ, ◌+◌, ◌<◌, cond, List, [], ◌∷◌, ◌++◌, length, get_or, set, refl, sym, ap, ◌∙◌, subst, arith, eq-eqb, ne_eqb, length-set}
 use Rattle.std.proofs.lemmas.List.{append-nil, get_or-set_same, get_or-set_other, length-append}
 use mathlib.Core.Logic.{dite}
 use native.Mathlib.Decide.{ℕ_discrete}
@@ -41,4 +41,3 @@ adds_reaped t done reaped x small h = record {
   done_is = h.done_is;
   reaped_is = λ r few. counts_one t.reaped x.0 (λ k. length (numbers_of k reaped)) (λ k. length (numbers_of k (reaped ++ x ∷ []))) (let e = h.eight.1 in omega arith) h.reaped_is (numbers_more reaped x) (numbers_same reaped x) r few small;
 }
-

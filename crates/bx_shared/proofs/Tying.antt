@@ -26,10 +26,10 @@ use Rattle.bx_shared.proofs.Determined.{same_lists}
 abbrev pub parts_of : List RoutePlace → List RouteView
 parts_of sides = map (λ (s : RoutePlace). s.part) sides
 
-no_side : {P : Type 0} (s : RoutePlace) → None ≡ Some s → P
+pub no_side : {P : Type 0} (s : RoutePlace) → None ≡ Some s → P
 no_side s e = cc
 
-same_side : (x s : RoutePlace) → Some x ≡ Some s → x ≡ s
+pub same_side : (x s : RoutePlace) → Some x ≡ Some s → x ≡ s
 same_side x s e = cc
 
 -- each side's place is among theirs

@@ -1,5 +1,5 @@
 -- How the mailboxes end: the bus's seat takes all places back, seals the mailboxes, and tells what waits, the oldest first.
-use Rattle.std.specs.Prelude.{◌≡◌, ℕ, ◌+◌, ◌-◌, ◌*◌, ◌/◌, ◌<◌, ◌≤◌, Option, Some, None, List, [], ◌∷◌, ◌++◌, false, map, length, slice_index}
+use Rattle.std.specs.Prelude.{◌≡◌, ℕ, ◌+◌, ◌-◌, ◌*◌, ◌/◌, ◌<◌, ◌≤◌, Option, Some, None, List, [], ◌∷◌, ◌++◌, false, map, length, slice_get, slice_index}
 use Rattle.std.proofs.Common.{◌∙◌, sym, ap}
 use Rattle.atomic_table.specs.Table.{Me}
 use Rattle.bx_core.specs.declared.left.Left.{Left}
@@ -7,10 +7,13 @@ use Rattle.bx_core.specs.declared.waiting.Waiting.{Waiting}
 use Rattle.bx_core.specs.Lists.{Each, Has}
 use Rattle.bx_core.specs.States.{State}
 use Rattle.bx_core.specs.Law.{Law, count_at}
+use Rattle.bx_core.specs.Stands.{entries_of, numbers_of}
+use Rattle.bx_core.specs.TxBus.{label_of}
 use Rattle.bx_core.specs.Ties.{as_left}
 use Rattle.bx_words.specs.Lanes.{lane_of}
 use Rattle.bx_words.specs.Payloads.{IsHeadOf, bytes_word}
 use Rattle.bx_shared.specs.declared.said.Said.{Said}
+use Rattle.bx_shared.specs.declared.closed.RouteCounts.{RouteCounts}
 use Rattle.bx_shared.specs.declared.route_view.RouteView.{RouteView}
 use Rattle.bx_shared.specs.declared.bus_view.BusView.{BusView}
 use Rattle.bx_shared.specs.declared.view.View.{View}
@@ -89,6 +92,17 @@ pub record Remains (word : ℕ) (es : List Waiting) (left : List Left) : Type 0 
 pub record IsSideOf (b : BusPlace) (route : ℕ) (s : RoutePlace) : Type 0 where
   pub table : s.table ≡ b.table
   pub route_is : s.part.route ≡ route
+
+-- these are the counts of this route: the lengths of the lists of what its seat requested and aborted, and of what the bus's seat
+-- sent and reaped of it
+pub record IsCounted (b : BusPlace) (route : ℕ) (s : RoutePlace) (c : RouteCounts) : Type 0 where
+  pub requested : c.requested ≡ length s.part.requested
+  pub aborted : c.aborted ≡ length s.part.aborted
+  pub done : c.done ≡ length (entries_of route b.bus.done)
+  pub reaped : c.reaped ≡ length (numbers_of route (map label_of b.bus.reaped))
+
+abbrev pub AreCounted : BusPlace → List RoutePlace → List RouteCounts → Type 0
+AreCounted b sides counts = (route : ℕ) (s : RoutePlace) (c : RouteCounts) → slice_get sides route ≡ Some s → slice_get counts route ≡ Some c → IsCounted b route s c
 
 -- for how many routes the mailboxes are
 abbrev pub routes_of : BusPlace → ℕ

@@ -7,9 +7,10 @@ ghost use Rattle.bx_words.specs.Lanes.{lane_of};
 ghost use Rattle.bx_shared.specs.Steps.{bus_seat, bus_of};
 ghost use Rattle.bx_shared.specs.Seats.{IsAt, RoutePlace};
 ghost use Rattle.bx_shared.specs.Sides.{BusAfter, RouteAfter};
-ghost use Rattle.bx_shared.specs.Closing.{AreAllIdle, Ends, IsLast, IsInMailbox, Remains, IsSideOf, routes_of, sealed_seat, waiting_in};
+ghost use Rattle.bx_shared.specs.Closing.{AreAllIdle, Ends, IsLast, IsInMailbox, Remains, IsSideOf, AreCounted, routes_of, sealed_seat, waiting_in};
 
 use crate::bus_seat::BusSeat;
+use crate::closed::RouteCounts;
 use crate::plays::{Paste, ReadLast, Seal};
 use crate::route_seat::RouteSeat;
 use crate::route_steps::{Seat, Words};
@@ -139,4 +140,27 @@ pub(crate) fn end(
     join_all(&words, &mut seat, sides);
     let word = seal(&words, &mut seat);
     leave(&words, &mut seat, alloc, word)
+}
+
+/// Of each route, how many of its requests there were and how many ended how.
+pub(crate) fn counts_of(
+    alloc: Global,
+    bus: &BusSeat,
+    sides: &[RouteSeat],
+) -> Result<Vec<RouteCounts>, AllocError>
+    requires { length sides.now ≤ 8 }
+    ensures size { IfOk result (λ counts. length counts.items ≡ length sides.now) }
+    ensures counted { IfOk result (λ counts. AreCounted bus.now sides.now counts.items) }
+{
+    let mut counts = Vec::with_capacity(alloc, sides.len())?;
+    for route in 0..sides.len() {
+        let side = &sides[route];
+        counts.push(RouteCounts {
+            requested: side.requested,
+            aborted: side.aborted,
+            done: bus.tally.done[route],
+            reaped: bus.tally.reaped[route],
+        })?;
+    }
+    Ok(counts)
 }

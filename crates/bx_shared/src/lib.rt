@@ -8,6 +8,7 @@ mod bus_seat;
 mod bus_side;
 mod bus_steps;
 mod bus_view;
+mod closed;
 mod closing;
 mod dealing;
 mod ending;
@@ -26,6 +27,7 @@ mod view;
 
 pub use crate::abort_outcome::AbortOutcome;
 pub use crate::bus_seat::BusSeat;
+pub use crate::closed::{Closed, RouteCounts};
 pub use crate::mail::Mail;
 pub use crate::request_answer::RequestAnswer;
 pub use crate::route_seat::RouteSeat;

@@ -1,8 +1,13 @@
 //! Mailboxes that threads share by atomic steps.
 ghost use Rattle.std.specs.Prelude.{◌≡◌, ◌≤◌, true, IfOk, length};
+ghost use Rattle.bx_core.specs.Ties.{AreSides, AllTied, NothingBeyond};
 ghost use Rattle.bx_shared.specs.Seats.{IsNewBus, AreDealt};
+ghost use Rattle.bx_shared.specs.Sides.{BusAfter, RouteAfter};
+ghost use Rattle.bx_shared.specs.Closing.{IsSideOf, routes_of, AreCounted};
 
 use crate::bus_seat::BusSeat;
+use crate::closed::Closed;
+use crate::closing::{counts_of, end};
 use crate::dealing::deal;
 use crate::route_seat::RouteSeat;
 use can_frame::Memory;
@@ -41,5 +46,25 @@ impl Mail {
         ensures seats { IfOk result (λ made. AreDealt made.0.table made.1.items) }
     {
         Ok(deal(alloc, routes, txfp)?)
+    }
+
+    /// Ends the mailboxes, given the bus's seat and the seats of all their routes, in order: how many requests each route
+    /// made, and how many ended how, and what waits, the oldest first. `Memory` where a growth was refused: then the
+    /// seats are gone.
+    pub fn close(alloc: Global, bus: BusSeat, routes: Vec<RouteSeat>) -> Result<Closed, Memory>
+        requires all { length routes.items ≡ routes_of bus }
+        requires sides { AreSides IsSideOf bus routes.items }
+        ensures size { IfOk result (λ closed. length closed.routes.items ≡ length routes.items) }
+        ensures counted { IfOk result (λ closed. AreCounted bus routes.items closed.routes.items) }
+        ensures tied { IfOk result (λ closed. AllTied BusAfter RouteAfter bus.txfp bus routes.items closed.left.items) }
+        ensures beyond { IfOk result (λ closed. NothingBeyond BusAfter (routes_of bus) bus closed.left.items) }
+        ensures few { IfOk result (λ closed. length closed.left.items ≤ 3) }
+    {
+        let counts = counts_of(alloc, &bus, &routes)?;
+        let left = end(alloc, bus, routes)?;
+        Ok(Closed {
+            routes: counts,
+            left,
+        })
     }
 }

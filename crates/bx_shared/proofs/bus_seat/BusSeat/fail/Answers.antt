@@ -1,5 +1,5 @@
 -- The seat keeps its invariant, and one more is counted where it was reaped.
-use Rattle.std.proofs.Common.{◌≡◌, ◌%◌, ◌<◌, Option, Some, None, map, refl, sym, ap, ◌∙◌, subst}
+use Rattle.std.proofs.Common.{◌≡◌, ◌%◌, ◌<◌, Option, Some, map, sym, ap, ◌∙◌, subst}
 use Rattle.std.specs.Prelude.{IfSome}
 use Rattle.atomic_table.specs.Table.{Me}
 use Rattle.bx_core.specs.TxBus.{Item, label_of}

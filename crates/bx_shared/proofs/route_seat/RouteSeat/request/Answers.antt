@@ -1,5 +1,5 @@
 -- The seat keeps its invariant where a request is taken.
-use Rattle.std.proofs.Common.{◌≡◌, List, ℕ, ◌+◌, ◌<◌, ◌≤◌, length, arith, set, sym, ap, ◌∙◌}
+use Rattle.std.proofs.Common.{List, ℕ, length, arith, set, sym, ap, ◌∙◌}
 use Rattle.bx_core.specs.Steps.{last_number}
 use Rattle.bx_shared.specs.Seats.{RoutePlace, entry}
 use Rattle.bx_shared.specs.Steps.{part_of}
