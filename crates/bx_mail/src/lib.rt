@@ -15,4 +15,4 @@ pub use crate::post::Post;
 pub use crate::post_bus::PostBus;
 pub use crate::post_route::PostRoute;
 pub use crate::posting::{Asks, Posting};
-pub use bx_shared::{AbortOutcome, BusSeat, Mail, RequestAnswer, RouteSeat};
+pub use bx_shared::{AbortOutcome, BusSeat, Closed, Mail, RequestAnswer, RouteCounts, RouteSeat};

@@ -1,8 +1,7 @@
 //! Mailboxes in words that threads share: requests by hand, with a gate that makes another seat's request in between.
 
 use bx_core::{AbortAnswer, Gate, NoGate, NumberTooLarge, Point, RouteTx, Sent, TxBus};
-use bx_mail::{BusSeat, Mail, RequestAnswer, RouteSeat};
-use bx_shared::AbortOutcome;
+use bx_mail::{AbortOutcome, BusSeat, Mail, RequestAnswer, RouteSeat};
 use can_frame::{Frame, Id};
 use std::alloc::Global;
 use std::test::Fail;
