@@ -28,6 +28,8 @@ mod segment;
 #[cfg(test)]
 mod shared;
 #[cfg(test)]
+mod shared_closing;
+#[cfg(test)]
 mod threaded_runs;
 #[cfg(test)]
 mod turns;

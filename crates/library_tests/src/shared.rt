@@ -1,5 +1,8 @@
 //! Mailboxes in words that threads share: requests by hand, with a gate that makes another seat's request in between.
 
+ghost use Rattle.bx_shared.specs.Sides.{SameRoute};
+ghost use Rattle.bx_shared.specs.Calls.{SameMailboxes};
+
 use bx_core::{AbortAnswer, Gate, NoGate, NumberTooLarge, Point, RouteTx, Sent, TxBus};
 use bx_mail::{AbortOutcome, BusSeat, Mail, RequestAnswer, RouteSeat};
 use can_frame::{Frame, Id};
@@ -7,17 +10,19 @@ use std::alloc::Global;
 use std::test::Fail;
 
 /// A standard data frame with no bytes.
-fn data(number: u16) -> Result<Frame, Fail> {
+pub(crate) fn data(number: u16) -> Result<Frame, Fail> {
     Ok(Frame::with_bytes(Id::standard(number)?, &[])?)
 }
 
 /// Requests a frame under a number above the last one, as the gate is told.
-fn request<G: Gate>(
+pub(crate) fn request<G: Gate>(
     seat: &mut RouteSeat,
     number: u32,
     frame: Frame,
     gate: &mut G,
-) -> Option<Result<RequestAnswer, NumberTooLarge>> {
+) -> Option<Result<RequestAnswer, NumberTooLarge>>
+    ensures { SameRoute seat.old seat.new }
+{
     if number <= seat.last() {
         return None;
     }
@@ -25,7 +30,9 @@ fn request<G: Gate>(
 }
 
 /// The mailbox in which the frame of this identifier is requested.
-fn taken(seat: &mut RouteSeat, number: u32, id: u16) -> Result<u8, Fail> {
+pub(crate) fn taken(seat: &mut RouteSeat, number: u32, id: u16) -> Result<u8, Fail>
+    ensures { SameRoute seat.old seat.new }
+{
     match request(seat, number, data(id)?, &mut NoGate) {
         Some(Ok(RequestAnswer::Taken(mailbox))) => Ok(mailbox),
         _ => Err(Fail::new("the request isn't taken")),
@@ -33,7 +40,9 @@ fn taken(seat: &mut RouteSeat, number: u32, id: u16) -> Result<u8, Fail> {
 }
 
 /// Aborts a request under a number of the route's.
-fn abort(seat: &mut RouteSeat, number: u32) -> Option<AbortOutcome> {
+pub(crate) fn abort(seat: &mut RouteSeat, number: u32) -> Option<AbortOutcome>
+    ensures { SameRoute seat.old seat.new }
+{
     if number < 1 || seat.last() < number {
         return None;
     }
@@ -41,12 +50,16 @@ fn abort(seat: &mut RouteSeat, number: u32) -> Option<AbortOutcome> {
 }
 
 /// What the bus starts, where it is ready.
-fn started(bus: &mut BusSeat) -> Option<(u8, u32, Frame)> {
+pub(crate) fn started(bus: &mut BusSeat) -> Option<(u8, u32, Frame)>
+    ensures { SameMailboxes bus.old bus.new }
+{
     if bus.ready() { bus.start() } else { None }
 }
 
 /// What is transmitting was sent.
-fn complete(bus: &mut BusSeat) -> Result<(), Fail> {
+pub(crate) fn complete(bus: &mut BusSeat) -> Result<(), Fail>
+    ensures { SameMailboxes bus.old bus.new }
+{
     if !bus.is_transmitting() {
         return Err(Fail::new("nothing is transmitting"));
     }
@@ -55,7 +68,9 @@ fn complete(bus: &mut BusSeat) -> Result<(), Fail> {
 }
 
 /// What is transmitting failed.
-fn fail(bus: &mut BusSeat) -> Result<Option<(u8, u32)>, Fail> {
+pub(crate) fn fail(bus: &mut BusSeat) -> Result<Option<(u8, u32)>, Fail>
+    ensures { SameMailboxes bus.old bus.new }
+{
     if !bus.is_transmitting() {
         return Err(Fail::new("nothing is transmitting"));
     }
