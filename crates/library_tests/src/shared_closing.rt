@@ -1,7 +1,8 @@
 //! Closing mailboxes that threads share: by hand, and with each seat in a thread of its own.
 
-ghost use Rattle.std.specs.Prelude.{◌≡◌, length, IfOk};
+ghost use Rattle.std.specs.Prelude.{◌≡◌, ◌<◌, ◌≤◌, ℕ, IfOk, length, vec_len, slice_index_or};
 ghost use Rattle.bx_core.specs.Ties.{AreSides};
+ghost use Rattle.bx_shared.specs.Seats.{RoutePlace};
 ghost use Rattle.bx_shared.specs.Sides.{SameRoute};
 ghost use Rattle.bx_shared.specs.Calls.{SameMailboxes};
 ghost use Rattle.bx_shared.specs.Closing.{IsSideOf, routes_of};
@@ -116,10 +117,9 @@ fn closing_counts_what_was_ended(rt: HostRuntime) -> Result<(), Fail> {
 }
 
 /// A thousand tries of a route to request, and an abort after each tenth.
-fn try_all(route: RouteSeat) -> RouteSeat
-    ensures { SameRoute route result }
+fn try_all(mut seat: RouteSeat) -> RouteSeat
+    ensures { SameRoute seat result }
 {
-    let mut seat = route;
     for turn in 0..1000u32 {
         let number = seat.last().saturating_add(1);
         let _ = request(&mut seat, number, Frame::default(), &mut NoGate);
@@ -132,28 +132,39 @@ fn try_all(route: RouteSeat) -> RouteSeat
 }
 
 /// The bus sends until all routes have ended; every second transmission fails.
-fn send_all<R: Wait>(rt: &R, bus: BusSeat, ended: &AtomicBool) -> BusSeat
+fn send_all<R: Wait>(rt: &R, mut bus: BusSeat, ended: &AtomicBool) -> BusSeat
     ensures { SameMailboxes bus result }
 {
-    let mut seat = bus;
     let mut fails = false;
     for _ in rt.forever() {
         if ended.load(Ordering::SeqCst) {
             break;
         }
-        let _ = started(&mut seat);
-        if !seat.is_transmitting() {
+        let _ = started(&mut bus);
+        if !bus.is_transmitting() {
             thread::yield_now();
             continue;
         }
         if fails {
-            let _ = seat.fail();
+            let _ = bus.fail();
         } else {
-            seat.complete();
+            bus.complete();
         }
         fails = !fails;
     }
-    seat
+    bus
+}
+
+/// Each route tries in a thread of its own.
+fn try_each<R: Threads + Sync>(
+    rt: &R,
+    routes: Vec<RouteSeat>,
+) -> Result<Vec<RouteSeat>, AllocError>
+    ensures size { IfOk result (λ tried. vec_len tried ≡ vec_len routes) }
+    ensures same { IfOk result (λ tried. (k : ℕ) (s : RoutePlace) → k < vec_len routes →
+        SameRoute (slice_index_or routes.items k s) (slice_index_or tried.items k s)) }
+{
+    thread::map_vec(rt, routes, &|seat| try_all(seat))
 }
 
 /// Each route tries in a thread of its own, and the bus sends in another.
@@ -164,7 +175,7 @@ fn run_all<R: Threads + Wait + Sync>(rt: &R, seats: Seats) -> Result<Seats, Allo
         rt,
         || send_all(rt, bus, &ended),
         || {
-            let tried = thread::map_vec(rt, routes, &|seat| try_all(seat));
+            let tried = try_each(rt, routes);
             ended.store(true, Ordering::SeqCst);
             tried
         },
