@@ -1,6 +1,6 @@
 //! Closing mailboxes that threads share: by hand, and with each seat in a thread of its own.
 
-ghost use Rattle.std.specs.Prelude.{◌≡◌, ◌<◌, ◌≤◌, ℕ, IfOk, length, vec_len, slice_index_or};
+ghost use Rattle.std.specs.Prelude.{◌≡◌, ◌<◌, ◌≤◌, ℕ, IfOk, length, slice_index_or};
 ghost use Rattle.bx_core.specs.Ties.{AreSides};
 ghost use Rattle.bx_shared.specs.Seats.{RoutePlace};
 ghost use Rattle.bx_shared.specs.Sides.{SameRoute};
@@ -160,17 +160,25 @@ fn try_each<R: Threads + Sync>(
     rt: &R,
     routes: Vec<RouteSeat>,
 ) -> Result<Vec<RouteSeat>, AllocError>
-    ensures size { IfOk result (λ tried. vec_len tried ≡ vec_len routes) }
-    ensures same { IfOk result (λ tried. (k : ℕ) (s : RoutePlace) → k < vec_len routes →
+    ensures size { IfOk result (λ tried. length tried.items ≡ length routes.items) }
+    ensures same { IfOk result (λ tried. (k : ℕ) (s : RoutePlace) → k < length routes.items →
         SameRoute (slice_index_or routes.items k s) (slice_index_or tried.items k s)) }
 {
     thread::map_vec(rt, routes, &|seat| try_all(seat))
 }
 
 /// Each route tries in a thread of its own, and the bus sends in another.
-fn run_all<R: Threads + Wait + Sync>(rt: &R, seats: Seats) -> Result<Seats, AllocError> {
+fn run_both<R: Threads + Wait + Sync>(
+    rt: &R,
+    bus: BusSeat,
+    routes: Vec<RouteSeat>,
+) -> Result<(BusSeat, Vec<RouteSeat>), AllocError>
+    ensures bus { IfOk result (λ run. SameMailboxes bus run.0) }
+    ensures size { IfOk result (λ run. length run.1.items ≡ length routes.items) }
+    ensures same { IfOk result (λ run. (k : ℕ) (s : RoutePlace) → k < length routes.items →
+        SameRoute (slice_index_or routes.items k s) (slice_index_or run.1.items k s)) }
+{
     let ended = AtomicBool::new(false);
-    let Seats { bus, routes } = seats;
     let (bus, routes) = thread::join(
         rt,
         || send_all(rt, bus, &ended),
@@ -180,7 +188,15 @@ fn run_all<R: Threads + Wait + Sync>(rt: &R, seats: Seats) -> Result<Seats, Allo
             tried
         },
     );
-    Ok(Seats { bus, routes: routes? })
+    Ok((bus, routes?))
+}
+
+/// The seats after that.
+#[tactic(auto, using(crate::proofs::Seating::sides_after, crate::proofs::Seating::all_after))]
+fn run_all<R: Threads + Wait + Sync>(rt: &R, seats: Seats) -> Result<Seats, AllocError> {
+    let Seats { bus, routes } = seats;
+    let (bus, routes) = run_both(rt, bus, routes)?;
+    Ok(Seats { bus, routes })
 }
 
 #[test]
