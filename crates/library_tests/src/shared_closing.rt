@@ -87,11 +87,27 @@ fn closing_leaves_what_waits(rt: HostRuntime) -> Result<(), Fail> {
         reaped: 0,
     };
     assert_eq!(rt; closed.routes.as_slice(), [counts].as_slice());
-    assert_eq!(rt; closed.left.as_slice(), [
-        Left { route: 0, number: 2, frame: data(0x102)? },
-        Left { route: 0, number: 3, frame: data(0x103)? },
-        Left { route: 0, number: 4, frame: data(0x104)? },
-    ].as_slice());
+    assert_eq!(rt;
+        closed.left.as_slice(),
+        [
+            Left {
+                route: 0,
+                number: 2,
+                frame: data(0x102)?
+            },
+            Left {
+                route: 0,
+                number: 3,
+                frame: data(0x103)?
+            },
+            Left {
+                route: 0,
+                number: 4,
+                frame: data(0x104)?
+            },
+        ]
+        .as_slice()
+    );
     Ok(())
 }
 
@@ -111,7 +127,10 @@ fn closing_counts_what_was_ended(rt: HostRuntime) -> Result<(), Fail> {
         done: 0,
         reaped,
     };
-    assert_eq!(rt; closed.routes.as_slice(), [counts(0, 1), counts(1, 0)].as_slice());
+    assert_eq!(rt;
+        closed.routes.as_slice(),
+        [counts(0, 1), counts(1, 0)].as_slice()
+    );
     assert!(rt; closed.left.is_empty());
     Ok(())
 }
@@ -156,10 +175,7 @@ fn send_all<R: Wait>(rt: &R, mut bus: BusSeat, ended: &AtomicBool) -> BusSeat
 }
 
 /// Each route tries in a thread of its own.
-fn try_each<R: Threads + Sync>(
-    rt: &R,
-    routes: Vec<RouteSeat>,
-) -> Result<Vec<RouteSeat>, AllocError>
+fn try_each<R: Threads + Sync>(rt: &R, routes: Vec<RouteSeat>) -> Result<Vec<RouteSeat>, AllocError>
     ensures size { IfOk result (λ tried. length tried.items ≡ length routes.items) }
     ensures same { IfOk result (λ tried. (k : ℕ) (s : RoutePlace) → k < length routes.items →
         SameRoute (slice_index_or routes.items k s) (slice_index_or tried.items k s)) }
@@ -205,10 +221,16 @@ fn seats_in_threads_of_their_own_are_closed(rt: HostRuntime) -> Result<(), Fail>
     let closed = seats.close(rt.alloc())?;
     assert_eq!(rt; closed.routes.len(), 8);
     for (route, counts) in closed.routes.iter().enumerate() {
-        let left = closed.left.iter().filter(|left| usize::from(left.route) == route).count();
-        let ends = [counts.aborted, counts.done, counts.reaped].iter().fold(left as u64, |sum, one| {
-            sum.saturating_add(u64::from(*one))
-        });
+        let left = closed
+            .left
+            .iter()
+            .filter(|left| usize::from(left.route) == route)
+            .count();
+        let ends = [counts.aborted, counts.done, counts.reaped]
+            .iter()
+            .fold(left as u64, |sum, one| {
+                sum.saturating_add(u64::from(*one))
+            });
         assert_eq!(rt; u64::from(counts.requested), ends);
     }
     Ok(())
