@@ -9,7 +9,7 @@ ghost use Rattle.bx_shared.specs.Closing.{IsSideOf, routes_of};
 
 use crate::shared::{abort, complete, data, fail, request, started, taken};
 use bx_core::{Left, NoGate};
-use bx_shared::{AbortOutcome, BusSeat, Closed, Mail, RouteCounts, RouteSeat};
+use bx_mail::{AbortOutcome, BusSeat, Closed, Mail, RouteCounts, RouteSeat};
 use can_frame::Frame;
 use std::alloc::{AllocError, Global};
 use std::sync::Wait;
