@@ -8,7 +8,8 @@ use Rattle.atomic_table.specs.Table.{keeps, stepped}
 use Rattle.atomic_table.proofs.Lists.{at_set}
 use Rattle.bx_core.specs.declared.status.Status.{Status}
 use Rattle.bx_core.specs.declared.waiting.Waiting.{Waiting}
-use Rattle.bx_core.specs.Lists.{Each}
+use Rattle.bx_core.specs.Lists.{Each, Has}
+use Rattle.bx_core.specs.Stands.{BusStands, entry_on_bus}
 use Rattle.bx_core.specs.States.{State, RouteLists, lists_of}
 use Rattle.bx_core.specs.Steps.{with_waiting, without}
 use Rattle.bx_core.specs.Law.{Reached}
@@ -22,7 +23,7 @@ use Rattle.bx_shared.specs.declared.route_view.RouteView.{RouteView}
 use Rattle.bx_shared.specs.declared.bus_view.BusView.{BusView}
 use Rattle.bx_shared.specs.declared.view.View.{View}
 use Rattle.bx_shared.specs.Marks.{count_requests, rest_by}
-use Rattle.bx_shared.specs.Shown.{Shows, Fits, count_in, AreHeads, FitsBus, Holds, IsKept, IsKeptAs}
+use Rattle.bx_shared.specs.Shown.{Shows, Fits, past_of, IsToReap, count_in, AreHeads, FitsBus, Holds, IsKept, IsKeptAs}
 use Rattle.bx_shared.specs.Steps.{view}
 use Rattle.bx_shared.specs.BusSteps.{no_heads}
 use Rattle.bx_shared.proofs.Moves.{St, no_seal}
@@ -75,6 +76,18 @@ pub bus_stays : (txfp : Bool) (t : St) (k : IsKept txfp t) (id i : ℕ) (b d : B
     IsKeptAs txfp (stepped t i (get_or t.words i 0) id [] (with_bus d rs) keeps) k.core
 bus_stays txfp t k id i b d rs me mine = subst (λ (ws : List ℕ). IsKeptAs txfp (record { words = ws; homes = t.homes; views = set t.views id (with_bus d rs) }) k.core) (sym (set-get_or t.words i 0))
     (bus_moves txfp t k id b d rs t.words k.core me k.reached k.priority k.eight k.shows (mine (bus_knows txfp t k id b rs me)) (λ o f. f))
+
+-- what the seat knows is so where it only looked, tried or read: nothing else of it changes
+pub bus_as : (s : State) (b d : BusView) → d.txfp ≡ b.txfp → past_of d ≡ past_of b → d.reaped ≡ b.reaped → d.sends ≡ b.sends → d.reaps ≡ b.reaps → d.mailbox ≡ b.mailbox → (s.txfp ≡ false → AreHeads s d) → FitsBus s b → FitsBus s d
+bus_as s b d txfp past reaped sends reaps mailbox heads f = record {
+  priority = f.priority ∙ sym txfp;
+  stands = subst (BusStands s) (sym past) f.stands;
+  reaped_known = subst (Each (λ x. Has (lists_of s x.0).requested (entry_on_bus x))) (sym reaped) f.reaped_known;
+  sends = f.sends ∙ sym sends;
+  mailbox = λ w on. f.mailbox w on ∙ sym mailbox;
+  reaps = λ x e. subst (λ (m : ℕ). IsToReap s m x) (sym mailbox) (f.reaps x (sym reaps ∙ e));
+  heads = heads;
+}
 
 -- the heads that were read
 

@@ -42,34 +42,18 @@ use Rattle.bx_shared.proofs.Showing.{apart_queue, small_mailboxes}
 use Rattle.bx_shared.proofs.Looking.{lane_of_request, each_all}
 use Rattle.bx_shared.proofs.Finding.{is_there, status_of, asked_by, find-mark, is_sent, no_item}
 use Rattle.bx_shared.proofs.Moves.{St}
-use Rattle.bx_shared.proofs.BusMoves.{with_bus, bus_knows, bus_stays, count_is, heads_looked, heads_mark}
+use Rattle.bx_shared.proofs.BusMoves.{with_bus, bus_knows, bus_stays, bus_as, count_is, heads_looked, heads_mark}
 use Rattle.bx_shared.proofs.Transmitting.{bus_marks}
 
 -- a look, and an exchange that finds another word, change no state of the core
 
 pub bus_looks : (txfp : Bool) (t : St) (k : IsKept txfp t) (id : ℕ) (b : BusView) (rs : List RouteView) → get_elem? t.views id ≡ some (with_bus b rs) →
     IsKeptAs txfp (stepped t 0 (get_or t.words 0 0) id [] (with_bus (bus_looked b (get_or t.words 0 0)) rs) keeps) k.core
-bus_looks txfp t k id b rs me = bus_stays txfp t k id 0 b (bus_looked b (get_or t.words 0 0)) rs me (λ f. record {
-  stands = record { started_known = f.stands.started_known; done_is = f.stands.done_is; reaped_is = f.stands.reaped_is };
-  priority = f.priority;
-  reaped_known = f.reaped_known;
-  sends = f.sends;
-  mailbox = f.mailbox;
-  reaps = λ x e. let g = f.reaps x e in record { request = g.request; turn = g.turn; asked = g.asked; mailbox_is = g.mailbox_is; item_is = g.item_is };
-  heads = λ h. let z = heads_looked k.core b (get_or t.words 0 0) (count_is k.core (get_or t.words 0 0) h k.shows.rest) in record { before = z.before; heads = z.heads };
-})
+bus_looks txfp t k id b rs me = bus_stays txfp t k id 0 b (bus_looked b (get_or t.words 0 0)) rs me (λ f. bus_as k.core b (bus_looked b (get_or t.words 0 0)) refl refl refl refl refl refl (λ h. let z = heads_looked k.core b (get_or t.words 0 0) (count_is k.core (get_or t.words 0 0) h k.shows.rest) in record { before = z.before; heads = z.heads }) f)
 
 pub bus_misses : (txfp : Bool) (t : St) (k : IsKept txfp t) (id new : ℕ) (b : BusView) (rs : List RouteView) → get_elem? t.views id ≡ some (with_bus b rs) →
     IsKeptAs txfp (stepped t 0 (get_or t.words 0 0) id [] (with_bus (bus_tried b (get_or t.words 0 0) new) rs) keeps) k.core
-bus_misses txfp t k id new b rs me = bus_stays txfp t k id 0 b (bus_tried b (get_or t.words 0 0) new) rs me (λ f. record {
-  stands = record { started_known = f.stands.started_known; done_is = f.stands.done_is; reaped_is = f.stands.reaped_is };
-  priority = f.priority;
-  reaped_known = f.reaped_known;
-  sends = f.sends;
-  mailbox = f.mailbox;
-  reaps = λ x e. let g = f.reaps x e in record { request = g.request; turn = g.turn; asked = g.asked; mailbox_is = g.mailbox_is; item_is = g.item_is };
-  heads = λ h. let z = f.heads h in record { before = z.before; heads = z.heads };
-})
+bus_misses txfp t k id new b rs me = bus_stays txfp t k id 0 b (bus_tried b (get_or t.words 0 0) new) rs me (λ f. bus_as k.core b (bus_tried b (get_or t.words 0 0) new) refl refl refl refl refl refl (λ h. let z = f.heads h in record { before = z.before; heads = z.heads }) f)
 
 -- a payload word of a mailbox is read
 
@@ -106,20 +90,12 @@ reads_head txfp t k id m b rs me small =
     let ws = t.words in
     let head = get_or ws (1 + 2 * m) 0 in
     let P : BusView → Waiting → Type 0 = λ c w. (x : ℕ) → slice_index_or c.heads w.mailbox None ≡ Some x → IsHeadOf w.frame w.number x in (
-      bus_stays txfp t k id (1 + 2 * m) b (head_read b m head) rs me (λ f. record {
-        stands = record { started_known = f.stands.started_known; done_is = f.stands.done_is; reaped_is = f.stands.reaped_is };
-        priority = f.priority;
-        reaped_known = f.reaped_known;
-        sends = f.sends;
-        mailbox = f.mailbox;
-        reaps = λ x e. let g = f.reaps x e in record { request = g.request; turn = g.turn; asked = g.asked; mailbox_is = g.mailbox_is; item_is = g.item_is };
-        heads = λ h. let z = f.heads h in record {
-          before = z.before;
-          heads = λ is. each_all (P (head_read b m head)) s.queue s.queue (λ w has x e. dite (ℕ_discrete w.mailbox m)
-              (λ here. subst (IsHeadOf w.frame w.number) (ap (λ j. get_or ws (1 + 2 * j) 0) here ∙ put_there b.heads m head x (ap (λ j. get_or (set b.heads m (Some head)) j None) (sym here) ∙ e)) (each_of (IsPaid ws) s.queue w k.shows.payload has).head_is)
-              (λ n. each_of (P b) s.queue w (z.heads is) has x (sym (get_or-set_other b.heads m w.mailbox (Some head) None n) ∙ e))) (λ w has. has);
-        };
-      }),
+      bus_stays txfp t k id (1 + 2 * m) b (head_read b m head) rs me (λ f. bus_as s b (head_read b m head) refl refl refl refl refl refl (λ h. let z = f.heads h in record {
+        before = z.before;
+        heads = λ is. each_all (P (head_read b m head)) s.queue s.queue (λ w has x e. dite (ℕ_discrete w.mailbox m)
+            (λ here. subst (IsHeadOf w.frame w.number) (ap (λ j. get_or ws (1 + 2 * j) 0) here ∙ put_there b.heads m head x (ap (λ j. get_or (set b.heads m (Some head)) j None) (sym here) ∙ e)) (each_of (IsPaid ws) s.queue w k.shows.payload has).head_is)
+            (λ n. each_of (P b) s.queue w (z.heads is) has x (sym (get_or-set_other b.heads m w.mailbox (Some head) None n) ∙ e))) (λ w has. has);
+      }) f),
       k.shows.heads m small,
       head_sent s ws b m k.shows (bus_knows txfp t k id b rs me),
     )
