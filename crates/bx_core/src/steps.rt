@@ -1,6 +1,8 @@
 //! What each event does to the mailboxes, and why it is refused.
-ghost use Rattle.std.specs.Prelude.{◌<◌, length};
-ghost use Rattle.bx_core.specs.Steps.{Steps, IsRequest, InRange, after, claimed, withdrawn, requested};
+ghost use Rattle.std.specs.Prelude.{◌≡◌, ◌<◌, length};
+ghost use Rattle.std.specs.List.{slice_index_or};
+ghost use Rattle.bx_core.specs.declared.waiting.Waiting.{Waiting};
+ghost use Rattle.bx_core.specs.Steps.{Steps, IsRequest, InRange, Leads, after, claimed, withdrawn, requested, with_waiting};
 ghost use Rattle.bx_core.specs.Steps.{scheduled, started, completed, failed, aborted, reaped};
 
 use crate::end::End;
@@ -81,30 +83,32 @@ impl Core {
         }
     }
 
+    /// The request at a place of the queue has come this far.
+    fn set_status(&mut self, place: usize, waiting: Waiting, status: Status)
+        requires place { place < length self.old.queue }
+        requires route { (w : Waiting) → (slice_index_or self.old.queue place w).route ≡ waiting.route }
+        requires leads { Leads self.old (with_waiting self.old place (record waiting { status = status })) }
+        ensures { self.new ≡ with_waiting self.old place (record waiting { status = status }) }
+    {
+        self.set_waiting(place, Waiting { status, ..waiting });
+    }
+
     #[tactic(auto, unfolding(crate::specs::Steps::scheduled))]
     fn schedule(&mut self, mailbox: u8) -> Result<(), Refused>
         requires in_mailboxes { mailbox < 3 }
         ensures { Steps ⊥ self.old (scheduled self.old mailbox) result self.new }
     {
-        match self.find(mailbox) {
-            None => Err(Refused::WrongState),
-            Some((place, waiting)) => {
-                if !waiting.status.is_pending() {
-                    return Err(Refused::WrongState);
-                }
-                if !self.is_next(place, &waiting) {
-                    return Err(Refused::NotOldest);
-                }
-                self.set_waiting(
-                    place,
-                    Waiting {
-                        status: Status::Scheduled,
-                        ..waiting
-                    },
-                );
-                Ok(())
-            }
+        let Some((place, waiting)) = self.find(mailbox) else {
+            return Err(Refused::WrongState);
+        };
+        if !waiting.status.is_pending() {
+            return Err(Refused::WrongState);
         }
+        if !self.is_next(place, &waiting) {
+            return Err(Refused::NotOldest);
+        }
+        self.set_status(place, waiting, Status::Scheduled);
+        Ok(())
     }
 
     #[tactic(auto, unfolding(crate::specs::Steps::started))]
@@ -112,22 +116,14 @@ impl Core {
         requires in_mailboxes { mailbox < 3 }
         ensures { Steps ⊥ self.old (started self.old mailbox) result self.new }
     {
-        match self.find(mailbox) {
-            None => Err(Refused::WrongState),
-            Some((place, waiting)) => {
-                if !waiting.may_start() {
-                    return Err(Refused::WrongState);
-                }
-                self.set_waiting(
-                    place,
-                    Waiting {
-                        status: Status::Transmitting,
-                        ..waiting
-                    },
-                );
-                Ok(())
-            }
+        let Some((place, waiting)) = self.find(mailbox) else {
+            return Err(Refused::WrongState);
+        };
+        if !waiting.may_start() {
+            return Err(Refused::WrongState);
         }
+        self.set_status(place, waiting, Status::Transmitting);
+        Ok(())
     }
 
     #[tactic(auto, unfolding(crate::specs::Steps::completed))]
@@ -135,16 +131,14 @@ impl Core {
         requires in_mailboxes { mailbox < 3 }
         ensures { Steps ⊥ self.old (completed self.old mailbox) result self.new }
     {
-        match self.find(mailbox) {
-            None => Err(Refused::WrongState),
-            Some((place, waiting)) => {
-                if !waiting.status.is_transmitting() {
-                    return Err(Refused::WrongState);
-                }
-                self.end(place, waiting, End::Done);
-                Ok(())
-            }
+        let Some((place, waiting)) = self.find(mailbox) else {
+            return Err(Refused::WrongState);
+        };
+        if !waiting.status.is_transmitting() {
+            return Err(Refused::WrongState);
         }
+        self.end(place, waiting, End::Done);
+        Ok(())
     }
 
     #[tactic(auto, unfolding(crate::specs::Steps::failed))]
@@ -152,22 +146,14 @@ impl Core {
         requires in_mailboxes { mailbox < 3 }
         ensures { Steps ⊥ self.old (failed self.old mailbox) result self.new }
     {
-        match self.find(mailbox) {
-            None => Err(Refused::WrongState),
-            Some((place, waiting)) => {
-                if !waiting.status.is_transmitting() {
-                    return Err(Refused::WrongState);
-                }
-                self.set_waiting(
-                    place,
-                    Waiting {
-                        status: Status::Scheduled, // the frame is tried again
-                        ..waiting
-                    },
-                );
-                Ok(())
-            }
+        let Some((place, waiting)) = self.find(mailbox) else {
+            return Err(Refused::WrongState);
+        };
+        if !waiting.status.is_transmitting() {
+            return Err(Refused::WrongState);
         }
+        self.set_status(place, waiting, Status::Scheduled); // the frame is tried again
+        Ok(())
     }
 
     #[tactic(auto, unfolding(crate::specs::Steps::aborted))]
@@ -211,15 +197,13 @@ impl Core {
         requires in_mailboxes { mailbox < 3 }
         ensures { Steps ⊥ self.old (reaped self.old mailbox) result self.new }
     {
-        match self.find(mailbox) {
-            None => Err(Refused::WrongState),
-            Some((place, waiting)) => {
-                if !waiting.may_reap() {
-                    return Err(Refused::WrongState);
-                }
-                self.end(place, waiting, End::Reaped);
-                Ok(())
-            }
+        let Some((place, waiting)) = self.find(mailbox) else {
+            return Err(Refused::WrongState);
+        };
+        if !waiting.may_reap() {
+            return Err(Refused::WrongState);
         }
+        self.end(place, waiting, End::Reaped);
+        Ok(())
     }
 }
