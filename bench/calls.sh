@@ -1,6 +1,7 @@
 #!/usr/bin/env bash
 # Measures calls of the libraries, by the program of crates/bench, which is proved and built first: `wire` and the
-# reader (frames), filters and receive FIFOs (filters), nodes on one bus (nodes), segments (segments).
+# reader (frames), filters and receive FIFOs (filters), transmit mailboxes that threads share (mail), nodes on one bus
+# (nodes), segments (segments).
 # Usage: bench/calls.sh [WORD..]; without a word all of them.
 set -eu
 cd "$(dirname "$0")/../crates/bench"
@@ -11,7 +12,7 @@ if ! rt run > "$log" 2>&1; then
   exit 1
 fi
 if [ $# -eq 0 ]; then
-  set -- frames filters nodes segments
+  set -- frames filters mail nodes segments
 fi
 for word in "$@"; do
   ./out/bench "$word"

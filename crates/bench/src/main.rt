@@ -1,8 +1,9 @@
-//! Times the calls of the libraries: `bench frames`, `bench filters`, `bench nodes`, `bench segments`.
+//! Times the calls of the libraries: `bench frames`, `bench filters`, `bench mail`, `bench nodes`, `bench segments`.
 #![tactic(auto)]
 
 mod filters;
 mod frames;
+mod mail;
 mod nodes;
 mod rate;
 mod segments;
@@ -15,8 +16,9 @@ fn main(rt: HostRuntime) -> io::Result<()> {
     match words.get(1).map(|word| word.as_str()) {
         Some("filters") => filters::measure(&rt),
         Some("frames") => frames::measure(&rt),
+        Some("mail") => mail::measure(&rt),
         Some("nodes") => nodes::measure(&rt),
         Some("segments") => segments::measure(&rt),
-        _ => println!(rt; "bench filters, frames, nodes or segments"),
+        _ => println!(rt; "bench filters, frames, mail, nodes or segments"),
     }
 }

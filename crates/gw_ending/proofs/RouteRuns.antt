@@ -13,7 +13,7 @@ use Rattle.can_segment.specs.Brought.{told_of, all_in, start_in, taken_in, grown
 use Rattle.can_segment.proofs.Places.{same_some}
 use Rattle.can_segment.proofs.Shown.{map_there}
 use Rattle.gw_route.specs.RouteHand.{HandValue, hand_value}
-use Rattle.gw_route.specs.declared.planned_abort.PlannedAbort.{PlannedAbort}
+use Rattle.gw_route.specs.declared.route_abort.RouteAbort.{RouteAbort}
 use Rattle.gw_script.specs.declared.route_report.RouteReport.{RouteReport}
 use Rattle.gw_config.specs.Controllers.{ControllerValue}
 use Rattle.gw_config.specs.Nodes.{controller_places, controller_at, talkers_on}
@@ -125,9 +125,9 @@ pub has_talkers : (s : ScriptValue) (sites : List Site) (place : Place) → AreD
 has_talkers s sites place done site e = (pair_at (λ i segment. IsDoneSite s i) s.segments sites place.site site done e).2.plan_is.talkers.size
 
 -- the log's aborted numbers are of the plan
-from_plan : (planned : List PlannedAbort) (h : HandValue) → FromPlan planned h → IsSublist h.aborted (numbers_in planned)
+from_plan : (planned : List RouteAbort) (h : HandValue) → FromPlan planned h → IsSublist h.aborted (numbers_in planned)
 from_plan planned h p = subst (λ aborts. IsSublist h.aborted (numbers_in aborts)) (sym p.all)
-    (subst (IsSublist h.aborted) (sym (map-append (λ (a : PlannedAbort). a.number) p.done h.aborts)) (sublist_left h.aborted (numbers_in p.done) (numbers_in h.aborts) p.logged))
+    (subst (IsSublist h.aborted) (sym (map-append (λ (a : RouteAbort). a.number) p.done h.aborts)) (sublist_left h.aborted (numbers_in p.done) (numbers_in h.aborts) p.logged))
 
 pub route_run : (room : ℕ) (s : ScriptValue) (sites : List Site) (k : ℕ) (route : RouteValue) (lane : Lane) (r : RouteReport) → IsSound s → AreDoneSites s sites → slice_get s.routes k ≡ Some route → IsLaneOf s k route lane →
     ClosesInto s sites route lane → WaitAtMost room sites → EndsLane sites lane r → IsRouteRun room s (lines_at sites) k route r

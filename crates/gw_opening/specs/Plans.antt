@@ -7,8 +7,8 @@ use Rattle.can_segment.specs.declared.plan.LineFault.{LineFault}
 use Rattle.can_segment.specs.declared.plan.SegmentPlan.{SegmentPlan}
 use Rattle.gw_config.specs.declared.planned_fault.PlannedFault.{PlannedFault}
 use Rattle.gw_config.specs.declared.planned_fault.PlannedFault.TheVariants.{AtNode, OnLine}
-use Rattle.gw_config.specs.declared.planned_abort.PlannedAbort.{PlannedAbort as ScriptAbort}
-use Rattle.gw_route.specs.declared.planned_abort.PlannedAbort.{PlannedAbort}
+use Rattle.gw_config.specs.declared.planned_abort.PlannedAbort.{PlannedAbort}
+use Rattle.gw_route.specs.declared.route_abort.RouteAbort.{RouteAbort}
 use Rattle.gw_config.specs.Talkers.{TalkerValue}
 use Rattle.gw_config.specs.Controllers.{ControllerValue, controllers_on}
 use Rattle.gw_config.specs.Scripts.{ScriptValue}
@@ -49,9 +49,9 @@ pub record IsPlanOf (s : ScriptValue) (segment : ℕ) (plan : SegmentPlan) : Typ
   pub line_faults : plan.line_faults.items ≡ filter_map (line_fault_in segment) s.faults
 
 -- an abort of this route
-abbrev pub abort_in : ℕ → ScriptAbort → Option PlannedAbort
+abbrev pub abort_in : ℕ → PlannedAbort → Option RouteAbort
 abort_in route abort = if abort.route == route then Some (record { number = abort.number; turn = abort.turn }) else None
 
 -- the aborts of a route, in the order of the script
-abbrev pub aborts_of : ScriptValue → ℕ → List PlannedAbort
+abbrev pub aborts_of : ScriptValue → ℕ → List RouteAbort
 aborts_of s route = filter_map (abort_in route) s.aborts

@@ -14,6 +14,6 @@ pub use crate::growing::{push_one, push_some};
 pub use crate::lane::Lane;
 pub use crate::opening::{port_of, routes_at, site_of};
 pub use crate::place::Place;
-pub use crate::places::{controller_there, count_on};
+pub use crate::places::{controller_count, controller_there};
 pub use crate::route_start::lanes_of;
 pub use crate::slots::take;

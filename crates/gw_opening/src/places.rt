@@ -29,7 +29,7 @@ fn among_routes(routes: &[Route], controller: usize) -> usize
 }
 
 /// How many controllers of a script are on a segment.
-pub fn count_on(script: &Script, segment: usize) -> usize
+pub fn controller_count(script: &Script, segment: usize) -> usize
     ensures places { result ≡ length (controller_places script.now segment) }
     ensures controllers { result ≡ length (controllers_on segment script.now.controllers) }
 {

@@ -7,7 +7,7 @@ ghost use Rattle.gw_config.specs.SoundScripts.{IsSound};
 ghost use Rattle.gw_opening.specs.Plans.{IsSmall, IsTalkerOf, IsControllerOf, IsPlanOf, node_fault_in, line_fault_in};
 
 use crate::growing::push_some;
-use crate::places::{controller_there, count_on};
+use crate::places::{controller_count, controller_there};
 use can_segment::{Controller, LineFault, NodeFault, SegmentPlan, Talker};
 use gw_script::{PlannedFault, Script};
 use std::alloc::{AllocError, Global};
@@ -40,7 +40,7 @@ fn controllers_of(
     ensures { IfOk result (λ controllers. Pairs (λ k. IsControllerOf) (controllers_on segment script.now.controllers) controllers.items) }
 {
     let mut controllers = Vec::new(alloc);
-    for nth in 0..count_on(script, segment) {
+    for nth in 0..controller_count(script, segment) {
         let place = controller_there(script, segment, nth);
         let on = script.controllers()[place].on();
         controllers.push(Controller { on: u64::from(on) })?;

@@ -17,16 +17,16 @@ use arrayvec::ArrayVec;
 use bx_controller::{Intake, Port};
 use bx_rx::{RxFifo, RxOut};
 use can_frame::{Memory, Rewrite};
-use gw_route::{PlannedAbort, RouteHand};
+use gw_route::{RouteAbort, RouteHand};
 use gw_script::{Route, Script};
 use gw_site::Site;
 use std::alloc::{AllocError, Global};
 
-fn abort_in(route: usize, abort: &gw_script::PlannedAbort) -> Option<PlannedAbort>
+fn abort_in(route: usize, abort: &gw_script::PlannedAbort) -> Option<RouteAbort>
     ensures { result ≡ abort_in route abort.now }
 {
     if abort.route == route {
-        return Some(PlannedAbort {
+        return Some(RouteAbort {
             number: abort.number,
             turn: abort.turn,
         });
@@ -35,7 +35,7 @@ fn abort_in(route: usize, abort: &gw_script::PlannedAbort) -> Option<PlannedAbor
 }
 
 /// The aborts of a route, in the order of the script.
-fn aborts_of(alloc: Global, script: &Script, route: usize) -> Result<Vec<PlannedAbort>, AllocError>
+fn aborts_of(alloc: Global, script: &Script, route: usize) -> Result<Vec<RouteAbort>, AllocError>
     ensures { IfOk result (λ aborts. aborts.items ≡ aborts_of script.now route) }
 {
     let mut aborts = Vec::new(alloc);

@@ -18,7 +18,7 @@ use Rattle.bx_core.proofs.Words.{has-right, has-left}
 use Rattle.bx_rx.specs.declared.rx_frame.RxFrame.{RxFrame}
 use Rattle.gw_route.specs.RouteHand.{HandValue, LogMatches, numbered, as_requested}
 use Rattle.gw_route.specs.Turn.{counted, taken, given, none_given, Filled, IsDue, IsDueByCount, if_requested, if_aborted}
-use Rattle.gw_route.specs.declared.planned_abort.PlannedAbort.{PlannedAbort}
+use Rattle.gw_route.specs.declared.route_abort.RouteAbort.{RouteAbort}
 use Rattle.gw_route.proofs.Lists.{has-either}
 use Rattle.gw_route.proofs.Numbered.{length-numbered, numbered-append, last_of-numbered, last-numbered, has-numbered, numbered-bounds}
 
@@ -34,12 +34,12 @@ tickets-requested h past l = omega (arith, ap length l.log, length-append past.r
 pub last-requested : (h : HandValue) (past : RoutePast) → LogMatches h past → last_number past.requested ≡ length past.requested
 last-requested h past l = omega (arith, last_of-numbered 0 (as_requested h) past.requested h.in_hand l.log)
 
-pub due-count : (h : HandValue) (past : RoutePast) (a : PlannedAbort) → LogMatches h past → IsDue h.turns past.requested a → IsDueByCount h a
+pub due-count : (h : HandValue) (past : RoutePast) (a : RouteAbort) → LogMatches h past → IsDue h.turns past.requested a → IsDueByCount h a
 due-count h past a l d =
     let within : (0 < a.number) × (a.number ≤ 0 + length past.requested) = numbered-bounds 0 a.number (as_requested h) past.requested h.in_hand l.log d.known in
     record { reached = d.reached; positive = within.0; below = omega (arith, within.1, tickets-requested h past l) }
 
-pub count-due : (h : HandValue) (past : RoutePast) (a : PlannedAbort) → LogMatches h past → IsDueByCount h a → IsDue h.turns past.requested a
+pub count-due : (h : HandValue) (past : RoutePast) (a : RouteAbort) → LogMatches h past → IsDueByCount h a → IsDue h.turns past.requested a
 count-due h past a l d = record {
   reached = d.reached;
   known = has-numbered 0 a.number (as_requested h) past.requested h.in_hand l.log d.positive (omega (arith, d.below, tickets-requested h past l));

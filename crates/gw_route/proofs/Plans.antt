@@ -11,38 +11,38 @@ use Rattle.bx_core.specs.RouteTx.{RoutePast}
 use Rattle.gw_route.specs.RouteHand.{HandValue, IsLinked, LogMatches}
 use Rattle.gw_route.specs.Turn.{next_turn, counted, first_abort, Filled, if_requested, if_aborted, Turned, TurnMade}
 use Rattle.gw_route.specs.Turn.Turned.{idle, by_request, by_abort}
-use Rattle.gw_route.specs.declared.planned_abort.PlannedAbort.{PlannedAbort}
+use Rattle.gw_route.specs.declared.route_abort.RouteAbort.{RouteAbort}
 use Rattle.gw_route.specs.declared.turn_answer.TurnAnswer.{TurnAnswer}
 use Rattle.gw_route.specs.Plans.{numbers_in, FromPlan}
 use Rattle.gw_route.specs.Sublists.{IsSublist}
 use Rattle.gw_route.proofs.Sublists.{sublist_more, sublist_push}
 
 -- the first of them, and the others
-first_and_rest : (xs : List PlannedAbort) (a : PlannedAbort) → slice_get xs 0 ≡ Some a → xs ≡ a ∷ remove xs 0
+first_and_rest : (xs : List RouteAbort) (a : RouteAbort) → slice_get xs 0 ≡ Some a → xs ≡ a ∷ remove xs 0
 first_and_rest [] a e = absurd (cc e)
 first_and_rest (x ∷ xs) a e = (let same : x ≡ a = cc e in ap (λ y. y ∷ xs) same)
 
-filled_keeps : (planned : List PlannedAbort) (h filled : HandValue) (entry : Entry) → Filled h filled entry → FromPlan planned h → FromPlan planned filled
+filled_keeps : (planned : List RouteAbort) (h filled : HandValue) (entry : Entry) → Filled h filled entry → FromPlan planned h → FromPlan planned filled
 filled_keeps planned h filled entry f p = elim f.1 [
   | inl same ↦ subst (FromPlan planned) (sym same) p
   | inr more ↦ subst (FromPlan planned) (sym more.2) (record { done = p.done; all = p.all; logged = p.logged })
 ]
 
-asked_keeps : (planned : List PlannedAbort) (h : HandValue) (answer : Result Sent NumberTooLarge) → FromPlan planned h → FromPlan planned (if_requested answer h)
+asked_keeps : (planned : List RouteAbort) (h : HandValue) (answer : Result Sent NumberTooLarge) → FromPlan planned h → FromPlan planned (if_requested answer h)
 asked_keeps planned h (Ok Yes) p = record { done = p.done; all = p.all; logged = p.logged }
 asked_keeps planned h (Ok NotNow) p = p
 asked_keeps planned h (Err e) p = p
 
 -- one planned abort more is done
-one_done : (planned : List PlannedAbort) (h : HandValue) (abort : PlannedAbort) → first_abort h ≡ Some abort → (p : FromPlan planned h) →
+one_done : (planned : List RouteAbort) (h : HandValue) (abort : RouteAbort) → first_abort h ≡ Some abort → (p : FromPlan planned h) →
     planned ≡ (p.done ++ abort ∷ []) ++ remove h.aborts 0
 one_done planned h abort first p =
     p.all ∙ ap (λ xs. p.done ++ xs) (first_and_rest h.aborts abort first) ∙ sym (append_assoc p.done (abort ∷ []) (remove h.aborts 0))
 
-number_done : (done : List PlannedAbort) (abort : PlannedAbort) → numbers_in (done ++ abort ∷ []) ≡ numbers_in done ++ abort.number ∷ []
-number_done done abort = map-append (λ (a : PlannedAbort). a.number) done (abort ∷ [])
+number_done : (done : List RouteAbort) (abort : RouteAbort) → numbers_in (done ++ abort ∷ []) ≡ numbers_in done ++ abort.number ∷ []
+number_done done abort = map-append (λ (a : RouteAbort). a.number) done (abort ∷ [])
 
-aborted_keeps : (planned : List PlannedAbort) (h : HandValue) (abort : PlannedAbort) (answer : AbortAnswer) → first_abort h ≡ Some abort → FromPlan planned h → FromPlan planned (if_aborted answer abort.number h)
+aborted_keeps : (planned : List RouteAbort) (h : HandValue) (abort : RouteAbort) (answer : AbortAnswer) → first_abort h ≡ Some abort → FromPlan planned h → FromPlan planned (if_aborted answer abort.number h)
 aborted_keeps planned h abort Ended first p = record {
   done = p.done ++ abort ∷ [];
   all = one_done planned h abort first p;
@@ -60,12 +60,12 @@ aborted_keeps planned h abort Gone first p = record {
 }
 aborted_keeps planned h abort Later first p = p
 
-turned_keeps : (planned : List PlannedAbort) (old new : HandValue) (past next : RoutePast) (answer : TurnAnswer) → Turned old new past next answer → FromPlan planned old → FromPlan planned new
+turned_keeps : (planned : List RouteAbort) (old new : HandValue) (past next : RoutePast) (answer : TurnAnswer) → Turned old new past next answer → FromPlan planned old → FromPlan planned new
 turned_keeps planned old new past next answer (idle none_due empty is) p = record { done = p.done; all = p.all; logged = p.logged }
 turned_keeps planned old new past next answer (by_request {filled = filled} entry sent none_due f limit) p = asked_keeps planned filled sent (filled_keeps planned old filled entry f p)
 turned_keeps planned old new past next answer (by_abort abort given asks first due) p = aborted_keeps planned old abort given first p
 
-pub turn_keeps : (planned : List PlannedAbort) (after after' : RoutePast → Type 0) (old new : HandValue) (answer : TurnAnswer) → IsLinked after old → TurnMade after after' old new answer →
+pub turn_keeps : (planned : List RouteAbort) (after after' : RoutePast → Type 0) (old new : HandValue) (answer : TurnAnswer) → IsLinked after old → TurnMade after after' old new answer →
     FromPlan planned old → FromPlan planned new
 turn_keeps planned after after' old new answer linked made p =
     let counted_matches : LogMatches (counted old) linked.0 =

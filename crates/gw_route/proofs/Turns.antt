@@ -14,18 +14,18 @@ use Rattle.bx_rx.specs.RxOut.{WasEmpty}
 use Rattle.bx_rx.specs.declared.rx_frame.RxFrame.{RxFrame}
 use Rattle.gw_route.specs.RouteHand.{HandValue, LogMatches, LogsReleased}
 use Rattle.gw_route.specs.Turn.{first_abort, IsDueByCount, none_given, Filled, if_requested, requested_answer, if_aborted, aborted_answer, Turned, idle, by_request, by_abort, Acted}
-use Rattle.gw_route.specs.declared.planned_abort.PlannedAbort.{PlannedAbort}
+use Rattle.gw_route.specs.declared.route_abort.RouteAbort.{RouteAbort}
 use Rattle.gw_route.specs.declared.turn_answer.TurnAnswer.{TurnAnswer}
 use Rattle.gw_route.specs.declared.turn_answer.TurnAnswer.TheVariants.{Idle}
 use Rattle.gw_route.proofs.Matches.{due-count, count-due, matches-asked, matches-filled, number-filled, matches-requested, matches-aborted, last-requested}
 
-pub acted-idle : (after : RoutePast → Type 0) (old new : HandValue) → ((abort : PlannedAbort) → first_abort old ≡ Some abort → IsDueByCount old abort → ⊥) →
+pub acted-idle : (after : RoutePast → Type 0) (old new : HandValue) → ((abort : RouteAbort) → first_abort old ≡ Some abort → IsDueByCount old abort → ⊥) →
     new ≡ none_given old → old.in_hand ≡ [] → WasEmpty old.out → Acted after after old new Idle
 acted-idle after old new none same empty dry past a l =
     (past, a, subst (λ (v : HandValue). Turned old v past past Idle) (sym same) (idle (λ abort first d. none abort first (due-count old past abort l d)) empty dry))
 
 pub acted-request : (after after' : RoutePast → Type 0) (old filled new : HandValue) (e : Entry) (sent : Result Sent NumberTooLarge) (answer : TurnAnswer) →
-    ((abort : PlannedAbort) → first_abort old ≡ Some abort → IsDueByCount old abort → ⊥) → Filled old filled e → IsErr sent ↔ (greatest_number < e.number) →
+    ((abort : RouteAbort) → first_abort old ≡ Some abort → IsDueByCount old abort → ⊥) → Filled old filled e → IsErr sent ↔ (greatest_number < e.number) →
     answer ≡ requested_answer sent → new ≡ if_requested sent filled → ((past : RoutePast) → after past → after' (after_request past e.number e.frame sent)) →
     Acted after after' old new answer
 acted-request after after' old filled new e sent answer none f limit says is step past a l =
@@ -34,7 +34,7 @@ acted-request after after' old filled new e sent answer none f limit says is ste
     by_request e sent (λ abort first d. none abort first (due-count old past abort l d)) f limit in
     (next, step past a, subst (λ (t : TurnAnswer). Turned old new past next t) (sym says) (subst (λ (v : HandValue). Turned old v past next (requested_answer sent)) (sym is) made))
 
-pub acted-abort : (after after' : RoutePast → Type 0) (old new : HandValue) (abort : PlannedAbort) (told : AbortAnswer) (answer : TurnAnswer) →
+pub acted-abort : (after after' : RoutePast → Type 0) (old new : HandValue) (abort : RouteAbort) (told : AbortAnswer) (answer : TurnAnswer) →
     first_abort old ≡ Some abort → IsDueByCount old abort → answer ≡ aborted_answer told → new ≡ if_aborted told abort.number old →
     ((past : RoutePast) → after past → (asks : Bool) × after' (after_abort past abort.number told asks)) → Acted after after' old new answer
 acted-abort after after' old new abort told answer first due says is step past a l =

@@ -11,7 +11,7 @@ use Rattle.bx_core.specs.Steps.{greatest_number}
 use Rattle.bx_core.specs.RouteTx.{RoutePast}
 use Rattle.bx_rx.specs.RxOut.{Outlet}
 use Rattle.bx_rx.specs.declared.rx_frame.RxFrame.{RxFrame}
-use Rattle.gw_route.specs.declared.planned_abort.PlannedAbort.{PlannedAbort}
+use Rattle.gw_route.specs.declared.route_abort.RouteAbort.{RouteAbort}
 use Rattle.gw_route.specs.declared.route_hand.RouteHand.{RouteHand}
 
 -- what a hand holds
@@ -24,7 +24,7 @@ pub record HandValue : Type 0 where
   pub tickets : ℕ
   pub turns : ℕ
   -- the aborts still to do
-  pub aborts : List PlannedAbort
+  pub aborts : List RouteAbort
   -- the log: the frames that were released, and the numbers that were aborted
   pub released : List FrameValue
   pub aborted : List ℕ
@@ -44,7 +44,7 @@ hand_value h = record {
 }
 
 -- a hand that made no turn
-abbrev pub new_hand : Outlet → List PlannedAbort → List Rewrite → HandValue
+abbrev pub new_hand : Outlet → List RouteAbort → List Rewrite → HandValue
 new_hand out aborts rewrites =
     record { out = out; in_hand = []; tickets = 0; turns = 0; aborts = aborts; released = []; aborted = []; rewrites = rewrites }
 

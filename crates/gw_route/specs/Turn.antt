@@ -16,7 +16,7 @@ use Rattle.bx_rx.specs.RxOut as outlet
 use Rattle.bx_rx.specs.RxOut.{WasEmpty}
 use Rattle.bx_rx.specs.declared.rx_frame.RxFrame.{RxFrame}
 use Rattle.gw_route.specs.RouteHand.{HandValue, LogMatches}
-use Rattle.gw_route.specs.declared.planned_abort.PlannedAbort.{PlannedAbort}
+use Rattle.gw_route.specs.declared.route_abort.RouteAbort.{RouteAbort}
 use Rattle.gw_route.specs.declared.turn_answer.TurnAnswer.{TurnAnswer}
 use Rattle.gw_route.specs.declared.turn_answer.TurnAnswer.TheVariants.{Idle, Requested, AbortDone, Waiting}
 
@@ -29,23 +29,23 @@ abbrev pub counted : HandValue → HandValue
 counted h = record h { turns = next_turn h.turns }
 
 -- the first abort still to do
-abbrev pub first_abort : HandValue → Option PlannedAbort
+abbrev pub first_abort : HandValue → Option RouteAbort
 first_abort h = slice_get h.aborts 0
 
 -- the count of turns has reached the abort's, and its number was requested
-pub record IsDue (turns : ℕ) (requested : List Entry) (abort : PlannedAbort) : Type 0 where
+pub record IsDue (turns : ℕ) (requested : List Entry) (abort : RouteAbort) : Type 0 where
   pub reached : abort.turn ≤ turns
   pub known : Has (numbers requested) abort.number
 
 -- the same as the hand alone tells it: all numbers that were given out are requested, but the one in the hand
-pub record IsDueByCount (h : HandValue) (abort : PlannedAbort) : Type 0 where
+pub record IsDueByCount (h : HandValue) (abort : RouteAbort) : Type 0 where
   pub reached : abort.turn ≤ h.turns
   pub positive : 0 < abort.number
   pub below : abort.number + length h.in_hand ≤ h.tickets
 
 -- the first abort isn't due, whatever stands behind it
 abbrev pub NoneIsDue : HandValue → RoutePast → Type 0
-NoneIsDue h past = (abort : PlannedAbort) → first_abort h ≡ Some abort → IsDue h.turns past.requested abort → ⊥
+NoneIsDue h past = (abort : RouteAbort) → first_abort h ≡ Some abort → IsDue h.turns past.requested abort → ⊥
 
 -- a frame comes into the hand under the next number and its new identifier, and into the log as it was
 abbrev pub taken : HandValue → FrameValue → HandValue
@@ -108,7 +108,7 @@ pub data Turned : HandValue → HandValue → RoutePast → RoutePast → TurnAn
   by_request : {h filled : HandValue} {past : RoutePast} (entry : Entry) (answer : Result Sent NumberTooLarge) → NoneIsDue h past →
       Filled h filled entry → IsErr answer ↔ (greatest_number < entry.number) →
       Turned h (if_requested answer filled) past (after_request past entry.number entry.frame answer) (requested_answer answer)
-  by_abort : {h : HandValue} {past : RoutePast} (abort : PlannedAbort) (answer : AbortAnswer) (asks : Bool) → first_abort h ≡ Some abort →
+  by_abort : {h : HandValue} {past : RoutePast} (abort : RouteAbort) (answer : AbortAnswer) (asks : Bool) → first_abort h ≡ Some abort →
       IsDue h.turns past.requested abort →
       Turned h (if_aborted answer abort.number h) past (after_abort past abort.number answer asks) (aborted_answer answer)
 

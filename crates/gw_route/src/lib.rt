@@ -2,11 +2,11 @@
 #![tactic(auto)]
 
 mod log;
-mod planned_abort;
+mod route_abort;
 mod route_hand;
 mod turn_answer;
 
 pub use crate::log::Log;
-pub use crate::planned_abort::PlannedAbort;
+pub use crate::route_abort::RouteAbort;
 pub use crate::route_hand::RouteHand;
 pub use crate::turn_answer::TurnAnswer;

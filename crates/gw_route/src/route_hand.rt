@@ -8,12 +8,12 @@ ghost use Rattle.bx_core.specs.RouteTx.{RoutePast, no_route_past, after_request,
 ghost use Rattle.bx_rx.specs.RxOut.{IsReleased};
 ghost use Rattle.gw_route.specs.Heard.{HearsTurn};
 ghost use Rattle.gw_route.specs.Plans.{FromPlan};
-ghost use Rattle.gw_route.specs.declared.planned_abort.PlannedAbort.{PlannedAbort};
+ghost use Rattle.gw_route.specs.declared.route_abort.RouteAbort.{RouteAbort};
 ghost use Rattle.gw_route.specs.RouteHand.{hand_value, new_hand, LogMatches, LogsReleased, IsLinked};
 ghost use Rattle.gw_route.specs.Turn.{counted, next_turn, IsDueByCount, first_abort, taken, none_given, Filled, if_requested, requested_answer, logged, if_aborted, aborted_answer, Acted, TurnMade, TurnKeeps};
 
 use crate::log::Log;
-use crate::planned_abort::PlannedAbort;
+use crate::route_abort::RouteAbort;
 use crate::turn_answer::TurnAnswer;
 use arrayvec::ArrayVec;
 use bx_core::{AbortAnswer, Entry, Gate, NumberTooLarge, RouteTx, Sent};
@@ -34,7 +34,7 @@ pub struct RouteHand {
     /// How many turns were made. It stays at 1,000,000.
     pub turns: u32,
     /// The aborts still to do, in order.
-    pub aborts: Vec<PlannedAbort>,
+    pub aborts: Vec<RouteAbort>,
     /// What was done.
     pub log: Log,
     /// The new identifiers under which frames are requested.
@@ -46,7 +46,7 @@ impl RouteHand {
     pub fn new(
         alloc: Global,
         out: RxOut,
-        aborts: Vec<PlannedAbort>,
+        aborts: Vec<RouteAbort>,
         rewrites: ArrayVec<Rewrite, 32>,
     ) -> RouteHand
         ensures made { hand_value result ≡ new_hand out aborts.items rewrites.items }
@@ -85,7 +85,7 @@ impl RouteHand {
             (hand_value self.old) (hand_value self.new)) }
         ensures keeps { IfOk result (TurnKeeps (hand_value self.old) (hand_value self.new)) }
         ensures counted { OnOk result (self.new.turns ≡ next_turn self.old.turns) }
-        ensures plan { (planned : List PlannedAbort) → FromPlan planned (hand_value self.old)
+        ensures plan { (planned : List RouteAbort) → FromPlan planned (hand_value self.old)
             → FromPlan planned (hand_value self.new) }
         ensures linked { IsLinked (T.route_after tx.new) (hand_value self.new) }
         ensures log { LogsReleased (hand_value self.old) → LogsReleased (hand_value self.new) }
@@ -140,10 +140,10 @@ impl RouteHand {
     }
 
     // The first abort, where it is due.
-    fn due(&self) -> Option<PlannedAbort>
+    fn due(&self) -> Option<RouteAbort>
         ensures some { IfSome result (λ abort. (first_abort (hand_value self.now) ≡ Some abort)
             × IsDueByCount (hand_value self.now) abort) }
-        ensures none { IfNone result ((abort : PlannedAbort) → first_abort (hand_value self.now) ≡ Some abort
+        ensures none { IfNone result ((abort : RouteAbort) → first_abort (hand_value self.now) ≡ Some abort
             → IsDueByCount (hand_value self.now) abort → ⊥) }
     {
         match self.aborts.as_slice().first() {
@@ -158,7 +158,7 @@ impl RouteHand {
     }
 
     // Its turn is reached, and its number was given out and is not in the hand.
-    fn is_due(&self, abort: PlannedAbort) -> bool
+    fn is_due(&self, abort: RouteAbort) -> bool
         ensures { IsTrue result ↔ IsDueByCount (hand_value self.now) abort }
     {
         if abort.turn > self.turns {

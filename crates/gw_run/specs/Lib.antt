@@ -3,4 +3,3 @@ pub mod Lanes
 pub mod Sites
 pub mod Worlds
 pub mod Finals
-pub mod Orders

@@ -6,7 +6,7 @@ ghost use Rattle.bx_core.specs.Stands.{RouteStands};
 ghost use Rattle.gw_route.specs.Plans.{FromPlan};
 ghost use Rattle.gw_route.specs.RouteHand.{hand_value, IsLinked, LogsReleased};
 ghost use Rattle.gw_route.specs.Turn.{next_turn};
-ghost use Rattle.gw_route.specs.declared.planned_abort.PlannedAbort.{PlannedAbort};
+ghost use Rattle.gw_route.specs.declared.route_abort.RouteAbort.{RouteAbort};
 ghost use Rattle.gw_run.specs.Lanes.{TurnLeaves};
 
 use crate::port::Port;
@@ -31,7 +31,7 @@ pub(crate) fn turn_on<R: Wait>(
     ensures rewrites { hand.new.rewrites ≡ hand.old.rewrites }
     ensures counted { OnOk result (hand.new.turns ≡ next_turn hand.old.turns) }
     ensures short { OnOk result (short_of port.new.mail ≡ false) }
-    ensures plan { (planned : List PlannedAbort) → FromPlan planned (hand_value hand.old) → FromPlan planned (hand_value hand.new) }
+    ensures plan { (planned : List RouteAbort) → FromPlan planned (hand_value hand.old) → FromPlan planned (hand_value hand.new) }
     ensures port { TurnLeaves number port.old port.new }
 {
     let mut side = PlainRoute {

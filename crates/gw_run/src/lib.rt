@@ -13,4 +13,4 @@ mod world;
 
 pub use crate::inline::run_inline;
 pub use crate::run_fault::RunFault;
-pub use crate::threaded::{all_by_order, run_threads};
+pub use crate::threaded::run_threads;

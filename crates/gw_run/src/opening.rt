@@ -11,7 +11,7 @@ ghost use Rattle.gw_run.specs.Sites.{StartsSite};
 use crate::port::{Port, Site};
 use bx_core::PlainMail;
 use can_frame::Memory;
-use gw_opening::{controller_there, count_on, port_of, push_one, routes_at, site_of};
+use gw_opening::{controller_count, controller_there, port_of, push_one, routes_at, site_of};
 use gw_script::Script;
 use std::alloc::{AllocError, Global};
 
@@ -35,7 +35,7 @@ fn ports_of(alloc: Global, script: &Script, segment: usize) -> Result<Vec<Port>,
     ensures { IfOk result (λ ports. Pairs (λ k. StartsPort script.now) (controller_places script.now segment) ports.items) }
 {
     let mut ports = Vec::new(alloc);
-    for nth in 0..count_on(script, segment) {
+    for nth in 0..controller_count(script, segment) {
         let controller = controller_there(script, segment, nth);
         push_one(&mut ports, plain_port(alloc, script, controller))?;
     }

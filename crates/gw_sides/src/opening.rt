@@ -13,7 +13,7 @@ use crate::seats::{put_all, seats_for};
 use bx_controller::Port;
 use bx_core::{Mailboxes, RouteTx, TxBus};
 use can_frame::Memory;
-use gw_opening::{controller_there, count_on, port_of, push_one, routes_at, site_of};
+use gw_opening::{controller_count, controller_there, port_of, push_one, routes_at, site_of};
 use gw_script::Script;
 use gw_site::Site;
 use std::alloc::Global;
@@ -68,7 +68,7 @@ fn open_ports<R, B: TxBus<R> + Drop, S: RouteTx<R> + Drop, M: Mailboxes<R, B, S>
     ensures leaves { OnOk result (LeavesOn script.now segment seats.old seats.new) }
 {
     let mut ports = Vec::new(alloc);
-    for nth in 0..count_on(script, segment) {
+    for nth in 0..controller_count(script, segment) {
         let controller = controller_there(script, segment, nth);
         let port = open_port::<R, B, S, M>(rt, alloc, script, controller, seats)?;
         push_one(&mut ports, port)?;

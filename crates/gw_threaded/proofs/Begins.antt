@@ -27,9 +27,9 @@ use Rattle.gw_site.proofs.Pairs.{pair_at, pair_of}
 use Rattle.gw_site.specs.Pairs.{Pairs}
 use Rattle.gw_site.specs.Sites.{SiteHolds, IsNewSite as IsReadySite}
 use Rattle.gw_site.specs.declared.site.Site.{Site}
-use Rattle.gw_threads.specs.Workers.{IsReadyWorker}
-use Rattle.gw_threads.specs.declared.worker.Worker.{Worker}
-use Rattle.gw_threaded.specs.Parts.{AreThere, IsWorkerOf}
+use Rattle.gw_pool.specs.Couriers.{IsReadyCourier}
+use Rattle.gw_pool.specs.declared.courier.Courier.{Courier}
+use Rattle.gw_threaded.specs.Parts.{AreThere, IsCourierOf}
 use Rattle.gw_threaded.specs.Runs.{Starts}
 
 -- what holds of the element at each place holds of each
@@ -138,13 +138,13 @@ same_place slots k a b e f = let same : Some a ≡ Some b = same_some (Some a) (
 
 module _ {B S G : Type 0} (NewSet : Bool → ℕ → B → Type 0) (side_of : B → ℕ → S → Type 0) (after : S → RoutePast → Type 0) where
   -- each route's hand matches what its side did, which is nothing yet
-  pub ready_workers : (s : ScriptValue) (sites : List (Site (Port B))) (seats : List (Option S)) (lanes : List Lane) (gates : List (Option G)) (workers : List (Worker S G)) → IsSound s → Starts NewSet (IsNewSide side_of after) s sites seats lanes →
-      Pairs (IsWorkerOf seats gates) lanes workers → Each (IsReadyWorker after) workers
-  ready_workers s sites seats lanes gates workers sound o p = each_of (IsReadyWorker after) workers (λ k worker e.
-      let lane = pair_at (IsWorkerOf seats gates) lanes workers k worker p e in
+  pub ready_couriers : (s : ScriptValue) (sites : List (Site (Port B))) (seats : List (Option S)) (lanes : List Lane) (gates : List (Option G)) (couriers : List (Courier S G)) → IsSound s → Starts NewSet (IsNewSide side_of after) s sites seats lanes →
+      Pairs (IsCourierOf seats gates) lanes couriers → Each (IsReadyCourier after) couriers
+  ready_couriers s sites seats lanes gates couriers sound o p = each_of (IsReadyCourier after) couriers (λ k courier e.
+      let lane = pair_at (IsCourierOf seats gates) lanes couriers k courier p e in
       let at = side_at NewSet (IsNewSide side_of after) s sites seats lanes k lane.0 sound o lane.1 in
       let made = pair_at (λ j route. IsNewLane s j route) s.routes lanes k lane.0 o.opens.each_lane lane.1 in
-      let side : at.side ≡ worker.side = same_place seats k at.side worker.side at.side_there lane.2.side_there in
+      let side : at.side ≡ courier.side = same_place seats k at.side courier.side at.side_there lane.2.side_there in
       record {
         linked = (no_route_past, subst (λ x. after x no_route_past) side at.is_side.1, subst (λ hand. LogMatches (hand_value hand) no_route_past) (sym lane.2.hand_is) made.2.linked);
         log = subst (λ hand. LogsReleased (hand_value hand)) (sym lane.2.hand_is) made.2.log;

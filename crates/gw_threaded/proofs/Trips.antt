@@ -31,10 +31,10 @@ use Rattle.gw_site.proofs.Pairs.{pair_at, pair_of}
 use Rattle.gw_site.specs.Pairs.{Pairs}
 use Rattle.gw_site.specs.Sites.{SiteHolds, PortsLeave, SiteRuns}
 use Rattle.gw_site.specs.declared.site.Site.{Site}
-use Rattle.gw_threads.specs.Workers.{WorkerRuns}
-use Rattle.gw_threads.specs.declared.worker.Worker.{Worker}
+use Rattle.gw_pool.specs.Couriers.{CourierRuns}
+use Rattle.gw_pool.specs.declared.courier.Courier.{Courier}
 use Rattle.gw_threaded.specs.declared.lead.Lead.{Lead}
-use Rattle.gw_threaded.specs.Parts.{lead_of, HaveParted, IsWorkerOf, IsLaneFrom, LeavesBehind, HaveCome}
+use Rattle.gw_threaded.specs.Parts.{lead_of, HaveParted, IsCourierOf, IsLaneFrom, LeavesBehind, HaveCome}
 use Rattle.gw_threaded.specs.Runs.{Starts, HasRunPort, HasRunSite, HasRunLane, HasRun}
 use Rattle.gw_threaded.proofs.Begins.{SideAt, number_below, port_opened, same_place, seat_is, side_at}
 
@@ -71,22 +71,22 @@ lane_on s k route old new lead rewrites plan p = record {
 
 -- what became of the route at a place: it is the one that parted there, after turns, and its side stands at its place
 pub record Returned (G : Type 0) {S : Type 0} (after : S → RoutePast → Type 0) (stays : S → S → Type 0) (seats late : List (Option S)) (k : ℕ) (old new : Lane) : Type 0 where
-  pub from : Worker S G
-  pub to : Worker S G
+  pub from : Courier S G
+  pub to : Courier S G
   pub hand_was : from.hand ≡ old.hand
   pub side_was : slice_get seats k ≡ Some (Some from.side)
-  pub runs : WorkerRuns after stays from to
+  pub runs : CourierRuns after stays from to
   pub hand_is : new.hand ≡ to.hand
   pub side_is : slice_get late k ≡ Some (Some to.side)
   pub lead_is : lead_of new ≡ lead_of old
 
 module _ {S G : Type 0} (after : S → RoutePast → Type 0) (stays : S → S → Type 0) where
-  pub returned : (seats behind late : List (Option S)) (gates : List (Option G)) (lanes made : List Lane) (leads : List Lead) (workers back : List (Worker S G)) → HaveParted seats gates lanes leads workers → Pairs (λ k. WorkerRuns after stays) workers back →
+  pub returned : (seats behind late : List (Option S)) (gates : List (Option G)) (lanes made : List Lane) (leads : List Lead) (couriers back : List (Courier S G)) → HaveParted seats gates lanes leads couriers → Pairs (λ k. CourierRuns after stays) couriers back →
       Pairs (IsLaneFrom leads) back made → HaveCome back behind late → (k : ℕ) (new : Lane) → slice_get made k ≡ Some new → (old : Lane) × (slice_get lanes k ≡ Some old) × Returned G after stays seats late k old new
-  returned seats behind late gates lanes made leads workers back p r m h k new e =
+  returned seats behind late gates lanes made leads couriers back p r m h k new e =
       let to = pair_at (IsLaneFrom leads) back made k new m e in
-      let from = pair_at (λ j. WorkerRuns after stays) workers back k to.0 r to.1 in
-      let old = pair_at (IsWorkerOf seats gates) lanes workers k from.0 p.workers_are from.1 in
+      let from = pair_at (λ j. CourierRuns after stays) couriers back k to.0 r to.1 in
+      let old = pair_at (IsCourierOf seats gates) lanes couriers k from.0 p.couriers_are from.1 in
       let lead = pair_of (λ j lane lead. lead ≡ lead_of lane) lanes leads k old.0 p.leads_are old.1 in (
         old.0,
         old.1,
@@ -124,14 +124,14 @@ pub record SeatsKept {S : Type 0} (stays : S → S → Type 0) (routes : ℕ) (s
   pub size : length late ≡ length seats
 
 module _ {S G : Type 0} (after : S → RoutePast → Type 0) (stays : S → S → Type 0) where
-  pub seats_kept : (seats behind late : List (Option S)) (gates : List (Option G)) (lanes made : List Lane) (leads : List Lead) (workers back : List (Worker S G)) → HaveParted seats gates lanes leads workers → Pairs (λ k. WorkerRuns after stays) workers back →
+  pub seats_kept : (seats behind late : List (Option S)) (gates : List (Option G)) (lanes made : List Lane) (leads : List Lead) (couriers back : List (Courier S G)) → HaveParted seats gates lanes leads couriers → Pairs (λ k. CourierRuns after stays) couriers back →
       Pairs (IsLaneFrom leads) back made → LeavesBehind (length lanes) seats behind → HaveCome back behind late → SeatsKept stays (length lanes) seats late
-  seats_kept seats behind late gates lanes made leads workers back p r m l h = record {
+  seats_kept seats behind late gates lanes made leads couriers back p r m l h = record {
     at = λ k less.
-        let new = some_there made k (omega (arith, less, m.size, r.size, p.workers_are.size)) in
-        let back_at = returned after stays seats behind late gates lanes made leads workers back p r m h k new.0 new.1 in
+        let new = some_there made k (omega (arith, less, m.size, r.size, p.couriers_are.size)) in
+        let back_at = returned after stays seats behind late gates lanes made leads couriers back p r m h k new.0 new.1 in
         (back_at.2.from.side, back_at.2.to.side, back_at.2.side_was, back_at.2.side_is, back_at.2.runs.stays_on);
-    spare = λ place above. h.leaves.others place (omega (arith, above, r.size, p.workers_are.size)) ∙ l.others place above;
+    spare = λ place above. h.leaves.others place (omega (arith, above, r.size, p.couriers_are.size)) ∙ l.others place above;
     size = h.leaves.size ∙ l.size;
   }
 
@@ -235,12 +235,12 @@ module _ {B S : Type 0} (bus_after : B → BusPast → Type 0) (asked : B → Li
           linked = subst (λ hand. IsLinked (route_after back.to.side) (hand_value hand)) (sym back.hand_is) back.runs.holds.linked;
         }
 
-    pub has_run : {G : Type 0} (s : ScriptValue) (sites last : List (Site (Port B))) (seats behind late : List (Option S)) (gates : List (Option G)) (lanes made : List Lane) (leads : List Lead) (workers back : List (Worker S G)) → OpensAt s sites seats lanes →
-        HaveParted seats gates lanes leads workers → LeavesBehind (length lanes) seats behind → SitesRun sites last → Pairs (λ k. WorkerRuns route_after stays) workers back → Pairs (IsLaneFrom leads) back made → HaveCome back behind late →
+    pub has_run : {G : Type 0} (s : ScriptValue) (sites last : List (Site (Port B))) (seats behind late : List (Option S)) (gates : List (Option G)) (lanes made : List Lane) (leads : List Lead) (couriers back : List (Courier S G)) → OpensAt s sites seats lanes →
+        HaveParted seats gates lanes leads couriers → LeavesBehind (length lanes) seats behind → SitesRun sites last → Pairs (λ k. CourierRuns route_after stays) couriers back → Pairs (IsLaneFrom leads) back made → HaveCome back behind late →
         HasRun bus_after transmitting route_after routes_of txfp_of side_of s last late made
-    has_run s sites last seats behind late gates lanes made leads workers back o p l r w m h =
+    has_run s sites last seats behind late gates lanes made leads couriers back o p l r w m h =
         let count = o.opens.each_lane.size in
-        let kept = subst (λ n. SeatsKept stays n seats late) count (seats_kept route_after stays seats behind late gates lanes made leads workers back p w m l h) in
+        let kept = subst (λ n. SeatsKept stays n seats late) count (seats_kept route_after stays seats behind late gates lanes made leads couriers back p w m l h) in
         record {
           each_site = record {
             at = λ i segment site e f.
@@ -251,9 +251,9 @@ module _ {B S : Type 0} (bus_after : B → BusPast → Type 0) (asked : B → Li
           };
           each_lane = record {
             at = λ k route lane e f.
-                let old = returned route_after stays seats behind late gates lanes made leads workers back p w m h k lane f in
+                let old = returned route_after stays seats behind late gates lanes made leads couriers back p w m h k lane f in
                 lane_run s sites last seats late k route old.0 lane r old.2 (o.opens.each_lane.at k route old.0 e old.1) (o.opens.takes k old.0 old.1);
-            size = omega (arith, m.size, w.size, p.workers_are.size, count);
+            size = omega (arith, m.size, w.size, p.couriers_are.size, count);
           };
           size = kept.size ∙ o.size;
         }

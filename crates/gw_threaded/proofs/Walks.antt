@@ -6,7 +6,7 @@ use Rattle.can_segment.proofs.NextBits.{some_there}
 use Rattle.can_segment.proofs.Places.{same_some}
 use Rattle.gw_opening.specs.declared.lane.Lane.{Lane}
 use Rattle.gw_site.proofs.Pairs.{pushed}
-use Rattle.gw_threads.specs.declared.worker.Worker.{Worker}
+use Rattle.gw_pool.specs.declared.courier.Courier.{Courier}
 use Rattle.gw_threaded.specs.Parts.{AreThere, LeavesBehind, HaveCome}
 
 -- from this place on all is as it was
@@ -20,22 +20,22 @@ pub still_there : {X : Type 0} (count k : ℕ) (first slots : List (Option X)) �
 still_there count k first slots there less same = let x = there k less in (x.0, same k (omega arith) ∙ x.1)
 
 module _ {S G : Type 0} where
-  -- the side of one worker more is at its place
-  pub come_more : (workers : List (Worker S G)) (worker : Worker S G) (first old new : List (Option S)) → slice_get new (length workers) ≡ Some (Some worker.side) →
-      ((j : ℕ) → j ≢ length workers → slice_get new j ≡ slice_get old j) → length new ≡ length old → HaveCome workers first old → HaveCome (workers ++ worker ∷ []) first new
-  come_more workers worker first old new here others size h = record {
-    at = λ k w e. elim (pushed workers worker k w e) [
-      | inl front ↦ (let within = slice_get_within workers k w front in others k (λ same. omega (arith, same, within)) ∙ h.at k w front)
-      | inr last ↦ ap (slice_get new) last.0 ∙ here ∙ ap (λ (v : Worker S G). Some (Some v.side)) last.1
+  -- the side of one courier more is at its place
+  pub come_more : (couriers : List (Courier S G)) (courier : Courier S G) (first old new : List (Option S)) → slice_get new (length couriers) ≡ Some (Some courier.side) →
+      ((j : ℕ) → j ≢ length couriers → slice_get new j ≡ slice_get old j) → length new ≡ length old → HaveCome couriers first old → HaveCome (couriers ++ courier ∷ []) first new
+  come_more couriers courier first old new here others size h = record {
+    at = λ k w e. elim (pushed couriers courier k w e) [
+      | inl front ↦ (let within = slice_get_within couriers k w front in others k (λ same. omega (arith, same, within)) ∙ h.at k w front)
+      | inr last ↦ ap (slice_get new) last.0 ∙ here ∙ ap (λ (v : Courier S G). Some (Some v.side)) last.1
     ];
     leaves = record {
-      others = λ place above. others place (λ same. omega (arith, same, above, length-append workers (worker ∷ []))) ∙ h.leaves.others place (omega (arith, above, length-append workers (worker ∷ [])));
+      others = λ place above. others place (λ same. omega (arith, same, above, length-append couriers (courier ∷ []))) ∙ h.leaves.others place (omega (arith, above, length-append couriers (courier ∷ [])));
       size = size ∙ h.leaves.size;
     };
   }
 
 pub come_none : {S G : Type 0} (seats : List (Option S)) → HaveCome {G = G} [] seats seats
-come_none seats = record { at = λ k worker e. absurd (cc e); leaves = record { others = λ place above. refl; size = refl } }
+come_none seats = record { at = λ k courier e. absurd (cc e); leaves = record { others = λ place above. refl; size = refl } }
 
 -- one more at the back
 pub map_pushed : {X Y : Type 0} (f : X → Y) (xs : List X) (x : X) (ys : List Y) → ys ≡ map f xs → ys ++ f x ∷ [] ≡ map f (xs ++ x ∷ [])

@@ -6,8 +6,8 @@ ghost use Rattle.gw_threaded.specs.Parts.{lead_of, AreThere, HaveParted, IsLaneF
 
 use crate::lead::Lead;
 use gw_opening::{Lane, push_one};
+use gw_pool::Courier;
 use gw_sides::{put, take};
-use gw_threads::Worker;
 use std::alloc::{AllocError, Global};
 
 /// A place for each of these, where it stands.
@@ -27,14 +27,14 @@ pub(crate) fn part<S: Drop, G: Drop>(
     lanes: Vec<Lane>,
     seats: &mut [Option<S>],
     gates: &mut [Option<G>],
-) -> Result<(Vec<Lead>, Vec<Worker<S, G>>), AllocError>
+) -> Result<(Vec<Lead>, Vec<Courier<S, G>>), AllocError>
     requires sides { AreThere (length lanes.items) seats.old }
     requires gates { AreThere (length lanes.items) gates.old }
     ensures parted { IfOk result (λ made. HaveParted seats.old gates.old lanes.items made.0.items made.1.items) }
     ensures leaves { OnOk result (LeavesBehind (length lanes.items) seats.old seats.new) }
 {
     let mut leads = Vec::with_capacity(alloc, lanes.len())?;
-    let mut workers = Vec::with_capacity(alloc, lanes.len())?;
+    let mut couriers = Vec::with_capacity(alloc, lanes.len())?;
     let mut place = 0usize;
     for lane in lanes {
         let Lane {
@@ -55,10 +55,10 @@ pub(crate) fn part<S: Drop, G: Drop>(
                 number,
             },
         )?;
-        push_one(&mut workers, Worker { hand, side, gate })?;
+        push_one(&mut couriers, Courier { hand, side, gate })?;
         place += 1;
     }
-    Ok((leads, workers))
+    Ok((leads, couriers))
 }
 
 /// The lead at a place.
@@ -69,26 +69,26 @@ fn lead_at(leads: &[Lead], place: usize) -> Lead
     leads[place]
 }
 
-/// Routes are together again: the hands of the workers with what stayed at home, and each side at its place.
+/// Routes are together again: the hands of the couriers with what stayed at home, and each side at its place.
 pub(crate) fn meet<S: Drop, G: Drop>(
     alloc: Global,
     leads: &[Lead],
-    workers: Vec<Worker<S, G>>,
+    couriers: Vec<Courier<S, G>>,
     seats: &mut [Option<S>],
 ) -> Result<Vec<Lane>, AllocError>
-    requires leads { length workers.items ≤ length leads.now }
-    requires seats { length workers.items ≤ length seats.old }
-    ensures lanes { IfOk result (λ lanes. Pairs (IsLaneFrom leads.now) workers.items lanes.items) }
-    ensures come { OnOk result (HaveCome workers.items seats.old seats.new) }
+    requires leads { length couriers.items ≤ length leads.now }
+    requires seats { length couriers.items ≤ length seats.old }
+    ensures lanes { IfOk result (λ lanes. Pairs (IsLaneFrom leads.now) couriers.items lanes.items) }
+    ensures come { OnOk result (HaveCome couriers.items seats.old seats.new) }
 {
-    let mut lanes = Vec::with_capacity(alloc, workers.len())?;
+    let mut lanes = Vec::with_capacity(alloc, couriers.len())?;
     let mut place = 0usize;
-    for worker in workers {
-        let Worker {
+    for courier in couriers {
+        let Courier {
             hand,
             side,
             gate: _,
-        } = worker;
+        } = courier;
         let lead = lead_at(leads, place);
         put(seats, place, side);
         push_one(

@@ -1,6 +1,6 @@
 //! A run in threads over any mailboxes.
 
-ghost use Rattle.std.specs.Prelude.{◌≡◌, IfOk, length};
+ghost use Rattle.std.specs.Prelude.{◌≡◌, ◌≤◌, IfOk, length};
 ghost use Rattle.gw_config.specs.SoundScripts.{IsSound};
 ghost use Rattle.gw_ending.specs.Reports.{RunsSegments, RunsRoutes};
 ghost use Rattle.gw_script.specs.NamedPlaces.{Names};
@@ -22,9 +22,9 @@ use std::alloc::Global;
 use std::sync::Wait;
 use std::thread::Threads;
 
-/// Runs what was started, each segment and each route in a thread of its own.
+/// Runs what was started: each segment in a thread of its own, and the routes by so many workers.
 fn run_started<
-    R: Threads + Wait + Copy + Send + 'static,
+    R: Threads + Wait + Copy + Send + Sync + 'static,
     B: TxBus<R> + Drop + Send + 'static,
     S: RouteTx<R> + Drop + Send + 'static,
     M: Mailboxes<R, B, S>,
@@ -35,9 +35,12 @@ fn run_started<
     script: &Script,
     started: Start<B, S>,
     gates: Vec<G>,
+    workers: u32,
+    slack: u32,
 ) -> Result<Start<B, S>, ThreadFault>
     requires sound { IsSound script.now }
     requires gates { length gates.items ≡ length script.now.routes }
+    requires workers { workers ≤ 16 }
     requires starts { Starts (IsNewSet B.bus_after B.bus_asked B.transmitting M.routes_of M.txfp_of)
         (IsNewSide M.side_of S.route_after) script.now started.0.items started.1.items started.2.items }
     ensures { IfOk result (λ made. HasRun B.bus_after B.transmitting S.route_after M.routes_of M.txfp_of M.side_of
@@ -47,11 +50,20 @@ fn run_started<
     let Ok(mut gates) = placed(alloc, gates) else {
         return Err(ThreadFault::Memory);
     };
-    let Ok((leads, workers)) = part(alloc, lanes, seats.as_mut_slice(), gates.as_mut_slice()) else {
+    let Ok((leads, couriers)) = part(alloc, lanes, seats.as_mut_slice(), gates.as_mut_slice())
+    else {
         return Err(ThreadFault::Memory);
     };
-    let (sites, workers) = run_in_threads(rt, alloc, sites, workers, script.bits())?;
-    match meet(alloc, leads.as_slice(), workers, seats.as_mut_slice()) {
+    let (sites, couriers) = run_in_threads(
+        rt,
+        alloc,
+        sites,
+        couriers,
+        script.bits(),
+        workers,
+        slack,
+    )?;
+    match meet(alloc, leads.as_slice(), couriers, seats.as_mut_slice()) {
         Ok(lanes) => Ok((sites, seats, lanes)),
         Err(_) => Err(ThreadFault::Memory),
     }
@@ -76,19 +88,28 @@ fn report_on<R: Wait, B: TxBus<R> + Drop, S: RouteTx<R> + Drop, M: Mailboxes<R, 
     end_run(rt, alloc, script, closed, lanes)
 }
 
-/// Runs a script over these mailboxes: each segment and each route in a thread of its own, one gate a route, in the order
-/// of the script. `Memory` where a growth was refused, `Spawn` where a thread could not be started: either way there is
-/// no report, and all threads that were started have ended.
+/// Runs a script over these mailboxes: each segment in a thread of its own, none of them more than `slack` bits ahead of
+/// another, and the routes by so many workers, 1 to 16, each in a thread of its own; one gate a route, in the order of the
+/// script. `Memory` where a growth was refused, `Spawn` where a thread could not be started: either way there is no report,
+/// and all threads that were started have ended.
 pub fn run_over<
-    R: Threads + Wait + Copy + Send + 'static,
+    R: Threads + Wait + Copy + Send + Sync + 'static,
     B: TxBus<R> + Drop + Send + 'static,
     S: RouteTx<R> + Drop + Send + 'static,
     M: Mailboxes<R, B, S>,
     G: Gate + Drop + Send + 'static,
->(rt: R, alloc: Global, script: &Script, gates: Vec<G>) -> Result<Report, ThreadFault>
+>(
+    rt: R,
+    alloc: Global,
+    script: &Script,
+    workers: u32,
+    slack: u32,
+    gates: Vec<G>,
+) -> Result<Report, ThreadFault>
     requires sound { IsSound script.now }
     requires priority { AllSendBy M.can_send_by script.now }
     requires gates { length gates.items ≡ length script.now.routes }
+    requires workers { workers ≤ 16 }
     ensures segments { IfOk result (RunsSegments script.now) }
     ensures routes { IfOk result (RunsRoutes M.room script.now) }
     ensures names { IfOk result (Names script.now) }
@@ -96,7 +117,7 @@ pub fn run_over<
     let Ok(started) = start::<R, B, S, M>(&rt, alloc, script) else {
         return Err(ThreadFault::Memory);
     };
-    let ended = run_started::<R, B, S, M, G>(rt, alloc, script, started, gates)?;
+    let ended = run_started::<R, B, S, M, G>(rt, alloc, script, started, gates, workers, slack)?;
     match report_on::<R, B, S, M>(&rt, alloc, script, ended) {
         Ok(report) => Ok(report),
         Err(_) => Err(ThreadFault::Memory),

@@ -1,4 +1,3 @@
-pub mod Joins
 pub mod Pacing
+pub mod Retiring
 pub mod Seats
-pub mod Turns

@@ -1,16 +1,20 @@
--- A seat that ticks a clock in a run whose slack is its bits.
-use Rattle.std.proofs.Common.{◌≡◌, ℕ, ◌+◌, ◌<◌, sym, ap, ◌∙◌, arith}
+-- A seat that ticks a clock as far as it may go.
+use Rattle.std.proofs.Common.{◌≡◌, ℕ, ◌+◌, ◌<◌, ◌≤◌, refl, sym, ap, subst, ◌∙◌, arith, slice_index}
 use Rattle.gw_threads.specs.declared.views.Pace.{Pace}
 use Rattle.gw_threads.specs.declared.views.Pacer.{Pacer}
-use Rattle.gw_threads.specs.Clocks.{ClockPlace, one_of, rest_of, ticked, MayTick, TicksAt, Deals}
+use Rattle.gw_threads.specs.Clocks.{ClockPlace, one_of, rest_of, ticked, MayTick, TicksAt, Deals, MayGo, SameClocks}
 
--- it may tick as long as a bit is left
-pub may_tick : (bits made : ℕ) (c : ClockPlace) → TicksAt bits made c → made < bits → MayTick c.pace c.view
-may_tick bits made c t left = record {
+-- it may tick as long as it hasn't come so far
+pub may_tick : (bits made limit : ℕ) (c : ClockPlace) → TicksAt bits made c → MayGo limit c → made < limit → MayTick c.pace c.view
+may_tick bits made limit c t may left = record {
   one = t.one;
-  short = let a = t.made_is in let b = t.bits_is in omega arith;
-  near = λ j l n. let a = t.made_is in let b = t.slack_is in omega arith;
+  short = omega (arith, t.made_is, may.most, left);
+  near = λ j l n. let near = may.near j l n in omega (arith, t.made_is, near, left);
 }
+
+-- no clock may go nowhere
+pub may_stay : (c : ClockPlace) → MayGo 0 c
+may_stay c = record { near = λ j l n. omega arith; most = omega arith }
 
 -- a tick behind
 pub ticked_on : (bits made : ℕ) (c d : ClockPlace) → d.pace ≡ c.pace → d.view ≡ ticked c.view → TicksAt bits made c → TicksAt bits (made + 1) d
@@ -18,8 +22,38 @@ ticked_on bits made c d same e t = record {
   one = ap (λ (v : Pacer). v.end) e ∙ t.one ∙ sym (ap (λ (v : Pacer). v.first + 1) e);
   made_is = ap (λ (v : Pacer). v.made) e ∙ ap (λ n. n + 1) t.made_is;
   bits_is = ap (λ (p : Pace). p.bits) same ∙ t.bits_is;
-  slack_is = ap (λ (p : Pace). p.slack) same ∙ t.slack_is;
 }
+
+-- it may still go as far
+pub may_go_on : (limit : ℕ) (c d : ClockPlace) → d.pace ≡ c.pace → d.view ≡ ticked c.view → MayGo limit c → MayGo limit d
+may_go_on limit c d same e may = record {
+  near = λ j l n. (
+      let first = ap (λ (v : Pacer). v.first) e in
+      let seen = ap (λ (v : Pacer). slice_index v.seen j) e in
+      let slack = ap (λ (p : Pace). p.slack) same in
+      let near = may.near j (subst (λ (p : Pace). j < p.segments) same l) (λ is. n (is ∙ sym first)) in
+      omega (arith, near, seen, slack));
+  most = omega (arith, may.most, ap (λ (p : Pace). p.bits) same);
+}
+
+-- a look changes nothing of this
+pub looked_on : (bits made : ℕ) (c d : ClockPlace) → SameClocks c d → TicksAt bits made c → TicksAt bits made d
+looked_on bits made c d same t = record {
+  one = same.end_is ∙ t.one ∙ sym (ap (λ n. n + 1) same.first_is);
+  made_is = same.made_is ∙ t.made_is;
+  bits_is = ap (λ (p : Pace). p.bits) same.pace_is ∙ t.bits_is;
+}
+
+pub same-on : (a b c : ClockPlace) → SameClocks a b → SameClocks b c → SameClocks a c
+same-on a b c p q = record {
+  pace_is = q.pace_is ∙ p.pace_is;
+  first_is = q.first_is ∙ p.first_is;
+  end_is = q.end_is ∙ p.end_is;
+  made_is = q.made_is ∙ p.made_is;
+}
+
+pub same-self : (a b : ClockPlace) → b ≡ a → SameClocks a b
+same-self a b e = subst (SameClocks a) (sym e) (record { pace_is = refl; first_is = refl; end_is = refl; made_is = refl })
 
 -- the seat that is dealt ticks one clock, at 0
 pub dealt_one : (bits dealt segments : ℕ) (c d : ClockPlace) → d.pace ≡ c.pace → d.view ≡ one_of c.view → Deals bits dealt segments c → TicksAt bits 0 d
@@ -27,7 +61,6 @@ dealt_one bits dealt segments c d same e t = record {
   one = ap (λ (v : Pacer). v.end) e ∙ sym (ap (λ (v : Pacer). v.first + 1) e);
   made_is = ap (λ (v : Pacer). v.made) e ∙ t.made_is;
   bits_is = ap (λ (p : Pace). p.bits) same ∙ t.bits_is;
-  slack_is = ap (λ (p : Pace). p.slack) same ∙ t.slack_is;
 }
 
 -- and the other one has the rest
@@ -37,5 +70,4 @@ dealt_rest bits dealt segments c d same e t = record {
   end_is = ap (λ (v : Pacer). v.end) e ∙ t.end_is;
   made_is = ap (λ (v : Pacer). v.made) e ∙ t.made_is;
   bits_is = ap (λ (p : Pace). p.bits) same ∙ t.bits_is;
-  slack_is = ap (λ (p : Pace). p.slack) same ∙ t.slack_is;
 }

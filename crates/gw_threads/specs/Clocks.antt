@@ -93,12 +93,11 @@ pub record ClockPlace : Type 0 where
 abbrev pub place_of : Pace → Me (Unit {0}) Pacer → ClockPlace
 place_of p me = record { pace = p; view = pacer_of me }
 
--- a seat that ticks one clock, which stands at this number, in a run of so many bits that no clock is too far ahead
+-- a seat that ticks one clock, which stands at this number, in a run of so many bits
 pub record TicksAt (bits made : ℕ) (c : ClockPlace) : Type 0 where
   pub one : c.view.end ≡ c.view.first + 1
   pub made_is : c.view.made ≡ made
   pub bits_is : c.pace.bits ≡ bits
-  pub slack_is : c.pace.slack ≡ bits
 
 -- a seat that has this many clocks still to deal, all at 0
 pub record Deals (bits dealt : ℕ) (segments : ℕ) (c : ClockPlace) : Type 0 where
@@ -106,4 +105,15 @@ pub record Deals (bits dealt : ℕ) (segments : ℕ) (c : ClockPlace) : Type 0 w
   pub end_is : c.view.end ≡ segments
   pub made_is : c.view.made ≡ 0
   pub bits_is : c.pace.bits ≡ bits
-  pub slack_is : c.pace.slack ≡ bits
+
+-- up to this number the seat's clock may go: it has seen every other clock within the slack of it
+pub record MayGo (limit : ℕ) (c : ClockPlace) : Type 0 where
+  pub near : (j : ℕ) → j < c.pace.segments → ¬ (j ≡ c.view.first) → limit ≤ slice_index c.view.seen j + c.pace.slack
+  pub most : limit ≤ c.pace.bits
+
+-- the seat's own clocks are as before
+pub record SameClocks (old new : ClockPlace) : Type 0 where
+  pub pace_is : new.pace ≡ old.pace
+  pub first_is : new.view.first ≡ old.view.first
+  pub end_is : new.view.end ≡ old.view.end
+  pub made_is : new.view.made ≡ old.view.made

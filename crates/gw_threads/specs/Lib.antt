@@ -1,2 +1,2 @@
 pub mod Clocks
-pub mod Workers
+pub mod Retired

@@ -1,6 +1,6 @@
 //! A seat at the clock table of a run.
 ghost use Rattle.std.specs.Prelude.{◌≡◌, ℕ, ◌+◌, ◌<◌, ◌≤◌, ◌^◌, IfOk, OnOk, IsTrue, slice_index};
-ghost use Rattle.gw_threads.specs.Clocks.{first_pacer, one_of, rest_of, watcher_of, ticked, MayTick};
+ghost use Rattle.gw_threads.specs.Clocks.{first_pacer, one_of, rest_of, watcher_of, ticked, MayTick, MayGo, SameClocks};
 
 use crate::clock_steps::{ClockTable, Seat, deal, lend, look, stop, tick, watch};
 use crate::thread_fault::ThreadFault;
@@ -129,6 +129,22 @@ impl ClockSeat {
         ensures { self.new ≡ self.old }
     {
         watch(&self.clocks, &mut self.seat, self.pace.segments) != 0
+    }
+
+    /// How far the seat's clock may go by what it now sees of the others: within the slack of each of them, and to the
+    /// run's bits at most. One look at each other clock.
+    pub(crate) fn limit(&mut self) -> u64
+        ensures same { SameClocks self.old self.new }
+        ensures go { MayGo result self.new }
+    {
+        let mut limit = self.pace.bits;
+        for segment in 0..self.pace.segments {
+            if segment != self.first {
+                let made = look(&self.clocks, &mut self.seat, segment);
+                limit = limit.min(made.saturating_add(self.pace.slack));
+            }
+        }
+        limit
     }
 
     /// Whether all clocks were seen at the run's bits.

@@ -1,16 +1,48 @@
 //! The bits of a segment in its thread.
 
-ghost use Rattle.std.specs.Prelude.{◌≡◌, OnOk, IfOk};
+ghost use Rattle.std.specs.Prelude.{◌≡◌, ◌<◌, OnOk, IfOk};
 ghost use Rattle.gw_site.specs.Sites.{SegmentRuns, SiteRuns, IsNewSegment, IsNewSite};
-ghost use Rattle.gw_threads.specs.Clocks.{TicksAt};
+ghost use Rattle.gw_threads.specs.Clocks.{TicksAt, MayGo, SameClocks};
 
 use crate::clock_seat::ClockSeat;
 use crate::thread_fault::ThreadFault;
 use can_segment::{RxSink, Segment};
 use gw_site::{Site, make_bit};
+use std::sync::Wait;
+use std::thread;
 
-/// All bits of a segment with its controllers, each followed by a tick of its clock, unless a stop is called.
-fn make_bits<R, P: RxSink<R>>(
+/// How far the clock may go, which is beyond `made`: as far as it may anyway, or what the others let it once they have
+/// come so far. `Memory` where a stop is called meanwhile.
+fn wait_for_others<R: Wait>(
+    rt: &R,
+    clock: &mut ClockSeat,
+    made: u64,
+    limit: u64,
+) -> Result<u64, ThreadFault>
+    requires { MayGo limit clock.old }
+    ensures same { SameClocks clock.old clock.new }
+    ensures further { IfOk result (λ limit. made < limit) }
+    ensures go { IfOk result (λ limit. MayGo limit clock.new) }
+{
+    if made < limit {
+        return Ok(limit);
+    }
+    for _look in rt.forever() {
+        let limit = clock.limit();
+        if made < limit {
+            return Ok(limit);
+        }
+        if clock.is_stopped() {
+            return Err(ThreadFault::Memory);
+        }
+        thread::yield_now();
+    }
+    unreachable!()
+}
+
+/// All bits of a segment with its controllers, each followed by a tick of its clock, unless a stop is called. The others
+/// are looked at only where the clock has come as far as it may go.
+fn make_bits<R: Wait, P: RxSink<R>>(
     rt: &R,
     segment: &mut Segment,
     ports: &mut [P],
@@ -22,10 +54,12 @@ fn make_bits<R, P: RxSink<R>>(
     ensures runs { OnOk result (SegmentRuns P.bus_after P.transmitting P.sink_after P.port_stays segment.old segment.new ports.old ports.new) }
     ensures clock { OnOk result (TicksAt bits bits clock.new) }
 {
-    for _bit in 0..bits {
+    let mut limit = 0u64;
+    for bit in 0..bits {
         if clock.is_stopped() {
             return Err(ThreadFault::Memory);
         }
+        limit = wait_for_others(rt, clock, u64::from(bit), limit)?;
         match make_bit(rt, segment, ports) {
             Ok(()) => clock.tick(),
             Err(_) => return Err(ThreadFault::Memory),
@@ -35,7 +69,7 @@ fn make_bits<R, P: RxSink<R>>(
 }
 
 /// The whole run of a segment. Where it fails, all threads are to stop.
-pub(crate) fn run_site<R, P: RxSink<R> + Drop>(
+pub(crate) fn run_site<R: Wait, P: RxSink<R> + Drop>(
     rt: &R,
     mut site: Site<P>,
     bits: u32,

@@ -20,12 +20,10 @@ use std::thread::{PromisedHandle, Threads};
 pub(crate) type SiteThread<R, P> = PromisedHandle<Result<Site<P>, ThreadFault>, SiteRun<R, P>>;
 
 /// A segment runs in a thread of its own, with this seat for its clock.
-fn start_site<R: Threads + Wait + Copy + Send + 'static, P: RxSink<R> + Drop + Send + 'static>(
-    rt: R,
-    site: Site<P>,
-    bits: u32,
-    clock: ClockSeat,
-) -> Result<SiteThread<R, P>, ThreadFault>
+fn start_site<
+    R: Threads + Wait + Copy + Send + Sync + 'static,
+    P: RxSink<R> + Drop + Send + 'static,
+>(rt: R, site: Site<P>, bits: u32, clock: ClockSeat) -> Result<SiteThread<R, P>, ThreadFault>
     requires new { IsNewSite P.bus_after P.transmitting P.sink_after bits site }
     requires clock { TicksAt bits 0 clock }
     ensures { IfOk result (λ thread. thread.promise.start.value ≡ site) }
@@ -47,7 +45,7 @@ fn start_site<R: Threads + Wait + Copy + Send + 'static, P: RxSink<R> + Drop + S
 /// Each segment runs in a thread of its own, with a seat for its clock that this one deals. The threads, also those
 /// that were started before one could not be, go into this list, which has room for them.
 pub(crate) fn start_sites<
-    R: Threads + Wait + Copy + Send + 'static,
+    R: Threads + Wait + Copy + Send + Sync + 'static,
     P: RxSink<R> + Drop + Send + 'static,
 >(
     rt: R,

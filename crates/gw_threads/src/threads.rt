@@ -1,55 +1,62 @@
 //! All segments and routes of a run, in threads of their own.
 
-ghost use Rattle.std.specs.Prelude.{◌≡◌, ◌≤◌, [], IfOk, OnOk, length, vec_len, vec_capacity};
+ghost use Rattle.std.specs.Prelude.{◌≡◌, ◌≤◌, ◌<◌, ◌-◌, [], IfOk, OnOk, length, vec_len, vec_capacity};
 ghost use Rattle.bx_core.specs.Lists.{Each};
 ghost use Rattle.gw_site.specs.Pairs.{Pairs};
 ghost use Rattle.gw_site.specs.Sites.{IsNewSite, SiteRuns};
+ghost use Rattle.gw_pool.specs.Couriers.{IsReadyCourier, CourierRuns};
+ghost use Rattle.gw_pool.specs.Pool.{account, places, IsWorkerSeat};
 ghost use Rattle.gw_threads.specs.Clocks.{Deals};
-ghost use Rattle.gw_threads.specs.Workers.{IsReadyWorker, WorkerRuns};
 
 use crate::clock_seat::ClockSeat;
 use crate::joining::join_all;
+use crate::pool_threads::{Pool, WorkerThread, retire_all, start_workers};
 use crate::site_threads::{SiteThread, start_sites};
 use crate::thread_fault::ThreadFault;
 use crate::views::Pace;
-use crate::worker::Worker;
-use crate::worker_threads::{WorkerThread, start_workers};
 use bx_core::{Gate, RouteTx};
 use can_segment::RxSink;
+use gw_pool::{Courier, Dealing, PoolSeat, collect_all, deal_all, places_for};
 use gw_site::Site;
 use std::alloc::Global;
+use std::marker::Brand;
 use std::sync::Wait;
 use std::thread::Threads;
 
 /// Starts all threads. Those that were started before one could not be are in the lists too.
 fn start_all<
-    R: Threads + Wait + Copy + Send + 'static,
+    R: Threads + Wait + Copy + Send + Sync + 'static,
     P: RxSink<R> + Drop + Send + 'static,
     S: RouteTx<R> + Drop + Send + 'static,
     G: Gate + Drop + Send + 'static,
+    J: Dealing<S, G> + Send + Sync + 'static,
 >(
     rt: R,
     sites: Vec<Site<P>>,
-    workers: Vec<Worker<S, G>>,
     bits: u32,
+    workers: usize,
+    pool: &mut Pool<R, S, G, J>,
     clock: &mut ClockSeat,
     site_threads: &mut Vec<SiteThread<R, P>>,
-    worker_threads: &mut Vec<WorkerThread<R, S, G>>,
+    worker_threads: &mut Vec<WorkerThread<R, S, G, J>>,
 ) -> Result<(), ThreadFault>
     requires sites { Each (IsNewSite P.bus_after P.transmitting P.sink_after bits) sites.items }
-    requires workers { Each (IsReadyWorker S.route_after) workers.items }
+    requires parts { workers < pool.old.account.parts }
     requires clocks { Deals bits 0 (vec_len sites) clock.old }
     requires site_room { vec_len sites ≤ vec_capacity site_threads.old }
-    requires worker_room { vec_len workers ≤ vec_capacity worker_threads.old }
+    requires worker_room { workers ≤ vec_capacity worker_threads.old }
     requires no_site { site_threads.old.items ≡ [] }
     requires no_worker { worker_threads.old.items ≡ [] }
     ensures site_room { vec_len site_threads.new ≤ vec_len sites }
-    ensures worker_room { vec_len worker_threads.new ≤ vec_len workers }
+    ensures worker_room { vec_len worker_threads.new ≤ workers }
+    ensures queue { pool.new.queue ≡ pool.old.queue }
     ensures sites { OnOk result (Pairs (λ k site thread. thread.promise.start.value ≡ site) sites.items site_threads.new.items) }
-    ensures workers { OnOk result (Pairs (λ k worker thread. thread.promise.start.value ≡ worker) workers.items worker_threads.new.items) }
+    ensures all { OnOk result (length worker_threads.new.items ≡ workers) }
+    ensures rest { OnOk result (pool.new.account ≡ account (pool.old.account.parts - workers) pool.old.account.put pool.old.account.taken) }
+    ensures workers { OnOk result (Each (λ thread. IsWorkerSeat pool.old.queue thread.promise.start.value) worker_threads.new.items) }
 {
     start_sites(rt, sites, bits, clock, site_threads)?;
-    start_workers(rt, workers, clock, worker_threads)
+    start_workers(rt, workers, pool, clock, worker_threads)
 }
 
 /// An empty list with room for so many.
@@ -63,8 +70,13 @@ fn room_for<T: Drop>(alloc: Global, count: usize) -> Result<Vec<T>, ThreadFault>
     }
 }
 
-/// The clocks of so many segments, in a run of so many bits. The slack is the run's bits: no clock waits for another.
-fn clocks_of(alloc: Global, segments: usize, bits: u32) -> Result<ClockSeat, ThreadFault>
+/// The clocks of so many segments, in a run of so many bits, of which none may be further ahead of another than the slack.
+fn clocks_of(
+    alloc: Global,
+    segments: usize,
+    bits: u32,
+    slack: u32,
+) -> Result<ClockSeat, ThreadFault>
     requires { segments ≤ 8 }
     ensures { IfOk result (Deals bits 0 segments) }
 {
@@ -72,47 +84,72 @@ fn clocks_of(alloc: Global, segments: usize, bits: u32) -> Result<ClockSeat, Thr
         alloc,
         Pace {
             segments,
-            slack: u64::from(bits),
+            slack: u64::from(slack),
             bits: u64::from(bits),
         },
     )
 }
 
-/// Runs each segment and each route in a thread of its own: each segment makes all its bits, and each route turns
-/// until 32 turns in a row, each begun once all segments had made their bits, came to nothing. Each thread that was
-/// started is joined before this returns, whatever the others came to. The segments and the routes come back in their
-/// order.
-///
-/// `Memory` comes where a growth was refused, in any thread; `Spawn` where a thread could not be started, for want of
-/// memory too. Either way the other threads are told to stop.
-pub fn run_in_threads<
-    R: Threads + Wait + Copy + Send + 'static,
+/// A pool with the batons of these routes.
+fn pool_of<R: Wait, S: RouteTx<R> + Drop, G: Drop, J: Dealing<S, G>>(
+    rt: &R,
+    alloc: Global,
+    couriers: Vec<Courier<S, G>>,
+) -> Result<Pool<R, S, G, J>, ThreadFault>
+    requires dealt { J.dealt ≡ couriers.items }
+    requires ready { Each (IsReadyCourier S.route_after) couriers.items }
+    requires few { length couriers.items ≤ 16 }
+    ensures { IfOk result (λ pool. pool.account ≡ account 1024 (places (length couriers.items)) []) }
+{
+    let Ok(mut pool) = PoolSeat::open(alloc) else {
+        return Err(ThreadFault::Memory);
+    };
+    deal_all(rt, &mut pool, couriers);
+    Ok(pool)
+}
+
+/// Runs these segments, and so many workers at the routes that were dealt.
+fn run_dealt<
+    R: Threads + Wait + Copy + Send + Sync + 'static,
     P: RxSink<R> + Drop + Send + 'static,
     S: RouteTx<R> + Drop + Send + 'static,
     G: Gate + Drop + Send + 'static,
+    J: Dealing<S, G> + Send + Sync + 'static,
 >(
     rt: R,
     alloc: Global,
     sites: Vec<Site<P>>,
-    workers: Vec<Worker<S, G>>,
+    couriers: Vec<Courier<S, G>>,
     bits: u32,
-) -> Result<(Vec<Site<P>>, Vec<Worker<S, G>>), ThreadFault>
+    workers: u32,
+    slack: u32,
+) -> Result<(Vec<Site<P>>, Vec<Courier<S, G>>), ThreadFault>
+    requires dealt { J.dealt ≡ couriers.items }
     requires few { length sites.items ≤ 8 }
+    requires few_routes { length couriers.items ≤ 16 }
+    requires few_workers { workers ≤ 16 }
     requires sites { Each (IsNewSite P.bus_after P.transmitting P.sink_after bits) sites.items }
-    requires workers { Each (IsReadyWorker S.route_after) workers.items }
+    requires ready { Each (IsReadyCourier S.route_after) couriers.items }
     ensures sites { IfOk result (λ made. Pairs (λ k. SiteRuns P.bus_after P.transmitting P.sink_after P.port_stays) sites.items made.0.items) }
-    ensures workers { IfOk result (λ made. Pairs (λ k. WorkerRuns S.route_after S.stays) workers.items made.1.items) }
+    ensures couriers { IfOk result (λ made. Pairs (λ k. CourierRuns S.route_after S.stays) couriers.items made.1.items) }
 {
-    let mut clock = clocks_of(alloc, sites.len(), bits)?;
+    let workers = workers as usize;
+    let mut clock = clocks_of(alloc, sites.len(), bits, slack)?;
     let made_sites = room_for(alloc, sites.len())?;
-    let made_workers = room_for(alloc, workers.len())?;
+    let made_seats = room_for(alloc, workers)?;
+    let made_couriers = room_for(alloc, couriers.len())?;
+    let Ok(slots) = places_for(alloc, couriers.len()) else {
+        return Err(ThreadFault::Memory);
+    };
     let mut site_threads = room_for(alloc, sites.len())?;
-    let mut worker_threads = room_for(alloc, workers.len())?;
+    let mut worker_threads: Vec<WorkerThread<R, S, G, J>> = room_for(alloc, workers)?;
+    let mut pool: Pool<R, S, G, J> = pool_of(&rt, alloc, couriers)?;
     let started = start_all(
         rt,
         sites,
-        workers,
         bits,
+        workers,
+        &mut pool,
         &mut clock,
         &mut site_threads,
         &mut worker_threads,
@@ -121,7 +158,42 @@ pub fn run_in_threads<
         clock.stop();
     }
     let made_sites = join_all(&rt, site_threads, made_sites);
-    let made_workers = join_all(&rt, worker_threads, made_workers);
+    let made_seats = join_all(&rt, worker_threads, made_seats);
     started?;
-    Ok((made_sites?, made_workers?))
+    let made_sites = made_sites?;
+    retire_all(&mut pool, made_seats?);
+    Ok((made_sites, collect_all(&rt, pool, slots, made_couriers)))
+}
+
+/// Runs each segment in a thread of its own, and the routes by so many workers, 1 to 16, each in a thread of its own: a
+/// worker takes a route's baton, makes one turn of it, and passes it on. Each segment makes all its bits, none of them
+/// further ahead of another than `slack` bits, 1 or more; and a worker ends after 32 tries in a row, each begun once all
+/// segments had made their bits, that came to nothing or found no baton. Each thread that was started is joined before this
+/// returns, whatever the others came to. The segments and the routes come back in their order.
+///
+/// `Memory` comes where a growth was refused, in any thread; `Spawn` where a thread could not be started, for want of
+/// memory too. Either way the other threads are told to stop.
+pub fn run_in_threads<
+    R: Threads + Wait + Copy + Send + Sync + 'static,
+    P: RxSink<R> + Drop + Send + 'static,
+    S: RouteTx<R> + Drop + Send + 'static,
+    G: Gate + Drop + Send + 'static,
+>(
+    rt: R,
+    alloc: Global,
+    sites: Vec<Site<P>>,
+    couriers: Vec<Courier<S, G>>,
+    bits: u32,
+    workers: u32,
+    slack: u32,
+) -> Result<(Vec<Site<P>>, Vec<Courier<S, G>>), ThreadFault>
+    requires few { length sites.items ≤ 8 }
+    requires few_routes { length couriers.items ≤ 16 }
+    requires few_workers { workers ≤ 16 }
+    requires sites { Each (IsNewSite P.bus_after P.transmitting P.sink_after bits) sites.items }
+    requires ready { Each (IsReadyCourier S.route_after) couriers.items }
+    ensures sites { IfOk result (λ made. Pairs (λ k. SiteRuns P.bus_after P.transmitting P.sink_after P.port_stays) sites.items made.0.items) }
+    ensures couriers { IfOk result (λ made. Pairs (λ k. CourierRuns S.route_after S.stays) couriers.items made.1.items) }
+{
+    run_dealt::<R, P, S, G, Brand>(rt, alloc, sites, couriers, bits, workers, slack)
 }

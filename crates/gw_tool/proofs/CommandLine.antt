@@ -1,9 +1,9 @@
 -- What clap makes of the words that ask for a command.
-use Rattle.std.proofs.Common.{◌≡◌, ◌<◌, ◌≤◌, ◌^◌, ℕ, List, [], ◌∷◌, codes, Bool, true, false, option_map, Option, Some, None, refl, subst, arith, get_or}
+use Rattle.std.proofs.Common.{◌≡◌, ◌∙◌, ◌<◌, ◌≤◌, ◌^◌, ℕ, List, [], ◌∷◌, ◌++◌, ap, codes, Bool, true, false, option_map, Option, Some, None, refl, subst, arith, get_or}
 use Rattle.std.specs.Prelude.{pos, ◌≤ℤ◌, FitsSigned, zero, suc, ◌+◌, ◌-◌}
 use Rattle.std.specs.Int.{w64}
 use Rattle.std.specs.Str.Parse.{IsNumeral, digits_value, signed_digits_value, without_leading_sign}
-use Rattle.std.proofs.lemmas.Fmt.{decimal_is_IsNumeral, first_decimal}
+use Rattle.std.proofs.lemmas.Fmt.{decimal_is_IsNumeral, decimal_digit, decimal_step, first_decimal}
 use Rattle.std.proofs.lemmas.Int.{ints}
 use Rattle.std.proofs.lemmas.Str.Parse.{digit_from_value}
 use Rattle.std.specs.Fmt.{decimal}
@@ -48,6 +48,16 @@ pub nothing_is_taken : (name : Text) → takes bxgate_app (name ∷ []) ≡ true
 unfolding clap_on_literals
 nothing_is_taken name = refl
 
+-- the row of the slack where it isn't given
+abbrev pub slack_row : Row
+slack_row = record {
+  id = codes "slack";
+  values = codes "64" ∷ [];
+  count = None;
+  source = Some DefaultValue;
+  reading = WithoutMinus;
+}
+
 -- the rows of `run` with this number
 abbrev pub rows_of_run : Bool → Text → List Row
 rows_of_run given text = record {
@@ -56,7 +66,7 @@ rows_of_run given text = record {
   count = None;
   source = Some (elim given [ true ↦ CommandLine | false ↦ DefaultValue ]);
   reading = WithoutMinus;
-} ∷ []
+} ∷ slack_row ∷ []
 
 -- `run`
 pub run_is_met : (name : Text) → subcommand_of bxgate_app (name ∷ codes "run" ∷ []) ≡ Some (codes "run", rows_of_run false (codes "1"))
@@ -134,7 +144,7 @@ turns_are_met name n (some, few) =
     let number : IsNumber (decimal n) = (is.0, rw is.1 some, rw is.1 few) in
     in_digits name (decimal n) number (first_decimal n some small)
 
--- the rows of `run` in threads: this many, and a turn after every bit
+-- the rows of `run` in threads: this many, and the defaults
 abbrev pub rows_of_threads : Text → List Row
 rows_of_threads text = record {
   id = codes "threads";
@@ -150,21 +160,21 @@ threads name text = name ∷ codes "run" ∷ codes "--threads" ∷ text ∷ []
 
 pub record IsMetInThreads (name text : Text) : Type 0 where
   pub met : subcommand_of bxgate_app (threads name text) ≡ Some (codes "run", rows_of_threads text)
-  pub turn : one_of (codes "turn") (rows_of_threads text) ≡ Some (codes "1")
+  pub slack : one_of (codes "slack") (rows_of_threads text) ≡ Some (codes "64")
   pub one : one_of (codes "threads") (rows_of_threads text) ≡ Some text
   pub taken : takes bxgate_app (threads name text) ≡ true
 
 first_of_threads : (name ds : Text) (k : ℕ) → k < 9 → IsUpTo 16 ((49 + k) ∷ ds) → IsMetInThreads name ((49 + k) ∷ ds)
 unfolding clap_on_literals
-first_of_threads name ds zero lt h = record { met = refl; turn = refl; one = refl; taken = rw (accepted_to 16 (49 ∷ ds) _ (omega arith) refl refl refl h) refl }
-first_of_threads name ds (suc zero) lt h = record { met = refl; turn = refl; one = refl; taken = rw (accepted_to 16 (50 ∷ ds) _ (omega arith) refl refl refl h) refl }
-first_of_threads name ds (suc (suc zero)) lt h = record { met = refl; turn = refl; one = refl; taken = rw (accepted_to 16 (51 ∷ ds) _ (omega arith) refl refl refl h) refl }
-first_of_threads name ds (suc (suc (suc zero))) lt h = record { met = refl; turn = refl; one = refl; taken = rw (accepted_to 16 (52 ∷ ds) _ (omega arith) refl refl refl h) refl }
-first_of_threads name ds (suc (suc (suc (suc zero)))) lt h = record { met = refl; turn = refl; one = refl; taken = rw (accepted_to 16 (53 ∷ ds) _ (omega arith) refl refl refl h) refl }
-first_of_threads name ds (suc (suc (suc (suc (suc zero))))) lt h = record { met = refl; turn = refl; one = refl; taken = rw (accepted_to 16 (54 ∷ ds) _ (omega arith) refl refl refl h) refl }
-first_of_threads name ds (suc (suc (suc (suc (suc (suc zero)))))) lt h = record { met = refl; turn = refl; one = refl; taken = rw (accepted_to 16 (55 ∷ ds) _ (omega arith) refl refl refl h) refl }
-first_of_threads name ds (suc (suc (suc (suc (suc (suc (suc zero))))))) lt h = record { met = refl; turn = refl; one = refl; taken = rw (accepted_to 16 (56 ∷ ds) _ (omega arith) refl refl refl h) refl }
-first_of_threads name ds (suc (suc (suc (suc (suc (suc (suc (suc zero)))))))) lt h = record { met = refl; turn = refl; one = refl; taken = rw (accepted_to 16 (57 ∷ ds) _ (omega arith) refl refl refl h) refl }
+first_of_threads name ds zero lt h = record { met = refl; slack = refl; one = refl; taken = rw (accepted_to 16 (49 ∷ ds) _ (omega arith) refl refl refl h) refl }
+first_of_threads name ds (suc zero) lt h = record { met = refl; slack = refl; one = refl; taken = rw (accepted_to 16 (50 ∷ ds) _ (omega arith) refl refl refl h) refl }
+first_of_threads name ds (suc (suc zero)) lt h = record { met = refl; slack = refl; one = refl; taken = rw (accepted_to 16 (51 ∷ ds) _ (omega arith) refl refl refl h) refl }
+first_of_threads name ds (suc (suc (suc zero))) lt h = record { met = refl; slack = refl; one = refl; taken = rw (accepted_to 16 (52 ∷ ds) _ (omega arith) refl refl refl h) refl }
+first_of_threads name ds (suc (suc (suc (suc zero)))) lt h = record { met = refl; slack = refl; one = refl; taken = rw (accepted_to 16 (53 ∷ ds) _ (omega arith) refl refl refl h) refl }
+first_of_threads name ds (suc (suc (suc (suc (suc zero))))) lt h = record { met = refl; slack = refl; one = refl; taken = rw (accepted_to 16 (54 ∷ ds) _ (omega arith) refl refl refl h) refl }
+first_of_threads name ds (suc (suc (suc (suc (suc (suc zero)))))) lt h = record { met = refl; slack = refl; one = refl; taken = rw (accepted_to 16 (55 ∷ ds) _ (omega arith) refl refl refl h) refl }
+first_of_threads name ds (suc (suc (suc (suc (suc (suc (suc zero))))))) lt h = record { met = refl; slack = refl; one = refl; taken = rw (accepted_to 16 (56 ∷ ds) _ (omega arith) refl refl refl h) refl }
+first_of_threads name ds (suc (suc (suc (suc (suc (suc (suc (suc zero)))))))) lt h = record { met = refl; slack = refl; one = refl; taken = rw (accepted_to 16 (57 ∷ ds) _ (omega arith) refl refl refl h) refl }
 first_of_threads name ds (suc (suc (suc (suc (suc (suc (suc (suc (suc k))))))))) lt h = absurd (omega arith)
 
 digits_of_threads : (name text : Text) → IsUpTo 16 text → 48 < get_or text 0 0 → IsMetInThreads name text
@@ -182,3 +192,7 @@ threads_are_met name n (some, few) =
     let is = decimal_is_IsNumeral n small in
     let number : IsUpTo 16 (decimal n) = (is.0, rw is.1 some, rw is.1 few) in
     digits_of_threads name (decimal n) number (first_decimal n some small)
+
+-- the slack where none is given
+pub sixty_four : decimal 64 ≡ codes "64"
+sixty_four = decimal_step 64 (omega arith) (omega arith) ∙ ap (λ ds. ds ++ 52 ∷ []) (decimal_digit 6 (omega arith))

@@ -20,18 +20,18 @@ use Rattle.gw_tool.specs.declared.task.Task.TheVariants as task
 pub no_document : (t : Task) (bytes : List ℕ) (f : Fault) → IsNoDocument bytes f → IsRefusal t bytes f
 no_document task.Core bytes f is = in_text is
 no_document (task.Run turn) bytes f is = in_text is
-no_document (task.RunThreads threads turn) bytes f is = in_text is
+no_document (task.RunThreads threads slack) bytes f is = in_text is
 
 -- memory may be wanted, whatever was asked for
 pub wants_memory : (t : Task) → IsWant t run_fault.Memory
 wants_memory task.Core = refl
 wants_memory (task.Run turn) = refl
-wants_memory (task.RunThreads threads turn) = inl refl
+wants_memory (task.RunThreads threads slack) = inl refl
 
 -- a run in threads may want either
-pub wants_either : (threads turn : ℕ) (e : RunFault) → IsWant (task.RunThreads threads turn) e
-wants_either threads turn run_fault.Memory = inl refl
-wants_either threads turn run_fault.Spawn = inr refl
+pub wants_either : (threads slack : ℕ) (e : RunFault) → IsWant (task.RunThreads threads slack) e
+wants_either threads slack run_fault.Memory = inl refl
+wants_either threads slack run_fault.Spawn = inr refl
 
 -- what nobody wrote to is as it was
 pub keeps_all : (known : Option (List ℕ)) → Keeps known known

@@ -12,7 +12,6 @@ use Rattle.gw_script.specs.declared.report.Report.{Report}
 use Rattle.gw_script.specs.declared.route_report.RouteReport.{RouteReport}
 use Rattle.gw_fields.specs.declared.script_fault.ScriptFault.TheVariants as fault
 use Rattle.gw_script.specs.NamedPlaces.{Names}
-use Rattle.gw_run.specs.Orders.{AllByOrder}
 use Rattle.gw_run.specs.declared.run_fault.RunFault.{RunFault}
 use Rattle.gw_run.specs.declared.run_fault.RunFault.TheVariants as run_fault
 use Rattle.gw_ending.specs.Headline.{NotRefilled, Balances}
@@ -36,12 +35,13 @@ pub record IsListAnswer (bytes text : List ℕ) : Type 0 where
   pub reads : IsTextOf event_list_of bytes events
   pub report : IsReport events text
 
--- all that is claimed of a report on a run of this script, with so much room in each controller for what waits
-pub record IsRunOf (room : ℕ) (s : ScriptValue) (report : Report) : Type 0 where
+-- all that is claimed of a report on a run of this script, in one thread or in many: each controller has room for three
+-- requests
+pub record IsRunOf (s : ScriptValue) (report : Report) : Type 0 where
   -- of each segment it has the record of a run over all the script's bits
   pub segments : RunsSegments s report
   -- of each route it has what these records tell of its two controllers
-  pub routes : RunsRoutes room s report
+  pub routes : RunsRoutes 3 s report
   -- of each route into a controller that sends by order of requests, the completed frames are, in order and each once, a
   -- prefix of the released ones, the aborted ones left out; into one that sends by identifier, they are each once among these
   pub order : AreOrdered s report
@@ -58,38 +58,27 @@ pub record IsRunAnswer (bytes text : List ℕ) : Type 0 where
   pub script : ScriptValue
   pub reads : IsTextOf script_of bytes script
   pub report : Report
-  pub run : IsRunOf 3 script report
+  pub run : IsRunOf script report
   pub text_is : text ≡ report_text script report
 
--- the run is in threads just where each controller of the script sends by order of requests
-abbrev pub IsThreadedRunOf : ScriptValue → Report → Type 0
-IsThreadedRunOf s report = (AllByOrder s × IsRunOf 12 s report) ⊎ ((AllByOrder s → ⊥) × IsRunOf 3 s report)
-
--- the bytes are a script, and the text is that of a report on a run of it in threads, or in one thread where that can't be
-pub record IsThreadedAnswer (bytes text : List ℕ) : Type 0 where
-  pub script : ScriptValue
-  pub reads : IsTextOf script_of bytes script
-  pub report : Report
-  pub run : IsThreadedRunOf script report
-  pub text_is : text ≡ report_text script report
-
--- the text is an answer to these bytes. The claims on a run are the same however many bits lie between two turns.
+-- the text is an answer to these bytes. The claims on a run are the same however many bits lie between two turns, and
+-- however many threads there are.
 abbrev pub IsAnswer : Task → List ℕ → List ℕ → Type 0
 IsAnswer task.Core bytes text = IsListAnswer bytes text
 IsAnswer (task.Run turn) bytes text = IsRunAnswer bytes text
-IsAnswer (task.RunThreads threads turn) bytes text = IsThreadedAnswer bytes text
+IsAnswer (task.RunThreads threads slack) bytes text = IsRunAnswer bytes text
 
 -- the first fault of these bytes
 abbrev pub IsRefusal : Task → List ℕ → Fault → Type 0
 IsRefusal task.Core bytes f = FirstFault event_list_of bytes f
 IsRefusal (task.Run turn) bytes f = FirstFault script_of bytes f
-IsRefusal (task.RunThreads threads turn) bytes f = FirstFault script_of bytes f
+IsRefusal (task.RunThreads threads slack) bytes f = FirstFault script_of bytes f
 
 -- why a run may be without its report: for want of memory, and where threads are started, of a thread
 abbrev pub IsWant : Task → RunFault → Type 0
 IsWant task.Core e = e ≡ run_fault.Memory
 IsWant (task.Run turn) e = e ≡ run_fault.Memory
-IsWant (task.RunThreads threads turn) e = (e ≡ run_fault.Memory) ⊎ (e ≡ run_fault.Spawn)
+IsWant (task.RunThreads threads slack) e = (e ≡ run_fault.Memory) ⊎ (e ≡ run_fault.Spawn)
 
 -- the failure that comes of these bytes alone
 abbrev pub IsFailureOn : Task → List ℕ → Failure → Type 0

@@ -18,21 +18,26 @@ IsTurn n = (0 < n) × (n ≤ 1000000)
 abbrev pub IsThreads : ℕ → Type 0
 IsThreads n = (0 < n) × (n ≤ 16)
 
-abbrev pub HasTurn : Task → Type 0
-HasTurn Core = Unit {0}
-HasTurn (Run turn) = IsTurn turn
-HasTurn (RunThreads threads turn) = IsThreads threads × IsTurn turn
+-- so many bits may a segment be ahead of another
+abbrev pub IsSlack : ℕ → Type 0
+IsSlack n = (0 < n) × (n ≤ 1000000)
+
+-- its numbers are in their ranges
+abbrev pub HasRanges : Task → Type 0
+HasRanges Core = Unit {0}
+HasRanges (Run turn) = IsTurn turn
+HasRanges (RunThreads threads slack) = IsThreads threads × IsSlack slack
 
 abbrev pub IsRunTask : Task → Type 0
 IsRunTask Core = ⊥
 IsRunTask (Run turn) = IsTurn turn
-IsRunTask (RunThreads threads turn) = IsThreads threads × IsTurn turn
+IsRunTask (RunThreads threads slack) = IsThreads threads × IsSlack slack
 
 -- the word for what is asked
 abbrev pub name_of : Task → List ℕ
 name_of Core = codes "core"
 name_of (Run turn) = codes "run"
-name_of (RunThreads threads turn) = codes "run"
+name_of (RunThreads threads slack) = codes "run"
 
 -- a word that is taken as the name of a file: it doesn't begin with a hyphen (45), as options do
 abbrev pub IsFileName : List ℕ → Type 0
@@ -44,7 +49,8 @@ abbrev pub file_named : Option (List ℕ) → Option (List ℕ)
 file_named None = None
 file_named (Some word) = if bytes_eq word (codes "-") then None else Some word
 
--- The commands: `core`, and `run` with the option `--turn`, whose number is 1 where it isn't given. Both take a file.
+-- The commands: `core`, and `run` with the options `--turn`, whose number is 1 where it isn't given, `--threads`, and
+-- `--slack`, whose number is 64 where it isn't given. Both take a file.
 abbrev pub file_rule : Rule
 file_rule = record (new_rule (codes "file")) { value_names = 1 }
 
@@ -64,6 +70,14 @@ threads_rule = record (new_rule (codes "threads")) {
   parser = Some (Signed (pos 1) (pos 16));
 }
 
+abbrev pub slack_rule : Rule
+slack_rule = record (new_rule (codes "slack")) {
+  long = Some (codes "slack");
+  value_names = 1;
+  defaults = codes "64" ∷ [];
+  parser = Some (Signed (pos 1) (pos 1000000));
+}
+
 abbrev pub core_app : App
 core_app = with_rule (new_app (codes "core")) file_rule
 
@@ -73,8 +87,11 @@ turns_app = with_rule (new_app (codes "run")) turn_rule
 abbrev pub threads_app : App
 threads_app = with_rule turns_app threads_rule
 
+abbrev pub slack_app : App
+slack_app = with_rule threads_app slack_rule
+
 abbrev pub run_app : App
-run_app = with_rule threads_app file_rule
+run_app = with_rule slack_app file_rule
 
 -- the program, which tells its version
 abbrev pub versioned_app : App

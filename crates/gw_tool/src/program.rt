@@ -7,7 +7,7 @@ ghost use Rattle.std.specs.IoError.{error_kind};
 ghost use Rattle.std.specs.declared.io.ErrorKind.TheVariants.{OutOfMemory};
 ghost use Rattle.clap.specs.Words.{kind_of};
 ghost use Rattle.gw_tool.specs.Outcomes.{IsAnswer, IsFailureOn, Ends, EndsWith, input_of};
-ghost use Rattle.gw_tool.specs.Words.{IsTurn, IsThreads, HasTurn, IsFileName, asked_of};
+ghost use Rattle.gw_tool.specs.Words.{IsTurn, IsThreads, HasRanges, IsFileName, asked_of};
 
 use crate::command::task_of;
 use crate::core_command::core_text;
@@ -31,32 +31,32 @@ use std::sync::Wait;
 use std::thread::Threads;
 
 /// The answer to the bytes of the input.
-fn text_of<H: Threads + Wait + Copy + Send + 'static>(
+fn text_of<H: Threads + Wait + Copy + Send + Sync + 'static>(
     rt: &H,
     alloc: Global,
     task: Task,
     bytes: &[u8],
 ) -> Result<Vec<u8>, Failure>
-    requires { HasTurn task }
+    requires { HasRanges task }
     ensures ok { IfOk result (λ text. IsAnswer task bytes.now text.items) }
     ensures err { IfErr result (IsFailureOn task bytes.now) }
 {
     match task {
         Task::Core => core_text(alloc, bytes),
         Task::Run { turn } => run_text(rt, alloc, bytes, turn),
-        Task::RunThreads { threads, turn } => threaded_text(rt, alloc, bytes, threads, turn),
+        Task::RunThreads { threads, slack } => threaded_text(rt, alloc, bytes, threads, slack),
     }
 }
 
 /// Reads all there is, and writes the answer to it and nothing else.
-fn carry_out<H: Threads + Wait + Copy + Send + 'static, R: Read, W: Write>(
+fn carry_out<H: Threads + Wait + Copy + Send + Sync + 'static, R: Read, W: Write>(
     rt: &H,
     alloc: Global,
     task: Task,
     input: &mut R,
     output: &mut W,
 ) -> Result<(), Failure>
-    requires { HasTurn task }
+    requires { HasRanges task }
     ensures { Ends task (R.remaining input.old) (W.contents output.old) (W.contents output.new) result }
 {
     let bytes = match read_input(alloc, input) {
@@ -76,7 +76,7 @@ fn carry_out<H: Threads + Wait + Copy + Send + 'static, R: Read, W: Write>(
 }
 
 /// Does the same with the input that is asked for. A file that can't be opened is a read fault.
-fn fulfil<H: Threads + Wait + Copy + Send + 'static, F: Files, R: Read, W: Write>(
+fn fulfil<H: Threads + Wait + Copy + Send + Sync + 'static, F: Files, R: Read, W: Write>(
     rt: &H,
     alloc: Global,
     order: Order<'_>,
@@ -84,7 +84,7 @@ fn fulfil<H: Threads + Wait + Copy + Send + 'static, F: Files, R: Read, W: Write
     input: &mut R,
     output: &mut W,
 ) -> Result<(), Failure>
-    requires { HasTurn order.task }
+    requires { HasRanges order.task }
     ensures { Ends order.entry.task (input_of (F.contents files.now) (R.remaining input.old) (asked_of order.entry).1)
         (W.contents output.old) (W.contents output.new) result }
 {
@@ -98,7 +98,13 @@ fn fulfil<H: Threads + Wait + Copy + Send + 'static, F: Files, R: Read, W: Write
 }
 
 /// Does what was asked for, and answers the status that the program then ends with.
-fn status_after<H: Threads + Wait + Copy + Send + 'static, F: Files, R: Read, W: Write, E: Write>(
+fn status_after<
+    H: Threads + Wait + Copy + Send + Sync + 'static,
+    F: Files,
+    R: Read,
+    W: Write,
+    E: Write,
+>(
     rt: &H,
     alloc: Global,
     order: Order<'_>,
@@ -107,7 +113,7 @@ fn status_after<H: Threads + Wait + Copy + Send + 'static, F: Files, R: Read, W:
     output: &mut W,
     faults: &mut E,
 ) -> u8
-    requires { HasTurn order.task }
+    requires { HasRanges order.task }
     ensures { EndsWith order.entry.task (input_of (F.contents files.now) (R.remaining input.old) (asked_of order.entry).1)
         (W.contents output.old) (W.contents output.new) result }
 {
@@ -125,14 +131,13 @@ fn status_after<H: Threads + Wait + Copy + Send + 'static, F: Files, R: Read, W:
 /// nothing, 74 a read or a write fault. What went wrong is told on `faults`, and then nothing is written to
 /// `output`, but that a write fault may come in the middle. The text of help, version and usage is clap's.
 /// There are no files here, so a word that names one is a read fault; see `tool_with_files`.
-pub fn tool<H: Threads + Wait + Copy + Send + 'static, S: AsStr, R: Read, W: Write, E: Write>(
-    rt: &H,
-    alloc: Global,
-    words: &[S],
-    input: &mut R,
-    output: &mut W,
-    faults: &mut E,
-) -> u8
+pub fn tool<
+    H: Threads + Wait + Copy + Send + Sync + 'static,
+    S: AsStr,
+    R: Read,
+    W: Write,
+    E: Write,
+>(rt: &H, alloc: Global, words: &[S], input: &mut R, output: &mut W, faults: &mut E) -> u8
     ensures core { (name : List ℕ) → map S.text words.now ≡ name ∷ codes "core" ∷ []
         → EndsWith Task.Core (R.remaining input.old) (W.contents output.old) (W.contents output.new) result }
     ensures run { (name : List ℕ) → map S.text words.now ≡ name ∷ codes "run" ∷ []
@@ -142,7 +147,7 @@ pub fn tool<H: Threads + Wait + Copy + Send + 'static, S: AsStr, R: Read, W: Wri
         → EndsWith (Task.Run n) (R.remaining input.old) (W.contents output.old) (W.contents output.new) result }
     ensures threads { (name : List ℕ) (n : ℕ) → IsThreads n
         → map S.text words.now ≡ name ∷ codes "run" ∷ codes "--threads" ∷ decimal n ∷ []
-        → EndsWith (Task.RunThreads n 1) (R.remaining input.old) (W.contents output.old) (W.contents output.new) result }
+        → EndsWith (Task.RunThreads n 64) (R.remaining input.old) (W.contents output.old) (W.contents output.new) result }
     ensures nothing { (name : List ℕ) → map S.text words.now ≡ name ∷ []
         → ((result ≡ 64) ⊎ (result ≡ 3)) × Keeps (W.contents output.old) (W.contents output.new) }
     ensures usage { result ≡ 64 → Keeps (W.contents output.old) (W.contents output.new) }
@@ -157,7 +162,7 @@ pub fn tool<H: Threads + Wait + Copy + Send + 'static, S: AsStr, R: Read, W: Wri
 /// Runs the program as `tool` does, but that it reads the FILE of the words `core FILE` and `run FILE`, with or
 /// without options, in place of `input`. A FILE that can't be opened or read is a read fault; the FILE `-` is `input`.
 pub fn tool_with_files<
-    H: Threads + Wait + Copy + Send + 'static,
+    H: Threads + Wait + Copy + Send + Sync + 'static,
     S: AsStr,
     F: Files,
     R: Read,
@@ -181,7 +186,7 @@ pub fn tool_with_files<
         → EndsWith (Task.Run n) (R.remaining input.old) (W.contents output.old) (W.contents output.new) result }
     ensures threads { (name : List ℕ) (n : ℕ) → IsThreads n
         → map S.text words.now ≡ name ∷ codes "run" ∷ codes "--threads" ∷ decimal n ∷ []
-        → EndsWith (Task.RunThreads n 1) (R.remaining input.old) (W.contents output.old) (W.contents output.new) result }
+        → EndsWith (Task.RunThreads n 64) (R.remaining input.old) (W.contents output.old) (W.contents output.new) result }
     ensures nothing { (name : List ℕ) → map S.text words.now ≡ name ∷ []
         → ((result ≡ 64) ⊎ (result ≡ 3)) × Keeps (W.contents output.old) (W.contents output.new) }
     ensures usage { result ≡ 64 → Keeps (W.contents output.old) (W.contents output.new) }

@@ -21,7 +21,7 @@ struct Run {
     faults: Vec<u8>,
 }
 
-fn run_of<H: Threads + Wait + AllocGlobal + Copy + Send + 'static>(
+fn run_of<H: Threads + Wait + AllocGlobal + Copy + Send + Sync + 'static>(
     rt: &H,
     words: &[&str],
     mut input: &[u8],
@@ -38,7 +38,7 @@ fn run_of<H: Threads + Wait + AllocGlobal + Copy + Send + 'static>(
 }
 
 /// Whether a command refuses this input for this fault, and writes nothing.
-fn is_refused<H: Threads + Wait + AllocGlobal + Copy + Send + 'static>(
+fn is_refused<H: Threads + Wait + AllocGlobal + Copy + Send + Sync + 'static>(
     rt: &H,
     command: &str,
     input: &[u8],
@@ -210,6 +210,10 @@ fn asks_for_a_number_of_bits(rt: HostRuntime) {
         ["bxgate", "run", "--threads", "four"].as_slice(),
         ["bxgate", "run", "--threads", "4", "--threads", "4"].as_slice(),
         ["bxgate", "run", "--threads", "4", "--turn", "0"].as_slice(),
+        ["bxgate", "run", "--threads", "4", "--slack"].as_slice(),
+        ["bxgate", "run", "--threads", "4", "--slack", "0"].as_slice(),
+        ["bxgate", "run", "--threads", "4", "--slack", "1000001"].as_slice(),
+        ["bxgate", "run", "--slack", "0"].as_slice(),
     ] {
         let run = run_of(&rt, words, runs::ONE_FRAME.as_bytes());
         assert_eq!(rt; run.status, 64);
@@ -222,6 +226,8 @@ fn asks_for_a_number_of_bits(rt: HostRuntime) {
         ["bxgate", "run", "--turn=1000000"].as_slice(),
         ["bxgate", "run", "--threads", "16"].as_slice(),
         ["bxgate", "run", "--turn", "2", "--threads", "1"].as_slice(),
+        ["bxgate", "run", "--threads", "1", "--slack", "1000000"].as_slice(),
+        ["bxgate", "run", "--slack=1"].as_slice(),
     ] {
         let run = run_of(&rt, words, b"{}");
         assert_eq!(rt; run.status, 2);

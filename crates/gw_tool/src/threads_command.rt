@@ -2,13 +2,13 @@
 
 ghost use Rattle.std.specs.Prelude.{◌≡◌, IfOk, IfErr, length};
 ghost use Rattle.gw_config.specs.SoundScripts.{IsSound};
-ghost use Rattle.gw_tool.specs.Outcomes.{IsAnswer, IsFailureOn, IsThreadedRunOf};
-ghost use Rattle.gw_tool.specs.Words.{IsThreads, IsTurn};
+ghost use Rattle.gw_tool.specs.Outcomes.{IsAnswer, IsFailureOn, IsRunOf};
+ghost use Rattle.gw_tool.specs.Words.{IsSlack, IsThreads};
 ghost use Rattle.gw_tool.specs.declared.task.Task.TheVariants.{RunThreads};
 
 use crate::failure::Failure;
 use bx_core::NoGate;
-use gw_run::{RunFault, all_by_order, run_inline, run_threads};
+use gw_run::{RunFault, run_threads};
 use gw_script::{Report, Script, print, read};
 use std::alloc::{AllocError, Global};
 use std::sync::Wait;
@@ -21,47 +21,44 @@ fn gates_of(alloc: Global, script: &Script) -> Result<Vec<NoGate>, AllocError>
     vec![in alloc; NoGate; script.routes().len()]
 }
 
-/// The report on a run of a script in threads; where a controller sends by identifier, in one thread.
-fn threaded_report<H: Threads + Wait + Copy + Send + 'static>(
+/// The report on a run of a script in threads.
+fn threaded_report<H: Threads + Wait + Copy + Send + Sync + 'static>(
     rt: &H,
     alloc: Global,
     script: &Script,
-    turn: u32,
+    threads: u32,
+    slack: u32,
 ) -> Result<Report, RunFault>
     requires sound { IsSound script.now }
-    requires turn { IsTurn turn }
-    ensures { IfOk result (IsThreadedRunOf script.now) }
+    requires threads { IsThreads threads }
+    requires slack { IsSlack slack }
+    ensures { IfOk result (IsRunOf script.now) }
 {
-    if !all_by_order(script) {
-        return run_inline(rt, alloc, script, turn);
-    }
     match gates_of(alloc, script) {
-        Ok(gates) => run_threads(*rt, alloc, script, gates),
+        Ok(gates) => run_threads(*rt, alloc, script, threads, slack, gates),
         Err(_) => Err(RunFault::Memory),
     }
 }
 
-/// The report on a run in threads of the script that the bytes are, or in one thread where a controller sends by
-/// identifier, with a turn of each route after every so many bits. So many threads were asked for.
-pub fn threaded_text<H: Threads + Wait + Copy + Send + 'static>(
+/// The report on a run in threads of the script that the bytes are: the routes by so many threads, and no segment more
+/// than so many bits ahead of another.
+pub fn threaded_text<H: Threads + Wait + Copy + Send + Sync + 'static>(
     rt: &H,
     alloc: Global,
     bytes: &[u8],
     threads: u32,
-    turn: u32,
+    slack: u32,
 ) -> Result<Vec<u8>, Failure>
     requires threads { IsThreads threads }
-    requires turn { IsTurn turn }
-    ensures ok { IfOk result (λ text. IsAnswer (RunThreads threads turn) bytes.now text.items) }
-    ensures err { IfErr result (IsFailureOn (RunThreads threads turn) bytes.now) }
+    requires slack { IsSlack slack }
+    ensures ok { IfOk result (λ text. IsAnswer (RunThreads threads slack) bytes.now text.items) }
+    ensures err { IfErr result (IsFailureOn (RunThreads threads slack) bytes.now) }
 {
-    // how many threads are asked for isn't used yet
-    let _ = threads;
     let script = match read(alloc, bytes) {
         Ok(script) => script,
         Err(fault) => return Err(Failure::Script(fault)),
     };
-    let report = match threaded_report(rt, alloc, &script, turn) {
+    let report = match threaded_report(rt, alloc, &script, threads, slack) {
         Ok(report) => report,
         Err(fault) => return Err(Failure::Run(fault)),
     };

@@ -2,6 +2,7 @@
 
 mod one_fault;
 mod requests;
+mod shared;
 mod talkers;
 
 ghost use Rattle.std.specs.Prelude.{◌≡◌, None, IfOk, IfSome, length};

@@ -3,10 +3,10 @@
 
 use crate::runs::THREE_FRAMES;
 use bx_core::{Gate, Heard, NoGate, Point};
-use gw_run::{RunFault, all_by_order, run_threads};
+use gw_run::run_threads;
 use gw_script::{Report, RouteReport, read};
 use std::alloc::{AllocError, Global};
-use std::sync::atomic::{AtomicU64, Ordering};
+use std::sync::atomic::{AtomicBool, Ordering};
 use std::sync::{Arc, Wait};
 use std::test::Fail;
 use std::thread;
@@ -20,21 +20,30 @@ const LONG: &str =
 const TWO_ROUTES: &str =
     r#"{"version":1,"bits":1000000,"segments":[{"name":"a","talkers":[{"name":"t","on":0,"frames":[{"id":0,"ext":false,"data":[]},{"id":1,"ext":false,"data":[]}]}]},{"name":"b","talkers":[{"name":"l","on":0,"frames":[]}]}],"controllers":[{"name":"c","segment":"a","on":0,"banks":[{"bank":0,"scale":32,"mode":"list","fifo":0,"active":true,"r1":0,"r2":0},{"bank":1,"scale":32,"mode":"list","fifo":1,"active":true,"r1":2097152,"r2":2097152}]},{"name":"d","segment":"b","on":0,"banks":[]}],"routes":[{"name":"r","from":"c","fifo":0,"to":"d"},{"name":"s","from":"c","fifo":1,"to":"d"}]}"#;
 
-/// The report on a run in threads.
-fn report_on<R: Threads + Wait + Copy + Send + 'static, G: Gate + Drop + Send + 'static>(
+/// Two segments without a node.
+const NO_ROUTE: &str =
+    r#"{"version":1,"bits":64,"segments":[{"name":"a","talkers":[]},{"name":"b","talkers":[]}],"controllers":[],"routes":[]}"#;
+
+/// The report on a run in threads, with so many workers and so much slack.
+fn report_on<R: Threads + Wait + Copy + Send + Sync + 'static, G: Gate + Drop + Send + 'static>(
     rt: R,
     alloc: Global,
     text: &str,
+    workers: u32,
+    slack: u32,
     gates: Vec<G>,
 ) -> Result<Report, Fail> {
     let script = match read(alloc, text.as_bytes()) {
         Ok(script) => script,
         Err(fault) => return Err(fault.into()),
     };
-    if !all_by_order(&script) || gates.len() != script.routes().len() {
-        return Err(RunFault::Spawn.into());
+    if gates.len() != script.routes().len() {
+        return Err(Fail::new("as many gates as routes"));
     }
-    match run_threads(rt, alloc, &script, gates) {
+    if workers < 1 || workers > 16 || slack < 1 || slack > 1_000_000 {
+        return Err(Fail::new("out of range"));
+    }
+    match run_threads(rt, alloc, &script, workers, slack, gates) {
         Ok(report) => Ok(report),
         Err(fault) => Err(fault.into()),
     }
@@ -56,17 +65,23 @@ fn is_balanced(route: &RouteReport) -> bool {
             .saturating_add(route.held)
 }
 
+/// More workers than routes are lawful, and so is a segment that waits for the other at each bit.
 #[test]
 fn three_frames_are_accepted_in_threads(rt: HostRuntime) -> Result<(), Fail> {
-    let report = report_on(rt, rt.alloc(), THREE_FRAMES, no_gate(rt.alloc())?)?;
-    assert!(rt;
-        report
-            .segments
-            .iter()
-            .all(|record| record.levels.len() == 300)
-    );
-    assert!(rt; report.routes.iter().map(|route| route.accepted).eq([3]));
-    assert!(rt; report.routes.iter().all(is_balanced));
+    for workers in [1u32, 2, 16] {
+        for slack in [1u32, 64] {
+            let gates = no_gate(rt.alloc())?;
+            let report = report_on(rt, rt.alloc(), THREE_FRAMES, workers, slack, gates)?;
+            assert!(rt;
+                report
+                    .segments
+                    .iter()
+                    .all(|record| record.levels.len() == 300)
+            );
+            assert!(rt; report.routes.iter().map(|route| route.accepted).eq([3]));
+            assert!(rt; report.routes.iter().all(is_balanced));
+        }
+    }
     Ok(())
 }
 
@@ -74,7 +89,7 @@ fn three_frames_are_accepted_in_threads(rt: HostRuntime) -> Result<(), Fail> {
 #[test]
 fn three_frames_are_sent_while_segments_run(rt: HostRuntime) -> Result<(), Fail> {
     for _run in 0..20 {
-        let report = report_on(rt, rt.alloc(), LONG, no_gate(rt.alloc())?)?;
+        let report = report_on(rt, rt.alloc(), LONG, 1, 64, no_gate(rt.alloc())?)?;
         assert!(rt; report.routes.iter().all(is_balanced));
         if report
             .routes
@@ -89,46 +104,67 @@ fn three_frames_are_sent_while_segments_run(rt: HostRuntime) -> Result<(), Fail>
     Ok(())
 }
 
-/// What the gates of two routes tell each other: which of them has come to its first post, which heard that it was posted,
-/// and whether one of them waited in vain.
+/// What the gates of two routes tell each other: whether the first has come to its first request, and whether the second
+/// heard that its own stands in mailbox 1. And what is told of them: whether one of them waited in vain, and what the first
+/// heard of its first try and of a later one.
 #[derive(Drop)]
 struct Meeting {
-    came: AtomicU64,
-    posted: AtomicU64,
-    second_posted: AtomicU64,
-    in_vain: AtomicU64,
+    came: AtomicBool,
+    second_is_in: AtomicBool,
+    in_vain: AtomicBool,
+    first_was_late: AtomicBool,
+    first_is_in: AtomicBool,
 }
 
-/// The first route's gate stays at its first post until the second route was posted; the second one's stays at its own
-/// until the first has come to its post.
+/// The first route's gate stays just before its first request until the second route's request stands in mailbox 1; the
+/// second one's stays just before its first look until the first has come to its request.
 #[derive(Drop)]
 struct Host {
     meeting: Arc<Meeting, Global>,
     is_first: bool,
     has_stayed: bool,
+    has_tried: bool,
 }
 
 impl Host {
     /// Whether what this gate waits for has come.
     fn may_go(&self) -> bool {
         if self.is_first {
-            return self.meeting.second_posted.load(Ordering::SeqCst) != 0;
+            return self.meeting.second_is_in.load(Ordering::SeqCst);
         }
-        self.meeting.came.load(Ordering::SeqCst) != 0
+        self.meeting.came.load(Ordering::SeqCst)
     }
 
-    /// Waits for it, at most a million looks.
-    fn stay(&self) {
-        if self.is_first {
-            self.meeting.came.store(1, Ordering::SeqCst);
+    /// Waits for it once, at most a million looks.
+    fn stay(&mut self) {
+        if self.has_stayed {
+            return;
         }
+        self.has_stayed = true;
         for _look in 0..1_000_000 {
             if self.may_go() {
                 return;
             }
             thread::yield_now();
         }
-        self.meeting.in_vain.store(1, Ordering::SeqCst);
+        self.meeting.in_vain.store(true, Ordering::SeqCst);
+    }
+
+    /// What became of a try.
+    fn hear(&mut self, heard: Heard) {
+        if !self.is_first {
+            if heard == Heard::In(1) {
+                self.meeting.second_is_in.store(true, Ordering::SeqCst);
+            }
+            return;
+        }
+        if !self.has_tried && heard == Heard::Not {
+            self.meeting.first_was_late.store(true, Ordering::SeqCst);
+        }
+        if self.has_tried && heard == Heard::In(0) {
+            self.meeting.first_is_in.store(true, Ordering::SeqCst);
+        }
+        self.has_tried = true;
     }
 }
 
@@ -138,18 +174,18 @@ impl Gate for Host {
 
     fn pass(&mut self, point: Point) {
         match point {
-            Point::Post => {
-                if !self.has_stayed {
-                    self.has_stayed = true;
+            Point::Look => {
+                if !self.is_first {
                     self.stay();
                 }
             }
-            Point::Answered(Heard::Posted) => {
-                self.meeting.posted.fetch_add(1, Ordering::SeqCst);
-                if !self.is_first {
-                    self.meeting.second_posted.store(1, Ordering::SeqCst);
+            Point::Request => {
+                if self.is_first {
+                    self.meeting.came.store(true, Ordering::SeqCst);
+                    self.stay();
                 }
             }
+            Point::Answered(heard) => self.hear(heard),
             _ => {}
         }
     }
@@ -163,6 +199,7 @@ fn hosts(alloc: Global, meeting: &Arc<Meeting, Global>) -> Result<Vec<Host>, All
             meeting: Arc::try_clone(meeting)?,
             is_first,
             has_stayed: false,
+            has_tried: false,
         })?;
     }
     Ok(gates)
@@ -172,22 +209,45 @@ fn make_meeting(alloc: Global) -> Result<Arc<Meeting, Global>, AllocError> {
     Ok(Arc::new(
         alloc,
         Meeting {
-            came: AtomicU64::new(0),
-            posted: AtomicU64::new(0),
-            second_posted: AtomicU64::new(0),
-            in_vain: AtomicU64::new(0),
+            came: AtomicBool::new(false),
+            second_is_in: AtomicBool::new(false),
+            in_vain: AtomicBool::new(false),
+            first_was_late: AtomicBool::new(false),
+            first_is_in: AtomicBool::new(false),
         },
     )?)
 }
 
-/// A route that is held at its post doesn't keep another from its own: each has a thread.
+/// Two routes share the mailboxes without a lock, each served by a worker: the second's request is taken while the first is
+/// held in the middle of its own. The first is late then, and a later try of it is taken in the mailbox that it gave back.
 #[test]
 fn a_route_that_is_held_keeps_no_other(rt: HostRuntime) -> Result<(), Fail> {
-    let meeting = make_meeting(rt.alloc())?;
-    let report = report_on(rt, rt.alloc(), TWO_ROUTES, hosts(rt.alloc(), &meeting)?)?;
-    assert_eq!(rt; meeting.in_vain.load(Ordering::SeqCst), 0);
-    assert_eq!(rt; meeting.posted.load(Ordering::SeqCst), 2);
-    assert!(rt; report.routes.iter().map(|route| route.accepted).eq([1, 1]));
-    assert!(rt; report.routes.iter().all(is_balanced));
+    for workers in [2u32, 3] {
+        let meeting = make_meeting(rt.alloc())?;
+        let gates = hosts(rt.alloc(), &meeting)?;
+        let report = report_on(rt, rt.alloc(), TWO_ROUTES, workers, 64, gates)?;
+        assert!(rt; !meeting.in_vain.load(Ordering::SeqCst));
+        assert!(rt; meeting.second_is_in.load(Ordering::SeqCst));
+        assert!(rt; meeting.first_was_late.load(Ordering::SeqCst));
+        assert!(rt; meeting.first_is_in.load(Ordering::SeqCst));
+        assert!(rt; report.routes.iter().map(|route| route.accepted).eq([1, 1]));
+        assert!(rt; report.routes.iter().all(is_balanced));
+    }
+    Ok(())
+}
+
+/// A script without routes, by more workers than it has segments.
+#[test]
+fn a_script_without_routes_runs_in_threads(rt: HostRuntime) -> Result<(), Fail> {
+    let gates: Vec<NoGate> = Vec::new(rt.alloc());
+    let report = report_on(rt, rt.alloc(), NO_ROUTE, 3, 1, gates)?;
+    assert!(rt;
+        report
+            .segments
+            .iter()
+            .map(|record| record.levels.len())
+            .eq([64, 64])
+    );
+    assert!(rt; report.routes.is_empty());
     Ok(())
 }

@@ -1,13 +1,18 @@
-ghost use Rattle.std.specs.Prelude.{◌≡◌, ◌<◌, length};
+ghost use Rattle.std.specs.Prelude.{◌≡◌, ◌<◌, IfOk, length};
 ghost use Rattle.bx_core.specs.PlainMail.{core_of};
+ghost use Rattle.bx_core.specs.RouteTx.{no_route_past};
 ghost use Rattle.bx_core.specs.Stands.{RouteStands};
+ghost use Rattle.bx_shared.specs.Sides.{RouteAfter};
 ghost use Rattle.gw_route.specs.RouteHand.{hand_value, IsLinked};
 
+use crate::shared::{complete, started};
 use arrayvec::ArrayVec;
 use bx_core::{Entry, NoGate, PlainMail, PlainRoute, TxBus};
+use bx_mail::{BusSeat, Mail, RouteSeat};
 use bx_rx::{Memory, RxFifo, RxFrame};
 use can_frame::{Frame, Id, Rewrite};
-use gw_route::{PlannedAbort, RouteHand, TurnAnswer};
+use gw_route::{RouteAbort, RouteHand, TurnAnswer};
+use std::alloc::Global;
 use std::sync::Wait;
 use std::test::Fail;
 
@@ -53,8 +58,8 @@ fn a_refused_frame_waits_until_an_abort(rt: HostRuntime) -> Result<(), Fail> {
     let (mut rxin, rxout) = RxFifo::pair(rt.alloc())?;
     let mut mail = PlainMail::new(rt.alloc(), 1);
     let mut aborts = Vec::new(rt.alloc());
-    aborts.push(PlannedAbort { number: 2, turn: 5 })?;
-    aborts.push(PlannedAbort { number: 2, turn: 1 })?;
+    aborts.push(RouteAbort { number: 2, turn: 5 })?;
+    aborts.push(RouteAbort { number: 2, turn: 1 })?;
     let mut hand = RouteHand::new(rt.alloc(), rxout, aborts, ArrayVec::new());
     let frame = data(5)?;
     rxin.offer(&rt, received(frame));
@@ -127,5 +132,71 @@ fn a_turn_that_is_refused_memory_changes_nothing(rt: HostRuntime) -> Result<(), 
     assert_eq!(rt; second, Ok(TurnAnswer::Requested));
     assert!(rt; hand.log.released.as_slice() == [frame].as_slice());
     assert_eq!(rt; hand.tickets, 1);
+    Ok(())
+}
+
+/// The seats at new mailboxes that threads may share, for one route.
+fn seats(alloc: Global) -> Result<(BusSeat, RouteSeat), Fail>
+    ensures { IfOk result (λ made. RouteAfter made.1 no_route_past) }
+{
+    let (bus, mut seats) = Mail::new(alloc, 1)?;
+    match seats.pop() {
+        Some(seat) => Ok((bus, seat)),
+        None => Err(Fail::new("no seat")),
+    }
+}
+
+/// A turn of a hand into the mailboxes of this seat.
+fn turns_at<R: Wait>(
+    rt: &R,
+    hand: &mut RouteHand,
+    seat: &mut RouteSeat,
+) -> Result<TurnAnswer, Memory>
+    requires { IsLinked (RouteAfter seat.old) (hand_value hand.old) }
+    ensures { IsLinked (RouteAfter seat.new) (hand_value hand.new) }
+{
+    hand.turn(rt, seat, &mut NoGate)
+}
+
+/// The fourth frame waits in the hand until the first was sent, and then has its mailbox.
+#[test]
+fn a_refused_frame_waits_until_a_shared_mailbox_is_empty(rt: HostRuntime) -> Result<(), Fail> {
+    let (mut rxin, rxout) = RxFifo::pair(rt.alloc())?;
+    let (mut bus, mut seat) = seats(rt.alloc())?;
+    let mut hand = RouteHand::new(rt.alloc(), rxout, Vec::new(rt.alloc()), ArrayVec::new());
+    let frame = data(5)?;
+    for _ in 0..3 {
+        rxin.offer(&rt, received(frame));
+    }
+    assert_eq!(rt;
+        turns_at(&rt, &mut hand, &mut seat),
+        Ok(TurnAnswer::Requested)
+    );
+    assert_eq!(rt;
+        turns_at(&rt, &mut hand, &mut seat),
+        Ok(TurnAnswer::Requested)
+    );
+    assert_eq!(rt;
+        turns_at(&rt, &mut hand, &mut seat),
+        Ok(TurnAnswer::Requested)
+    );
+    assert_eq!(rt; turns_at(&rt, &mut hand, &mut seat), Ok(TurnAnswer::Idle));
+    rxin.offer(&rt, received(frame));
+    assert_eq!(rt;
+        turns_at(&rt, &mut hand, &mut seat),
+        Ok(TurnAnswer::Waiting)
+    );
+    assert!(rt; hand.hand == Some(Entry { number: 4, frame }));
+    assert_eq!(rt; started(&mut bus), Some((0, 1, frame)));
+    assert_eq!(rt;
+        turns_at(&rt, &mut hand, &mut seat),
+        Ok(TurnAnswer::Waiting)
+    );
+    complete(&mut bus)?;
+    assert_eq!(rt;
+        turns_at(&rt, &mut hand, &mut seat),
+        Ok(TurnAnswer::Requested)
+    );
+    assert_eq!(rt; started(&mut bus), Some((0, 2, frame)));
     Ok(())
 }

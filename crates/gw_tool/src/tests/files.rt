@@ -47,7 +47,7 @@ impl Files for Broken {
     }
 }
 
-fn run_with<H: Threads + Wait + AllocGlobal + Copy + Send + 'static, F: Files>(
+fn run_with<H: Threads + Wait + AllocGlobal + Copy + Send + Sync + 'static, F: Files>(
     rt: &H,
     words: &[&str],
     files: &F,

@@ -55,7 +55,7 @@ pub const THREE_FRAMES_REPORT: &str = "a 11 t started 000 data -\n\
      b end 300\n\
      route r accepted 3 overrun 0 released 3 completed 3 aborted 0 held 0\n";
 
-pub fn is_reported<H: Threads + Wait + AllocGlobal + Copy + Send + 'static>(
+pub fn is_reported<H: Threads + Wait + AllocGlobal + Copy + Send + Sync + 'static>(
     rt: &H,
     words: &[&str],
     script: &str,

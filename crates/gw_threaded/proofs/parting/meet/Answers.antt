@@ -6,24 +6,24 @@ use Rattle.gw_threaded.specs.Parts.{IsLaneFrom}
 use Rattle.gw_threaded.proofs.Walks.{come_more, come_none}
 use Rattle.gw_threaded.proofs.parting.meet.Goals as goal
 
-pub loop-worker-init : goal.loop-worker-init
-loop-worker-init g c = (
+pub loop-courier-init : goal.loop-courier-init
+loop-courier-init g c = (
   refl,
   refl,
-  subst (Pairs _ []) (sym c.in_ok-lanes.ensures.items) (record { at = λ k worker lane e f. absurd (cc e); size = refl }),
+  subst (Pairs _ []) (sym c.in_ok-lanes.ensures.items) (record { at = λ k courier lane e f. absurd (cc e); size = refl }),
   come_none c.args.seats.now,
 )
 
-pub loop-worker-preserved : goal.loop-worker-preserved
-loop-worker-preserved g c =
-    let l = c.loop-worker in
-    let more = length-append l.yielded (c.in-Some.worker ∷ []) in
+pub loop-courier-preserved : goal.loop-courier-preserved
+loop-courier-preserved g c =
+    let l = c.loop-courier in
+    let more = length-append l.yielded (c.in-Some.courier ∷ []) in
     let here : l.place ≡ length l.yielded = l.invariant.1 in (
-      append_assoc l.yielded (c.in-Some.worker ∷ []) (into_iter_items c.next.new.self) ∙ ap (λ rest. l.yielded ++ rest) (sym c.in-Some.ensures.steps.0) ∙ l.invariant.0,
+      append_assoc l.yielded (c.in-Some.courier ∷ []) (into_iter_items c.next.new.self) ∙ ap (λ rest. l.yielded ++ rest) (sym c.in-Some.ensures.steps.0) ∙ l.invariant.0,
       omega (arith, here, more),
-      subst (Pairs (IsLaneFrom c.args.leads.now) (l.yielded ++ c.in-Some.worker ∷ [])) (sym c.in_ok-push_one.ensures)
-          (pairs_more (IsLaneFrom c.args.leads.now) l.yielded l.lanes.items c.in-Some.worker _
+      subst (Pairs (IsLaneFrom c.args.leads.now) (l.yielded ++ c.in-Some.courier ∷ [])) (sym c.in_ok-push_one.ensures)
+          (pairs_more (IsLaneFrom c.args.leads.now) l.yielded l.lanes.items c.in-Some.courier _
           (record { hand_is = refl; lead_is = ap (slice_get c.args.leads.now) (sym here) ∙ c.lead_at-lead.ensures }) l.invariant.2),
-      come_more l.yielded c.in-Some.worker c.args.seats.now l.seats c.put.new.seats (ap (slice_get c.put.new.seats) (sym here) ∙ c.put.ensures.there)
+      come_more l.yielded c.in-Some.courier c.args.seats.now l.seats c.put.new.seats (ap (slice_get c.put.new.seats) (sym here) ∙ c.put.ensures.there)
           (λ j ne. c.put.ensures.others j (λ e. ne (e ∙ here))) c.put.ensures.size l.invariant.3,
     )

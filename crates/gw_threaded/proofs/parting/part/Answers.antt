@@ -6,7 +6,7 @@ use Rattle.std.specs.Vec.Iter.{into_iter_items}
 use Rattle.gw_opening.specs.declared.lane.Lane.{Lane}
 use Rattle.gw_site.proofs.Pairs.{pairs_more}
 use Rattle.gw_site.specs.Pairs.{Pairs}
-use Rattle.gw_threaded.specs.Parts.{lead_of, HaveParted, IsWorkerOf, LeavesBehind}
+use Rattle.gw_threaded.specs.Parts.{lead_of, HaveParted, IsCourierOf, LeavesBehind}
 use Rattle.gw_threaded.proofs.Walks.{same_above, still_there, walked_all, walked_room}
 use Rattle.gw_threaded.proofs.parting.part.Goals as goal
 
@@ -15,7 +15,7 @@ loop-lane-init g c = (
   refl,
   refl,
   subst (Pairs _ []) (sym c.in_ok-leads.ensures.items) (record { at = λ k lane lead e f. absurd (cc e); size = refl }),
-  subst (Pairs _ []) (sym c.in_ok-workers.ensures.items) (record { at = λ k lane worker e f. absurd (cc e); size = refl }),
+  subst (Pairs _ []) (sym c.in_ok-couriers.ensures.items) (record { at = λ k lane courier e f. absurd (cc e); size = refl }),
   λ place above. refl,
   λ place above. refl,
   refl,
@@ -57,8 +57,8 @@ loop-lane-preserved g c =
       omega (arith, here, more),
       subst (Pairs (λ k lane lead. lead ≡ lead_of lane) (l.yielded ++ c.in-Some.lane ∷ [])) (sym c.in_ok-push_one.ensures)
           (pairs_more (λ k lane lead. lead ≡ lead_of lane) l.yielded l.leads.items c.in-Some.lane _ refl l.invariant.2),
-      subst (Pairs (IsWorkerOf c.args.seats.now c.args.gates.now) (l.yielded ++ c.in-Some.lane ∷ [])) (sym c.in_ok-push_one-2.ensures)
-          (pairs_more (IsWorkerOf c.args.seats.now c.args.gates.now) l.yielded l.workers.items c.in-Some.lane _
+      subst (Pairs (IsCourierOf c.args.seats.now c.args.gates.now) (l.yielded ++ c.in-Some.lane ∷ [])) (sym c.in_ok-push_one-2.ensures)
+          (pairs_more (IsCourierOf c.args.seats.now c.args.gates.now) l.yielded l.couriers.items c.in-Some.lane _
           (record {
             hand_is = refl;
             side_there = ap (slice_get c.args.seats.now) (sym here) ∙ sym (l.invariant.4 l.place (omega arith)) ∙ c.take-side.ensures.was;
@@ -74,7 +74,7 @@ pub returns-clause-parted : goal.returns-clause-parted
 returns-clause-parted g c =
     let l = c.loop-lane in
     let whole = walked_all l.yielded (into_iter_items l.lane-iterator) c.args.lanes.items (l.invariant.0 ∙ c.into_iter-lane-iterator.ensures.into_iter_gives.0) (YieldsList-end (YieldsList-from_vec {s = c.into_iter-lane-iterator.result} c.args.lanes.items (search rules) (search rules)) l.yielded l.lane-iterator l.yielded_by c.next.result c.next.new.self c.in-None.is c.next.ensures.steps).1 in
-    subst (λ lanes. HaveParted c.args.seats.now c.args.gates.now lanes l.leads.items l.workers.items) whole (record { leads_are = l.invariant.2; workers_are = l.invariant.3 })
+    subst (λ lanes. HaveParted c.args.seats.now c.args.gates.now lanes l.leads.items l.couriers.items) whole (record { leads_are = l.invariant.2; couriers_are = l.invariant.3 })
 
 pub returns-clause-leaves : goal.returns-clause-leaves
 returns-clause-leaves g c =

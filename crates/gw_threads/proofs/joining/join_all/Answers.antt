@@ -2,7 +2,7 @@ use Rattle.std.proofs.Common.{◌++◌, ◌∷◌, [], arith, Ok, subst, sym, le
 use Rattle.std.specs.Vec.Iter.{into_iter_items}
 use Rattle.gw_site.specs.Pairs.{Pairs}
 use Rattle.gw_site.proofs.Pairs.{pairs_more}
-use Rattle.gw_threads.proofs.Joins.{walked}
+use Rattle.gw_pool.proofs.Joins.{walked}
 use Rattle.gw_threads.proofs.joining.join_all.Goals as goal
 
 pub loop-thread-preserved-in-Ok : goal.loop-thread-preserved-in-Ok

@@ -4,7 +4,7 @@ use Rattle.gw_site.specs.Pairs.{Pairs}
 use Rattle.gw_site.specs.Sites.{IsNewSite}
 use Rattle.gw_site.proofs.Pairs.{pairs_more}
 use Rattle.gw_threads.specs.Clocks.{Deals}
-use Rattle.gw_threads.proofs.Joins.{walked, each_walked}
+use Rattle.gw_pool.proofs.Joins.{walked, each_walked}
 use Rattle.gw_threads.proofs.Seats.{dealt_rest}
 use Rattle.gw_threads.proofs.site_threads.start_sites.Goals as goal
 

@@ -12,7 +12,7 @@ goes_by_run : (o : Option Task) (name : Option (List ℕ)) → IfSome o IsRunTas
 goes_by_run None name h is = tt
 goes_by_run (Some Core) name h is = absurd h
 goes_by_run (Some (Run turn)) name h is = is
-goes_by_run (Some (RunThreads threads turn)) name h is = is
+goes_by_run (Some (RunThreads threads slack)) name h is = is
 
 pub returns-in-Some-core-clause-core : goal.returns-in-Some-core-clause-core
 returns-in-Some-core-clause-core c _ = refl

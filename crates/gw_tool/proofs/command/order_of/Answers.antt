@@ -18,7 +18,7 @@ returns-clause-run c rows n met turn is none =
     ap₂ (λ t f. Some (t, f)) task_is (c.file_of-file.ensures _ rows met)
 
 pub returns-clause-threads : goal.returns-clause-threads
-returns-clause-threads c rows n m met turn is some there =
-    let asked = c.asked_by.ensures.threads rows n m met turn is some there in
+returns-clause-threads c rows n m met some there slack is =
+    let asked = c.asked_by.ensures.threads rows n m met some there slack is in
     let task_is : c.in_ok-task.task ≡ RunThreads n m = ap (λ o. unwrap_or o Core) (sym c.in_ok-task.was ∙ asked) in
     ap₂ (λ t f. Some (t, f)) task_is (c.file_of-file.ensures _ rows met)

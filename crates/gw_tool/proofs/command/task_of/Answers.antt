@@ -2,8 +2,8 @@
 use Rattle.std.proofs.Common.{ap, sym, codes, option_map, arith, ◌∙◌, Some, refl}
 use Rattle.std.proofs.lemmas.Fmt.{decimal_digit}
 use Rattle.clap.specs.Words.{subcommand_of, takes}
-use Rattle.gw_tool.specs.Words.{bxgate_app, IsTurn}
-use Rattle.gw_tool.proofs.CommandLine.{is_simple_app, name_from_rows, core_is_met, core_is_taken, nothing_is_met, nothing_is_taken, run_is_met, run_is_taken, turns_are_met, threads_are_met, alone_at_first}
+use Rattle.gw_tool.specs.Words.{bxgate_app, IsSlack, IsTurn}
+use Rattle.gw_tool.proofs.CommandLine.{is_simple_app, name_from_rows, core_is_met, core_is_taken, nothing_is_met, nothing_is_taken, run_is_met, run_is_taken, turns_are_met, threads_are_met, alone_at_first, sixty_four}
 use Rattle.gw_tool.proofs.FileWords.{core_hyphen_is_met, core_file_is_met, run_hyphen_is_met, run_file_is_met, alone_with_file, is_named}
 use Rattle.gw_tool.specs.declared.task.Task.TheVariants.{Core, Run}
 use Rattle.gw_tool.proofs.command.task_of.Goals as goal
@@ -37,9 +37,9 @@ returns-in-Err-clause-turns g c name n turn words_are = c.in-Err.ensures.fails (
 pub returns-in-Ok-clause-threads : goal.returns-in-Ok-clause-threads
 returns-in-Ok-clause-threads g c name n some words_are =
     let met = (c.in-Ok.ensures.matches is_simple_app).1 ∙ ap (subcommand_of bxgate_app) words_are in
-    let turn : IsTurn 1 = (omega arith, omega arith) in
+    let slack : IsSlack 64 = (omega arith, omega arith) in
     let given = threads_are_met name n some in
-    c.order_of.ensures.threads _ n 1 (met ∙ given.met) turn (given.turn ∙ sym (ap Some (decimal_digit 1 (omega arith)))) some given.one
+    c.order_of.ensures.threads _ n 64 (met ∙ given.met) some given.one slack (given.slack ∙ sym (ap Some sixty_four))
 
 pub returns-in-Err-clause-threads : goal.returns-in-Err-clause-threads
 returns-in-Err-clause-threads g c name n some words_are = c.in-Err.ensures.fails (ap (takes bxgate_app) words_are ∙ (threads_are_met name n some).taken)

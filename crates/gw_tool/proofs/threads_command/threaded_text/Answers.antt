@@ -8,10 +8,10 @@ pub returns-in-Err-clause-err : goal.returns-in-Err-clause-err
 returns-in-Err-clause-err g c = c.in-Err.ensures.err
 
 pub returns-in-Err-threaded_report-clause-err : goal.returns-in-Err-threaded_report-clause-err
-returns-in-Err-threaded_report-clause-err g c = wants_either c.args.threads c.args.turn c.in-Err-threaded_report.fault
+returns-in-Err-threaded_report-clause-err g c = wants_either c.args.threads c.args.slack c.in-Err-threaded_report.fault
 
 pub returns-clause-err : goal.returns-clause-err
-returns-clause-err g c = wants_memory (RunThreads c.args.threads c.args.turn)
+returns-clause-err g c = wants_memory (RunThreads c.args.threads c.args.slack)
 
 pub returns-in-Ok-print-clause-ok : goal.returns-in-Ok-print-clause-ok
 returns-in-Ok-print-clause-ok g c = record {

@@ -1,0 +1,8 @@
+use Rattle.gw_pool.specs.Pool.{IsWorkerSeat}
+use Rattle.gw_threads.proofs.pool_run.make_turns.Given as goal
+
+abbrev pub invariant-loop-try : goal.invariant-loop-try
+invariant-loop-try g l =
+    (goal.iterator-loop-try g).can_next l._try-iterator
+    × (goal.iterator-loop-try g).is_finite l._try-iterator
+    × IsWorkerSeat l.initial.pool.queue l.pool

@@ -1,0 +1,70 @@
+//! The turns of a worker in its thread.
+
+ghost use Rattle.std.specs.Prelude.{◌≡◌, IfOk};
+ghost use Rattle.gw_pool.specs.Pool.{IsWorkerSeat};
+
+use crate::clock_seat::ClockSeat;
+use crate::thread_fault::ThreadFault;
+use bx_core::{Gate, RouteTx};
+use gw_pool::{Baton, Dealing, PoolSeat, serve_one};
+use gw_route::TurnAnswer;
+use std::sync::Wait;
+use std::thread;
+
+/// Whether a turn came to nothing.
+fn is_rest(answer: TurnAnswer) -> bool {
+    matches!(answer, TurnAnswer::Idle | TurnAnswer::Waiting)
+}
+
+/// Turns of the routes whose batons come, until 32 tries in a row came to nothing or found no baton, each of which was
+/// begun once all segments had made their bits.
+fn make_turns<R: Wait, S: RouteTx<R> + Drop, G: Gate + Drop, J: Dealing<S, G>>(
+    rt: &R,
+    pool: &mut PoolSeat<Baton<R, S, G, J>>,
+    clock: &mut ClockSeat,
+) -> Result<(), ThreadFault>
+    requires { IsWorkerSeat pool.old.queue pool.old }
+    ensures { IsWorkerSeat pool.old.queue pool.new }
+{
+    let mut rests = 0u32;
+    for _try in rt.forever() {
+        if clock.is_stopped() {
+            return Err(ThreadFault::Memory);
+        }
+        let over = clock.all_done();
+        let Ok(answer) = serve_one(rt, pool) else {
+            return Err(ThreadFault::Memory);
+        };
+        if !is_rest(answer) {
+            rests = 0;
+            continue;
+        }
+        if over {
+            rests = rests.saturating_add(1);
+        }
+        if rests >= 32 {
+            return Ok(());
+        }
+        // what it waits for comes from other threads
+        thread::yield_now();
+    }
+    unreachable!()
+}
+
+/// The whole run of a worker. Where it fails, all threads are to stop.
+pub(crate) fn run_worker<R: Wait, S: RouteTx<R> + Drop, G: Gate + Drop, J: Dealing<S, G>>(
+    rt: &R,
+    mut pool: PoolSeat<Baton<R, S, G, J>>,
+    mut clock: ClockSeat,
+) -> Result<PoolSeat<Baton<R, S, G, J>>, ThreadFault>
+    requires { IsWorkerSeat pool.queue pool }
+    ensures { IfOk result (IsWorkerSeat pool.queue) }
+{
+    match make_turns(rt, &mut pool, &mut clock) {
+        Ok(()) => Ok(pool),
+        Err(fault) => {
+            clock.stop();
+            Err(fault)
+        }
+    }
+}
