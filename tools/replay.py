@@ -125,14 +125,15 @@ def replayed_lines(script, senders):
 
 
 def in_order(sender, asked):
-    """Requests go out in the order of their numbers, a failed one again and again until it is sent or given up."""
+    """A failed request goes out again and again until it is sent or given up, and none goes out that is over. Where the
+    priority is the order of requests, they go out in the order of their numbers."""
     faults, frames, over = [], {}, set(sender.done) | set(sender.given_up) | asked
     previous = None
     for bit, request in sender.started:
         name, number = label = (request.route.name, request.number)
         if previous not in (None, label) and previous not in over:
             faults.append(f"{sender.name} {bit}: {previous} was neither sent nor aborted, and {label} is started")
-        if any((name, lower) not in over for lower in range(1, number)):
+        if sender.goes_by_requests and any((name, lower) not in over for lower in range(1, number)):
             faults.append(f"{sender.name} {bit}: {label} overtakes another")
         if frames.setdefault(label, request.frame) != request.frame:
             faults.append(f"{sender.name} {bit}: {label} has another frame than before")
@@ -177,12 +178,13 @@ def route_faults(script, place, senders, line):
         "released": not max(frames, default=0) <= released <= accepted - overrun,
         "overrun": overrun > max(0, accepted - 3),
         "aborted": not len(given_up) <= aborted <= len(asked) or not given_up <= asked,
-        "held": held > 16,
+        "held": held > 7,
         "frames": not could_be(frames, taken, overrun),
-        "order": done != sorted(done),
     }
-    skipped = sorted(set(range(1, max(done, default=0))) - set(done))
-    wrong["left out"] = any(number not in asked for number in skipped)
+    if target.goes_by_requests:
+        wrong["order"] = done != sorted(done)
+        skipped = sorted(set(range(1, max(done, default=0))) - set(done))
+        wrong["left out"] = any(number not in asked for number in skipped)
     return [f"route {name}: {what}" for what, is_wrong in wrong.items() if is_wrong]
 
 

@@ -1,5 +1,5 @@
 //! A seat at the clock table of a run.
-ghost use Rattle.std.specs.Prelude.{◌≡◌, ℕ, ◌+◌, ◌<◌, ◌≤◌, ◌^◌, IfOk, OnOk, IsTrue, slice_index};
+ghost use Rattle.std.specs.Prelude.{◌≡◌, ◌⊎◌, ◌↔◌, ℕ, ◌+◌, ◌-◌, ◌/◌, ◌<◌, ◌≤◌, ◌^◌, IfOk, OnOk, IsTrue, slice_index};
 ghost use Rattle.gw_threads.specs.Clocks.{first_pacer, one_of, rest_of, watcher_of, ticked, MayTick, MayGo, SameClocks};
 
 use crate::clock_steps::{ClockTable, Seat, deal, lend, look, stop, tick, watch};
@@ -145,6 +145,14 @@ impl ClockSeat {
             }
         }
         limit
+    }
+
+    /// Whether a clock that stands at `made` and may go to `limit` has half of the slack before it, or all bits that are
+    /// left.
+    pub(crate) fn is_far_enough(&self, made: u64, limit: u64) -> bool
+        ensures { IsTrue result ↔ ((self.now.pace.bits ≤ limit) ⊎ (self.now.pace.slack / 2 < limit - made)) }
+    {
+        limit >= self.pace.bits || limit.saturating_sub(made) > self.pace.slack / 2
     }
 
     /// Whether all clocks were seen at the run's bits.

@@ -1,7 +1,8 @@
 //! The turns of a worker in its thread.
 
-ghost use Rattle.std.specs.Prelude.{◌≡◌, IfOk};
+ghost use Rattle.std.specs.Prelude.{◌≡◌, ◌<◌, ◌≤◌, ◌↔◌, IsTrue, IfOk};
 ghost use Rattle.gw_pool.specs.Pool.{IsWorkerSeat};
+ghost use Rattle.gw_threads.specs.Rests.{is_rest, rests_after};
 
 use crate::clock_seat::ClockSeat;
 use crate::thread_fault::ThreadFault;
@@ -12,8 +13,29 @@ use std::sync::Wait;
 use std::thread;
 
 /// Whether a turn came to nothing.
-fn is_rest(answer: TurnAnswer) -> bool {
+fn is_rest(answer: TurnAnswer) -> bool
+    ensures { result ≡ is_rest answer }
+{
     matches!(answer, TurnAnswer::Idle | TurnAnswer::Waiting)
+}
+
+/// How many tries in a row came to nothing, each begun once all segments had made their bits, where there were so many and
+/// one more comes.
+fn rests_behind(rests: u32, answer: TurnAnswer, over: bool) -> u32
+    requires { rests < 32 }
+    ensures { result ≡ rests_after rests answer over }
+{
+    if over && is_rest(answer) {
+        return rests + 1;
+    }
+    0
+}
+
+/// Whether a worker ends after so many.
+fn ends_after(rests: u32) -> bool
+    ensures { IsTrue result ↔ (32 ≤ rests) }
+{
+    rests >= 32
 }
 
 /// Turns of the routes whose batons come, until 32 tries in a row came to nothing or found no baton, each of which was
@@ -35,18 +57,14 @@ fn make_turns<R: Wait, S: RouteTx<R> + Drop, G: Gate + Drop, J: Dealing<S, G>>(
         let Ok(answer) = serve_one(rt, pool) else {
             return Err(ThreadFault::Memory);
         };
-        if !is_rest(answer) {
-            rests = 0;
-            continue;
-        }
-        if over {
-            rests = rests.saturating_add(1);
-        }
-        if rests >= 32 {
+        rests = rests_behind(rests, answer, over);
+        if ends_after(rests) {
             return Ok(());
         }
-        // what it waits for comes from other threads
-        thread::yield_now();
+        if is_rest(answer) {
+            // what it waits for comes from other threads
+            thread::yield_now();
+        }
     }
     unreachable!()
 }

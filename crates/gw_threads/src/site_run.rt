@@ -8,11 +8,16 @@ use crate::clock_seat::ClockSeat;
 use crate::thread_fault::ThreadFault;
 use can_segment::{RxSink, Segment};
 use gw_site::{Site, make_bit};
+use std::hint::spin_loop;
 use std::sync::Wait;
 use std::thread;
 
+/// How many looks at the other clocks a segment that waits makes before it gives its processor away.
+const LOOKS: u32 = 64;
+
 /// How far the clock may go, which is beyond `made`: as far as it may anyway, or what the others let it once they have
-/// come so far. `Memory` where a stop is called meanwhile.
+/// come so far. Where it waits for them, it does so until half of the slack is free, so that it need not wait again at
+/// the next bit. `Memory` where a stop is called meanwhile.
 fn wait_for_others<R: Wait>(
     rt: &R,
     clock: &mut ClockSeat,
@@ -27,15 +32,22 @@ fn wait_for_others<R: Wait>(
     if made < limit {
         return Ok(limit);
     }
+    let mut looks = 0u32;
     for _look in rt.forever() {
         let limit = clock.limit();
-        if made < limit {
+        if made < limit && clock.is_far_enough(made, limit) {
             return Ok(limit);
         }
         if clock.is_stopped() {
             return Err(ThreadFault::Memory);
         }
-        thread::yield_now();
+        // those that it waits for run on other processors, if there are enough of them
+        looks = looks.wrapping_add(1);
+        if looks % LOOKS == 0 {
+            thread::yield_now();
+        } else {
+            spin_loop();
+        }
     }
     unreachable!()
 }

@@ -1,3 +1,4 @@
+use Rattle.std.specs.Prelude.{◌<◌}
 use Rattle.gw_pool.specs.Pool.{IsWorkerSeat}
 use Rattle.gw_threads.proofs.pool_run.make_turns.Given as goal
 
@@ -6,3 +7,4 @@ invariant-loop-try g l =
     (goal.iterator-loop-try g).can_next l._try-iterator
     × (goal.iterator-loop-try g).is_finite l._try-iterator
     × IsWorkerSeat l.initial.pool.queue l.pool
+    × (l.rests < 32)

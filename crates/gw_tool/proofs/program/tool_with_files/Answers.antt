@@ -21,7 +21,7 @@ returns-in-Ok-Some-clause-turns g c name n turn words_are =
 
 pub returns-in-Ok-Some-clause-threads : goal.returns-in-Ok-Some-clause-threads
 returns-in-Ok-Some-clause-threads g c name n some words_are =
-    as_asked (g.F.Files.contents c.args.files.now) (g.R.Read.remaining c.args.input.now) _ _ c.in-Ok-Some.field-0 c.in-Ok-Some.order (RunThreads n 1, None) _
+    as_asked (g.F.Files.contents c.args.files.now) (g.R.Read.remaining c.args.input.now) _ _ c.in-Ok-Some.field-0 c.in-Ok-Some.order (RunThreads n 64, None) _
     c.in-Ok-Some.field-0-is (c.in-Ok-Some.ensures.threads name n some words_are) c.status_after.ensures
 
 pub returns-in-Ok-Some-clause-core_hyphen : goal.returns-in-Ok-Some-clause-core_hyphen
