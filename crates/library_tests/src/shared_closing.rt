@@ -135,6 +135,34 @@ fn closing_counts_what_was_ended(rt: HostRuntime) -> Result<(), Fail> {
     Ok(())
 }
 
+/// Accepts the ample answer or the refusal of memory, and nothing else: for runs in which an allocation fails.
+#[test]
+fn closes_or_wants_memory(rt: HostRuntime) {
+    let Ok(mut seats) = Seats::new(rt.alloc(), 2) else {
+        return;
+    };
+    let requested = seats.taken(0, 1, 0x101).is_ok() && seats.taken(1, 1, 0x201).is_ok();
+    assert!(rt; requested);
+    let Seats { bus, routes } = seats;
+    let Ok(closed) = Mail::close(rt.alloc(), bus, routes) else {
+        return;
+    };
+    let counts = RouteCounts {
+        requested: 1,
+        aborted: 0,
+        done: 0,
+        reaped: 0,
+    };
+    assert_eq!(rt; closed.routes.as_slice(), [counts, counts].as_slice());
+    assert!(rt;
+        closed
+            .left
+            .iter()
+            .map(|left| (left.route, left.number))
+            .eq([(0, 1), (1, 1)])
+    );
+}
+
 /// A thousand tries of a route to request, and an abort after each tenth.
 fn try_all(mut seat: RouteSeat) -> RouteSeat
     ensures { SameRoute seat result }
