@@ -1,6 +1,7 @@
 #!/usr/bin/env bash
-# Measures the whole program in threads and in one: 1, 2, 4 and 8 segments of 16 talkers that always have frames to send,
-# over 250,000 bits, with a route from each segment to the next; the time by the clock and the processor time of each.
+# Measures the whole program in threads and in one: 1, 2, 4 and 8 segments of 16 nodes that always have frames to send,
+# over 250,000 bits, with a route from each segment to the next, by one worker and with a slack of 1, of 64 and of all bits;
+# the time by the clock and the processor time of each, the best of three runs.
 set -eu
 cd "$(dirname "$0")/.."
 ./bxgate --help > /dev/null
@@ -33,19 +34,21 @@ script() {
   }'
 }
 
-# timed WORD..: one run; its time by the clock and of all processors, in seconds
+# timed WORD..: the best of three runs; its time by the clock and of all processors, in seconds
 timed() {
-  /usr/bin/env time -f '%e %U' -o "$work/time" "$program" "$@" < "$work/script" > /dev/null
-  cat "$work/time"
+  for _ in 1 2 3; do
+    /usr/bin/env time -f '%e %U' -o "$work/time" "$program" "$@" < "$work/script" > /dev/null
+    cat "$work/time"
+  done | sort -n | head -n 1
 }
 
 for segments in 1 2 4 8; do
   script "$segments" > "$work/script"
   inline=$(timed run)
-  threads=$(timed run --threads 8)
-  awk -v segments="$segments" -v inline="$inline" -v threads="$threads" 'BEGIN {
-    split(inline, one); split(threads, many)
-    printf "%d segments: in one thread %.2f s (%.2f s of processors), in threads %.2f s (%.2f s of processors)\n",
-      segments, one[1], one[2], many[1], many[2]
-  }'
+  line="$segments segments: in one thread ${inline% *} s (${inline#* } s of processors)"
+  for slack in 1 64 1000000; do
+    threads=$(timed run --threads 1 --slack "$slack")
+    line="$line; slack $slack: ${threads% *} s (${threads#* } s)"
+  done
+  echo "$line"
 done

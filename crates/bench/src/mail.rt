@@ -20,12 +20,9 @@ const ROUTES: u8 = 8;
 
 /// Aborts the newest request, however often others are faster.
 fn abort_newest(seat: &mut RouteSeat) {
-    let number = seat.last();
-    if number == 0 {
-        return;
-    }
     for _try in 0..1_000_000 {
-        if !matches!(seat.abort(number, &mut NoGate), AbortOutcome::Contended(_)) {
+        let number = seat.last();
+        if number == 0 || !matches!(seat.abort(number, &mut NoGate), AbortOutcome::Contended(_)) {
             return;
         }
     }
