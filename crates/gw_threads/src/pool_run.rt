@@ -49,11 +49,17 @@ fn make_turns<R: Wait, S: RouteTx<R> + Drop, G: Gate + Drop, J: Dealing<S, G>>(
     ensures { IsWorkerSeat pool.old.queue pool.new }
 {
     let mut rests = 0u32;
+    let mut tries = 0u32;
+    // all segments made their bits: once that was seen, it stays so
+    let mut over = false;
     for _try in rt.forever() {
-        if clock.is_stopped() {
-            return Err(ThreadFault::Memory);
+        if !over && tries % 16 == 0 {
+            if clock.is_stopped() {
+                return Err(ThreadFault::Memory);
+            }
+            over = clock.all_done();
         }
-        let over = clock.all_done();
+        tries = tries.wrapping_add(1);
         let Ok(answer) = serve_one(rt, pool) else {
             return Err(ThreadFault::Memory);
         };

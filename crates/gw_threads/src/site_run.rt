@@ -52,6 +52,14 @@ fn wait_for_others<R: Wait>(
     unreachable!()
 }
 
+/// Whether a stop is called, as far as a segment looks: it does so before some bits alone, since all threads write to the
+/// words beside the stop word.
+fn is_told_to_stop(clock: &mut ClockSeat, bit: u32) -> bool
+    ensures { clock.new ≡ clock.old }
+{
+    bit % 256 == 0 && clock.is_stopped()
+}
+
 /// All bits of a segment with its controllers, each followed by a tick of its clock, unless a stop is called. The others
 /// are looked at only where the clock has come as far as it may go.
 fn make_bits<R: Wait, P: RxSink<R>>(
@@ -68,7 +76,7 @@ fn make_bits<R: Wait, P: RxSink<R>>(
 {
     let mut limit = 0u64;
     for bit in 0..bits {
-        if clock.is_stopped() {
+        if is_told_to_stop(clock, bit) {
             return Err(ThreadFault::Memory);
         }
         limit = wait_for_others(rt, clock, u64::from(bit), limit)?;

@@ -17,7 +17,7 @@ loop-bit-init g c = (
 pub tick-requires : goal.tick-requires
 tick-requires g c =
     let l = c.loop-bit in
-    let looked = same-on l.clock c.is_stopped.new.self c.wait_for_others.new.clock (same-self l.clock c.is_stopped.new.self c.is_stopped.ensures) c.in_ok-limit.ensures.same in
+    let looked = same-on l.clock c.is_told_to_stop.new.clock c.wait_for_others.new.clock (same-self l.clock c.is_told_to_stop.new.clock c.is_told_to_stop.ensures) c.in_ok-limit.ensures.same in
     may_tick c.args.bits l.bit c.in_ok-limit.limit c.wait_for_others.new.clock (looked_on c.args.bits l.bit l.clock c.wait_for_others.new.clock looked l.invariant.4) c.in_ok-limit.ensures.go
     (let further = c.in_ok-limit.ensures.further in omega (arith, further, c.from.ensures))
 
@@ -25,7 +25,7 @@ pub loop-bit-preserved : goal.loop-bit-preserved
 loop-bit-preserved g c =
     let l = c.loop-bit in
     let was = l.invariant in
-    let looked = same-on l.clock c.is_stopped.new.self c.wait_for_others.new.clock (same-self l.clock c.is_stopped.new.self c.is_stopped.ensures) c.in_ok-limit.ensures.same in (
+    let looked = same-on l.clock c.is_told_to_stop.new.clock c.wait_for_others.new.clock (same-self l.clock c.is_told_to_stop.new.clock c.is_told_to_stop.ensures) c.in_ok-limit.ensures.same in (
       c.in-Ok.ensures.holds,
       c.in-Ok.ensures.plan ∙ was.1,
       omega (arith, c.in-Ok.ensures.longer, was.2),
