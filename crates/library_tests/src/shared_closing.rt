@@ -8,9 +8,9 @@ ghost use Rattle.bx_shared.specs.Calls.{SameMailboxes};
 ghost use Rattle.bx_shared.specs.Closing.{IsSideOf, routes_of};
 
 use crate::shared::{abort, complete, data, fail, request, started, taken};
-use bx_core::{Left, NoGate};
-use bx_mail::{AbortOutcome, BusSeat, Closed, Mail, RouteCounts, RouteSeat};
-use can_frame::Frame;
+use bx_core::{Left, NoGate, NumberTooLarge};
+use bx_mail::{AbortOutcome, BusSeat, Closed, Mail, RequestAnswer, RouteCounts, RouteSeat};
+use can_frame::{Frame, Memory};
 use std::alloc::{AllocError, Global};
 use std::sync::Wait;
 use std::sync::atomic::{AtomicBool, Ordering};
@@ -29,7 +29,7 @@ struct Seats {
 
 impl Seats {
     /// New seats for so many routes.
-    fn new(alloc: Global, routes: u8) -> Result<Seats, Fail>
+    fn new(alloc: Global, routes: u8) -> Result<Seats, Memory>
         requires some { 1 ≤ routes }
         requires few { routes ≤ 8 }
     {
@@ -43,6 +43,14 @@ impl Seats {
             return Err(Fail::new("no seat"));
         }
         taken(&mut self.routes[route], number, id)
+    }
+
+    /// The route's first request.
+    fn request(&mut self, route: usize) -> Option<Result<RequestAnswer, NumberTooLarge>> {
+        if route >= self.routes.len() {
+            return None;
+        }
+        request(&mut self.routes[route], 1, Frame::default(), &mut NoGate)
     }
 
     fn abort(&mut self, route: usize, number: u32) -> Option<AbortOutcome> {
@@ -64,8 +72,8 @@ impl Seats {
         fail(&mut self.bus)
     }
 
-    fn close(self, alloc: Global) -> Result<Closed, Fail> {
-        Ok(Mail::close(alloc, self.bus, self.routes)?)
+    fn close(self, alloc: Global) -> Result<Closed, Memory> {
+        Mail::close(alloc, self.bus, self.routes)
     }
 }
 
@@ -141,10 +149,13 @@ fn closes_or_wants_memory(rt: HostRuntime) {
     let Ok(mut seats) = Seats::new(rt.alloc(), 2) else {
         return;
     };
-    let requested = seats.taken(0, 1, 0x101).is_ok() && seats.taken(1, 1, 0x201).is_ok();
-    assert!(rt; requested);
-    let Seats { bus, routes } = seats;
-    let Ok(closed) = Mail::close(rt.alloc(), bus, routes) else {
+    for (route, mailbox) in [(0, 0), (1, 1)] {
+        assert_eq!(rt;
+            seats.request(route),
+            Some(Ok(RequestAnswer::Taken(mailbox)))
+        );
+    }
+    let Ok(closed) = seats.close(rt.alloc()) else {
         return;
     };
     let counts = RouteCounts {
