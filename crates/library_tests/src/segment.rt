@@ -2,7 +2,6 @@
 
 mod one_fault;
 mod requests;
-mod shared;
 mod talkers;
 
 ghost use Rattle.std.specs.Prelude.{◌≡◌, None, IfOk, IfSome, length};
