@@ -1,6 +1,6 @@
 -- The clock table: a word for each segment, the number of bits that it made, and a stop word behind them. No clock passes
 -- the run's bits, and none is further ahead of another than the slack.
-use Rattle.std.specs.Prelude.{◌≡◌, ℕ, ◌+◌, ◌<◌, ◌≤◌, List, [], ◌^◌, length, replicate, slice_index, slice_set}
+use Rattle.std.specs.Prelude.{◌≡◌, ℕ, ◌+◌, ◌*◌, ◌<◌, ◌≤◌, List, [], ◌^◌, length, replicate, slice_index, slice_set}
 use mathlib.Core.Option.{some}
 use lib.ListN.{get_elem?}
 use Rattle.atomic_table.specs.Table.{State, Me, Step}
@@ -8,23 +8,28 @@ use Rattle.atomic_table.specs.Seated.{TableId}
 use Rattle.gw_threads.specs.declared.views.Pace.{Pace}
 use Rattle.gw_threads.specs.declared.views.Pacer.{Pacer}
 
+-- the word of a segment's clock: the seven words behind it lie idle, so that no two clocks share a line of a processor's
+-- cache; the stop word stands where the clock of one segment more would
+abbrev pub word_of : ℕ → ℕ
+word_of segment = 8 * segment
+
 abbrev pub pacer : ℕ → ℕ → ℕ → List ℕ → Pacer
 pacer first end made seen = record { first = first; end = end; made = made; seen = seen }
 
 -- what the seat of this number knows: each number seen is a lower bound, where its own clocks stand, and that these are
 -- clocks of segments
 pub record Knows (p : Pace) (owner : ℕ → ℕ) (words : List ℕ) (id : ℕ) (v : Pacer) : Type 0 where
-  pub seen : (j : ℕ) → j < p.segments → slice_index v.seen j ≤ slice_index words j
-  pub mine : (j : ℕ) → v.first ≤ j → j < v.end → (owner j ≡ id) × (slice_index words j ≡ v.made)
+  pub seen : (j : ℕ) → j < p.segments → slice_index v.seen j ≤ slice_index words (word_of j)
+  pub mine : (j : ℕ) → v.first ≤ j → j < v.end → (owner j ≡ id) × (slice_index words (word_of j) ≡ v.made)
   pub few : v.end ≤ p.segments
 
 -- what holds between any two steps
 pub record Kept (p : Pace) (s : State (Unit {0}) Pacer) : Type 0 where
   -- which seat ticks a clock
   pub owner : ℕ → ℕ
-  pub wide : length s.words ≡ p.segments + 1
-  pub pace : (i j : ℕ) → i < p.segments → j < p.segments → slice_index s.words i ≤ slice_index s.words j + p.slack
-  pub done : (i : ℕ) → i < p.segments → slice_index s.words i ≤ p.bits
+  pub wide : length s.words ≡ word_of p.segments + 1
+  pub pace : (i j : ℕ) → i < p.segments → j < p.segments → slice_index s.words (word_of i) ≤ slice_index s.words (word_of j) + p.slack
+  pub done : (i : ℕ) → i < p.segments → slice_index s.words (word_of i) ≤ p.bits
   pub short : p.bits < 2 ^ 32
   pub knows : (id : ℕ) (v : Pacer) → get_elem? s.views id ≡ some v → Knows p owner s.words id v
 
@@ -63,19 +68,19 @@ pub record MayTick (p : Pace) (v : Pacer) : Type 0 where
   pub short : v.made < p.bits
   pub near : (j : ℕ) → j < p.segments → ¬ (j ≡ v.first) → v.made + 1 ≤ slice_index v.seen j + p.slack
 
--- a seat of this table, which has a word for each segment and one behind them
+-- a seat of this table, which has the words of all clocks, and one behind them
 pub record IsAtTable (table : TableId) (p : Pace) (theirs : TableId) (me : Me (Unit {0}) Pacer) : Type 0 where
   pub same : theirs ≡ table
-  pub words : table.words ≡ p.segments + 1
+  pub words : table.words ≡ word_of p.segments + 1
   pub alone : me ≡ clock_of (pacer_of me)
 
 -- what a step tells of the seat before and after
 abbrev pub Play : Type 1
 Play = Step (Unit {0}) → Me (Unit {0}) Pacer → ℕ → Me (Unit {0}) Pacer → Type 0
 
--- it has seen the clock
+-- it has seen the clock whose word that is
 abbrev pub Looks : Play
-Looks st m r n = n ≡ clock_of (looked_at (pacer_of m) st.word r)
+Looks st m r n = (i : ℕ) → st.word ≡ word_of i → n ≡ clock_of (looked_at (pacer_of m) i r)
 
 -- its clock went on
 abbrev pub Ticks : Play

@@ -2,7 +2,7 @@
 ghost use Rattle.std.specs.Prelude.{◌≡◌, ◌⊎◌, ◌↔◌, ℕ, ◌+◌, ◌-◌, ◌/◌, ◌<◌, ◌≤◌, ◌^◌, IfOk, OnOk, IsTrue, slice_index};
 ghost use Rattle.gw_threads.specs.Clocks.{first_pacer, one_of, rest_of, watcher_of, ticked, MayTick, MayGo, SameClocks};
 
-use crate::clock_steps::{ClockTable, Seat, deal, lend, look, stop, tick, watch};
+use crate::clock_steps::{ClockTable, Seat, deal, lend, look, stop, tick, watch, word_of};
 use crate::thread_fault::ThreadFault;
 use crate::views::Pace;
 use std::alloc::{AllocError, Global};
@@ -43,7 +43,7 @@ fn clocks_for(alloc: Global, pace: Pace) -> Result<ClockSeat, AllocError>
     ensures pace { IfOk result (λ made. made.pace ≡ pace) }
     ensures view { IfOk result (λ made. made.view ≡ first_pacer pace) }
 {
-    let words = vec![in alloc; 0u64; pace.segments + 1]?;
+    let words = vec![in alloc; 0u64; word_of(pace.segments) + 1]?;
     let (table, seat) = ClockTable::of_words(alloc, words.as_slice(), &pace)?;
     let clocks = Arc::new(alloc, table)?;
     Ok(ClockSeat {

@@ -1,6 +1,6 @@
 //! The steps on the words of the clock table.
-ghost use Rattle.std.specs.Prelude.{◌≡◌, ◌+◌, ◌<◌};
-ghost use Rattle.gw_threads.specs.Clocks.{clock_of, pacer_of, looked_at, ticked, one_of, rest_of, watcher_of};
+ghost use Rattle.std.specs.Prelude.{◌≡◌, ◌+◌, ◌<◌, ◌≤◌};
+ghost use Rattle.gw_threads.specs.Clocks.{word_of, clock_of, pacer_of, looked_at, ticked, one_of, rest_of, watcher_of};
 ghost use Rattle.gw_threads.specs.Clocks.{MayTick, IsAtTable};
 
 use crate::plays::{Deal, Lend, Look, Paced, Stop, Tick, Watch};
@@ -11,6 +11,15 @@ use std::alloc::Global;
 /// A clock word for each segment, and a stop word behind them.
 pub(crate) type ClockTable = Table<(), Pacer, Pace, Paced, Global>;
 
+/// The word of a segment's clock. The seven words behind it lie idle, so that no two clocks share a line of a
+/// processor's cache, which each tick takes from the others. The stop word is that of one segment more.
+pub(crate) fn word_of(segment: usize) -> usize
+    requires { segment ≤ 8 }
+    ensures { result ≡ word_of segment }
+{
+    8 * segment
+}
+
 /// A seat at a clock table.
 pub(crate) type Seat = atomic_table::Seat<(), Pacer>;
 
@@ -18,42 +27,46 @@ pub(crate) type Seat = atomic_table::Seat<(), Pacer>;
 pub(crate) fn look(clocks: &ClockTable, seat: &mut Seat, segment: usize) -> u64
     requires table { IsAtTable clocks.now.shared.table_id clocks.now.shared.key seat.old.table_id seat.old.me }
     requires segment { segment < clocks.now.shared.key.segments }
+    requires few { segment < 8 }
     ensures table { seat.new.table_id ≡ seat.old.table_id }
     ensures looked { seat.new.me ≡ clock_of (looked_at (pacer_of seat.old.me) segment result) }
 {
-    clocks.shared.load::<Look>(seat, segment)
+    clocks.shared.load::<Look>(seat, word_of(segment))
 }
 
 /// The seat's own clock goes on by one.
 pub(crate) fn tick(clocks: &ClockTable, seat: &mut Seat, segment: usize)
     requires table { IsAtTable clocks.now.shared.table_id clocks.now.shared.key seat.old.table_id seat.old.me }
     requires segment { segment < clocks.now.shared.key.segments }
+    requires few { segment < 8 }
     requires own { (pacer_of seat.old.me).first ≡ segment }
     requires pace { MayTick clocks.now.shared.key (pacer_of seat.old.me) }
     ensures table { seat.new.table_id ≡ seat.old.table_id }
     ensures ticked { seat.new.me ≡ clock_of (ticked (pacer_of seat.old.me)) }
 {
-    clocks.shared.fetch_add::<Tick>(seat, segment, 1);
+    clocks.shared.fetch_add::<Tick>(seat, word_of(segment), 1);
 }
 
 /// Sets the stop word, which stands behind the clocks.
 pub(crate) fn stop(clocks: &ClockTable, seat: &mut Seat, behind: usize)
     requires table { IsAtTable clocks.now.shared.table_id clocks.now.shared.key seat.old.table_id seat.old.me }
     requires behind { clocks.now.shared.key.segments ≡ behind }
+    requires few { behind ≤ 8 }
     ensures table { seat.new.table_id ≡ seat.old.table_id }
     ensures stays { seat.new.me ≡ seat.old.me }
 {
-    clocks.shared.store::<Stop>(seat, behind, 1);
+    clocks.shared.store::<Stop>(seat, word_of(behind), 1);
 }
 
 /// One look at the stop word, which stands behind the clocks.
 pub(crate) fn watch(clocks: &ClockTable, seat: &mut Seat, behind: usize) -> u64
     requires table { IsAtTable clocks.now.shared.table_id clocks.now.shared.key seat.old.table_id seat.old.me }
     requires behind { clocks.now.shared.key.segments ≡ behind }
+    requires few { behind ≤ 8 }
     ensures table { seat.new.table_id ≡ seat.old.table_id }
     ensures stays { seat.new.me ≡ seat.old.me }
 {
-    clocks.shared.load::<Watch>(seat, behind)
+    clocks.shared.load::<Watch>(seat, word_of(behind))
 }
 
 /// Cuts off a seat with the first of this seat's clocks.

@@ -52,8 +52,7 @@ fn wait_for_others<R: Wait>(
     unreachable!()
 }
 
-/// Whether a stop is called, as far as a segment looks: it does so before some bits alone, since all threads write to the
-/// words beside the stop word.
+/// Whether a stop is called, as far as a segment looks: before some bits alone, since a stop is rare.
 fn is_told_to_stop(clock: &mut ClockSeat, bit: u32) -> bool
     ensures { clock.new ≡ clock.old }
 {
