@@ -1,5 +1,5 @@
-/* An allocator before the C library's, loaded with LD_PRELOAD, which refuses the request that REFUSE names and tells in
-   COUNT_FILE how many came (scripts/refuse-memory). */
+/* An allocator before the C library's, loaded with LD_PRELOAD, which refuses the request that REFUSE names, and with
+   REFUSE_ON each one behind it too, and tells in COUNT_FILE how many came (scripts/refuse-memory). */
 #define _GNU_SOURCE
 #include <dlfcn.h>
 #include <errno.h>
@@ -9,6 +9,7 @@
 #include <unistd.h>
 
 static long count, refused = -2;
+static int goes_on;
 /* a thread of its own may be in here while another one asks */
 static __thread int inside __attribute__((tls_model("initial-exec")));
 
@@ -16,9 +17,11 @@ static int is_refused(void) {
     if (inside) return 0;
     if (refused == -2) {
         const char *text = getenv("REFUSE");
+        goes_on = text && getenv("REFUSE_ON");
         refused = text ? atol(text) : -1;
     }
-    if (__atomic_add_fetch(&count, 1, __ATOMIC_SEQ_CST) != refused) return 0;
+    long number = __atomic_add_fetch(&count, 1, __ATOMIC_SEQ_CST);
+    if (refused < 0 || number < refused || (number > refused && !goes_on)) return 0;
     errno = ENOMEM;
     return 1;
 }
