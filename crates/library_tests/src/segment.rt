@@ -2,6 +2,7 @@
 
 mod one_fault;
 mod requests;
+mod shared;
 mod talkers;
 
 ghost use Rattle.std.specs.Prelude.{◌≡◌, None, IfOk, IfSome, length};
@@ -113,18 +114,19 @@ fn sender_and_listener(alloc: Global, bits: u64, times: u32) -> Result<SegmentPl
 }
 
 /// Makes a bit. One that memory is refused to is made again: it must have changed nothing.
-fn make_bit<P: RxSink<()>>(segment: &mut Segment, ports: &mut [P]) -> Result<(), SegFault>
+fn make_bit<R, P: RxSink<R>>(rt: &R, segment: &mut Segment, ports: &mut [P]) -> Result<(), SegFault>
     requires { Fit P.transmitting segment.old ports.old }
     ensures { Fit P.transmitting segment.new ports.new }
 {
-    match segment.bit(&(), ports) {
-        Err(SegFault::Memory) => segment.bit(&(), ports),
+    match segment.bit(rt, ports) {
+        Err(SegFault::Memory) => segment.bit(rt, ports),
         answer => answer,
     }
 }
 
 /// Makes so many bits.
-fn make_bits<P: RxSink<()>>(
+fn make_bits<R, P: RxSink<R>>(
+    rt: &R,
     segment: &mut Segment,
     ports: &mut [P],
     bits: u64,
@@ -133,7 +135,7 @@ fn make_bits<P: RxSink<()>>(
     ensures { Fit P.transmitting segment.new ports.new }
 {
     for _ in 0..bits {
-        make_bit(segment, ports)?;
+        make_bit(rt, segment, ports)?;
     }
     Ok(())
 }
@@ -160,7 +162,7 @@ fn record_of(alloc: Global, plan: SegmentPlan) -> Result<Record, Fail> {
     match segment_of(alloc, plan) {
         Ok(mut segment) => {
             let mut none: [Port; 0] = [];
-            make_bits(&mut segment, &mut none, bits)?;
+            make_bits(&(), &mut segment, &mut none, bits)?;
             Ok(segment.into_record())
         }
         Err(fail) => Err(fail),

@@ -43,7 +43,7 @@ fn a_request_is_sent_and_a_frame_is_taken(rt: HostRuntime) -> Result<(), Fail> {
     let mut ports = [port];
     match Segment::new(rt.alloc(), plan) {
         Ok(mut segment) => {
-            make_bits(&mut segment, &mut ports, 113)?;
+            make_bits(&(), &mut segment, &mut ports, 113)?;
             let label = Some(Label {
                 route: 0,
                 number: 1,
@@ -107,7 +107,7 @@ fn sends_in_spite(alloc: Global, frame: Frame) -> Option<bool> {
     let Ok(mut segment) = Segment::new(alloc, plan) else {
         return None;
     };
-    if make_bits(&mut segment, &mut ports, 64).is_err() {
+    if make_bits(&(), &mut segment, &mut ports, 64).is_err() {
         return Some(false);
     }
     let label = Some(Label {

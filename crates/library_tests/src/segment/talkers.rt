@@ -76,9 +76,12 @@ fn no_bit_comes_behind_the_last(rt: HostRuntime) -> Result<(), Fail> {
     match segment_of(rt.alloc(), plan) {
         Ok(mut segment) => {
             let mut none: [Port; 0] = [];
-            make_bits(&mut segment, &mut none, 3)?;
+            make_bits(&(), &mut segment, &mut none, 3)?;
             assert_eq!(rt; segment.record().levels.len(), 3);
-            assert_eq!(rt; make_bits(&mut segment, &mut none, 1), Err(SegFault::Ended));
+            assert_eq!(rt;
+                make_bits(&(), &mut segment, &mut none, 1),
+                Err(SegFault::Ended)
+            );
             assert_eq!(rt; segment.record().levels.len(), 3);
             assert!(rt; segment.record().events.is_empty());
             Ok(())
