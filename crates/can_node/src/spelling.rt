@@ -1,13 +1,11 @@
 //! A frame as its sender drives it.
 
 ghost use Rattle.std.specs.Prelude.{◌≡◌, ◌≤◌, ◌<◌, ◌+◌, ◌∷◌, List, Bool, true, false, length, reverse, min};
-ghost use Rattle.can_frame.specs.Stuffing.{newest};
-ghost use Rattle.can_frame.specs.StuffingSteps.{run_of};
 ghost use Rattle.can_node.specs.Sends.{rtr_place};
 ghost use Rattle.can_node.specs.Sending.{IsSpelling, IsBitAt, level_at, Tallies, SaysBit};
 
 use arrayvec::ArrayVec;
-use can_frame::{Frame, Id, wire};
+use can_frame::{Frame, Id, LevelRun, wire};
 
 /// What a bit is for a sender that drives it recessive and samples it dominant.
 #[derive(Clone, Copy)]
@@ -114,27 +112,8 @@ fn place_of_rtr(id: Id) -> u8
 /// How a text ends, and how many of its levels are no stuff bits.
 #[derive(Clone, Copy)]
 struct Tally {
-    // equal levels at its end, five at most
-    run: u8,
-    last: bool,
+    run: LevelRun,
     data: u8,
-}
-
-/// The run behind one more level.
-fn next_run(run: u8, last: bool, level: bool) -> u8
-    ensures { (older : List Bool) → newest older ≡ last → run ≡ min (run_of older) 5
-        → result ≡ min (run_of (level ∷ older)) 5 }
-{
-    if run == 0 {
-        return 1;
-    }
-    if level == last {
-        if run < 5 {
-            return run + 1;
-        }
-        return 5;
-    }
-    1
 }
 
 impl Tally {
@@ -142,17 +121,12 @@ impl Tally {
     fn with(self, level: bool) -> Tally
         ensures { (older : List Bool) → Tallies self older → Tallies result (level ∷ older) }
     {
-        let run = next_run(self.run, self.last, level);
-        if self.run >= 5 {
-            return Tally {
-                run,
-                last: level,
-                data: self.data,
-            };
+        let run = self.run.with(level);
+        if self.run.is_full() {
+            return Tally { run, ..self };
         }
         Tally {
             run,
-            last: level,
             data: self.data.saturating_add(1),
         }
     }
@@ -163,8 +137,7 @@ fn tally_of(text: &[bool]) -> Tally
     ensures { Tallies result (reverse text.now) }
 {
     let mut tally = Tally {
-        run: 0,
-        last: true,
+        run: LevelRun::new(),
         data: 0,
     };
     for level in text {
@@ -181,7 +154,7 @@ fn bit_behind(text: &[bool], rtr: u8) -> SendBit
     if tally.data > rtr {
         return SendBit::Other;
     }
-    if tally.run >= 5 {
+    if tally.run.is_full() {
         return SendBit::ArbitrationStuffBit;
     }
     if tally.data == 0 {
