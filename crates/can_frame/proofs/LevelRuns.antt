@@ -102,14 +102,15 @@ unlike x y b e = same-beq x y ∙ not_by (beq x y) b e
 unlike_newest : (text : List Bool) (run : LevelRun) (x b : Bool) → EndsIn text run → not (beq x run.level) ≡ b → same x (newest text) ≡ not b
 unlike_newest text run x b h e = ap (same x) (sym h.level_is) ∙ unlike x run.level b e
 
-pub ends_anew : (text : List Bool) (run : LevelRun) (x : Bool) → EndsIn text run → not (beq x run.level) ≡ true → EndsIn (x ∷ text) (record { count = 1; level = x })
-ends_anew text run x h e = record { count_is = omega (arith, new_run text x (unlike_newest text run x true h e)); level_is = refl }
+-- how many equal levels there are with one more, five at most
+pub count_anew : (text : List Bool) (run : LevelRun) (x : Bool) → EndsIn text run → not (beq x run.level) ≡ true → 1 ≡ min (run_of (x ∷ text)) 5
+count_anew text run x h e = omega (arith, new_run text x (unlike_newest text run x true h e))
 
-pub ends_longer : (text : List Bool) (run : LevelRun) (x : Bool) → EndsIn text run → not (beq x run.level) ≡ false → run.count < 5 → EndsIn (x ∷ text) (record { count = run.count + 1; level = x })
-ends_longer text run x h e few = record { count_is = omega (arith, longer_run text x (unlike_newest text run x false h e), h.count_is, few); level_is = refl }
+pub count_longer : (text : List Bool) (run : LevelRun) (x : Bool) → EndsIn text run → not (beq x run.level) ≡ false → run.count < 5 → run.count + 1 ≡ min (run_of (x ∷ text)) 5
+count_longer text run x h e few = omega (arith, longer_run text x (unlike_newest text run x false h e), h.count_is, few)
 
-pub ends_full : (text : List Bool) (run : LevelRun) (x : Bool) → EndsIn text run → not (beq x run.level) ≡ false → 5 ≤ run.count → EndsIn (x ∷ text) (record { count = 5; level = x })
-ends_full text run x h e full = record { count_is = omega (arith, longer_run text x (unlike_newest text run x false h e), h.count_is, full); level_is = refl }
+pub count_full : (text : List Bool) (run : LevelRun) (x : Bool) → EndsIn text run → not (beq x run.level) ≡ false → 5 ≤ run.count → run.count ≡ min (run_of (x ∷ text)) 5
+count_full text run x h e full = omega (arith, longer_run text x (unlike_newest text run x false h e), h.count_is, full)
 
 pub ends_none : EndsIn [] (record { count = 0; level = true })
 unfolding run_of

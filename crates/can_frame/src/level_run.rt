@@ -26,32 +26,30 @@ impl LevelRun {
 
     /// Whether the text ends in five equal levels: then no data follows, but their opposite as a stuff bit, or a fault.
     #[inline]
-    pub fn is_full(self) -> bool
-        ensures { (text : List Bool) → EndsIn text self → result ≡ five_equal text }
+    pub fn is_full(&self) -> bool
+        ensures { (text : List Bool) → EndsIn text self.now → result ≡ five_equal text }
     {
         self.count >= 5
     }
 
     /// The newest level.
     #[inline]
-    pub fn level(self) -> bool
-        ensures { (text : List Bool) → EndsIn text self → result ≡ newest text }
+    pub fn level(&self) -> bool
+        ensures { (text : List Bool) → EndsIn text self.now → result ≡ newest text }
     {
         self.level
     }
 
-    /// How the text ends with this level more.
+    /// The next level of the text.
     #[inline]
-    pub fn with(self, level: bool) -> LevelRun
-        ensures { (text : List Bool) → EndsIn text self → EndsIn (level ∷ text) result }
+    pub fn push(&mut self, level: bool)
+        ensures { (text : List Bool) → EndsIn text self.old → EndsIn (level ∷ text) self.new }
     {
-        let count = if level != self.level {
-            1
+        if level != self.level {
+            self.count = 1;
         } else if self.count < 5 {
-            self.count + 1
-        } else {
-            5
-        };
-        LevelRun { count, level }
+            self.count += 1;
+        }
+        self.level = level;
     }
 }

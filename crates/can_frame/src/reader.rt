@@ -97,7 +97,7 @@ impl Reader {
         if is_complete_next(self.levels.as_slice()) {
             return false;
         }
-        self.run = self.run.with(level);
+        self.run.push(level);
         keep(&mut self.levels, level);
         true
     }
@@ -152,7 +152,7 @@ impl Reader {
         if self.run.is_full() {
             return self.push_behind_five(level);
         }
-        self.run = self.run.with(level);
+        self.run.push(level);
         keep(&mut self.levels, level);
         let complete = is_complete(self.levels.as_slice());
         // five equal levels want a stuff bit, also behind the last bit of the CRC
@@ -172,7 +172,7 @@ impl Reader {
         if level == self.run.level() {
             return self.fail(FaultKind::Stuff);
         }
-        self.run = self.run.with(level);
+        self.run.push(level);
         if is_complete(self.levels.as_slice()) {
             return body(self.levels.as_slice(), &mut self.place);
         }

@@ -38,10 +38,10 @@ impl Stuffer {
             → IsStuffing self.new.out.items self.new.run (text ++ level ∷ []) }
     {
         self.out.push(level);
-        self.run = self.run.with(level);
+        self.run.push(level);
         if self.run.is_full() {
             self.out.push(!level);
-            self.run = self.run.with(!level);
+            self.run.push(!level);
         }
     }
 }

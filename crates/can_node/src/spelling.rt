@@ -110,24 +110,21 @@ fn place_of_rtr(id: Id) -> u8
 }
 
 /// How a text ends, and how many of its levels are no stuff bits.
-#[derive(Clone, Copy)]
+#[derive(Drop)]
 struct Tally {
     run: LevelRun,
     data: u8,
 }
 
 impl Tally {
-    /// The text and one more level.
-    fn with(self, level: bool) -> Tally
-        ensures { (older : List Bool) → Tallies self older → Tallies result (level ∷ older) }
+    /// The next level of the text.
+    fn push(&mut self, level: bool)
+        ensures { (text : List Bool) → Tallies self.old text → Tallies self.new (level ∷ text) }
     {
-        let run = self.run.with(level);
-        if self.run.is_full() {
-            return Tally { run, ..self };
-        }
-        Tally {
-            run,
-            data: self.data.saturating_add(1),
+        let is_stuff_bit = self.run.is_full();
+        self.run.push(level);
+        if !is_stuff_bit {
+            self.data = self.data.saturating_add(1);
         }
     }
 }
@@ -141,7 +138,7 @@ fn tally_of(text: &[bool]) -> Tally
         data: 0,
     };
     for level in text {
-        tally = tally.with(*level);
+        tally.push(*level);
     }
     tally
 }

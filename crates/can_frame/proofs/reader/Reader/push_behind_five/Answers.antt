@@ -26,4 +26,4 @@ returns c text place five h =
     let opposite : c.args.level ≡ not (newest (reverse text)) = opposite_newest (reverse text) _ _ (c.level.ensures _ h.ends) c.if-level.false in
     let part : length u ≡ fields_length u + 15 → ⊥ =
     λ full. c.is_complete.ensures.part c.if-is_complete.false (subst (λ t. length t ≡ fields_length t + 15) (sym c.as_slice.ensures.value) full) in
-    next_stuff u text c.args.level _ h.inside five opposite (c.with-self.ensures _ h.ends) part refl place
+    next_stuff u text c.args.level _ h.inside five opposite (c.push.ensures _ h.ends) part refl place

@@ -34,7 +34,7 @@ returns-then-not-wants_stuff_bit c text place h =
       | else-level-via-else-level w ↦ w.if-level.false
     ] in
     let plain : five_equal (reverse text) ≡ false = sym (c.is_full.ensures _ h.ends) ∙ c.if-is_full.false in
-    let short : five_equal (c.args.level ∷ reverse text) ≡ false = sym (c.is_full-wants_stuff_bit.ensures _ (c.with-self.ensures _ h.ends)) ∙ c.if-not-wants_stuff_bit.true in
+    let short : five_equal (c.args.level ∷ reverse text) ≡ false = sym (c.is_full-wants_stuff_bit.ensures _ (c.push.ensures _ h.ends)) ∙ c.if-not-wants_stuff_bit.true in
     next_data_body u v text c.args.level _ c.body.result h.inside plain sof c.keep.ensures full short bodies
 
 pub returns : goal.returns
@@ -46,7 +46,7 @@ returns c text place h =
       | else-level-via-else-level w ↦ w.if-level.false
     ] in
     let plain : five_equal (reverse text) ≡ false = sym (c.is_full.ensures _ h.ends) ∙ c.if-is_full.false in
-    let ends = c.with-self.ensures _ h.ends in
+    let ends = c.push.ensures _ h.ends in
     let part : length v ≡ fields_length v + 15 → five_equal (c.args.level ∷ reverse text) ≡ true = λ full. elim c.else-complete.branch [
       | else-complete-via-then-complete+else-not-wants_stuff_bit w ↦ sym (c.is_full-wants_stuff_bit.ensures _ ends) ∙ w.if-not-wants_stuff_bit.false
       | else-complete-via-else-complete w ↦
