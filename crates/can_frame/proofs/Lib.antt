@@ -1,5 +1,6 @@
 pub mod Polynomials
 pub mod Bits
+pub mod LevelRuns
 pub mod Stuffed
 pub mod Numbers
 pub mod OneStuffing

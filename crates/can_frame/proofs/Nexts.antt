@@ -1,24 +1,22 @@
 -- What a reader holds next.
-use Rattle.std.proofs.Common.{◌≡◌, ℕ, ◌+◌, ◌≤◌, ◌<◌, Bool, true, false, List, [], ◌∷◌, ◌++◌, length, reverse, refl, sym, subst, ◌∙◌, arith}
+use Rattle.std.proofs.Common.{◌≡◌, ℕ, ◌+◌, ◌≤◌, ◌<◌, Bool, true, false, not, List, [], ◌∷◌, ◌++◌, length, reverse, refl, sym, ap, subst, ◌∙◌, arith}
 use Rattle.std.proofs.lemmas.List.{append-nil}
 use Rattle.can_frame.specs.Frames.{FrameValue}
-use Rattle.can_frame.specs.Stuffing.{five_equal}
+use Rattle.can_frame.specs.Stuffing.{five_equal, newest}
 use Rattle.can_frame.specs.FieldReading.{fields_length, frame_at}
-use Rattle.can_frame.specs.Destuffing.{Pushes}
+use Rattle.can_frame.specs.LevelRuns.{EndsIn}
 use Rattle.can_frame.specs.Answers.{Answers, IsLast, IsUndecided}
 use Rattle.can_frame.specs.Reading.{Inside, InRegion, InTail, TailNext, HasEnded, StandsAt, StandsAfter, IsOpen, IsPush, Leaves, Next, Judges}
-use Rattle.can_frame.specs.declared.destuffing.Piece.{Piece}
-use Rattle.can_frame.specs.declared.destuffing.Piece.TheVariants as piece
+use Rattle.can_frame.specs.declared.level_run.LevelRun.{LevelRun}
 use Rattle.can_frame.specs.declared.step.FaultKind.TheVariants.{Stuff, Form}
 use Rattle.can_frame.specs.declared.step.Step.{Step}
 use Rattle.can_frame.specs.declared.step.Step.TheVariants.{More, StuffBit, Body, Tail, Taken, Fault}
 use Rattle.can_frame.specs.declared.reader.Place.{Place}
 use Rattle.can_frame.specs.declared.reader.Place.TheVariants.{Region, AfterBody, Ended}
 use Rattle.can_frame.specs.declared.reader.Reader.{Reader}
-use Rattle.can_frame.proofs.Stuffed.{after_five, not_five}
 use Rattle.can_frame.proofs.Regions.{completes, length_few}
 use Rattle.can_frame.proofs.Undecided.{region_undecided, tail_undecided}
-use Rattle.can_frame.proofs.Steps.{stuff_fault, sof_fault, after_data, after_stuff, body_tail, still_inside, complete_next, Kept}
+use Rattle.can_frame.proofs.Steps.{next_reverse, stuff_fault, sof_fault, after_data, after_stuff, body_tail, still_inside, complete_next, Kept}
 
 ended : (step : Step) (text : List Bool) (level : Bool) → IsUndecided text → Answers step text level → IsLast step → HasEnded step (text ++ level ∷ [])
 ended step text level u h l = record { before = text; level = level; more = []; whole = sym (append-nil (text ++ level ∷ [])); undecided = u; answer = h; last = l }
@@ -41,10 +39,10 @@ leaves_at (Taken frame) new h = h
 leaves_at (Fault kind) new h = h
 
 next_by : (step : Step) (new : Reader) (p : Place) (text : List Bool) (level : Bool) → new.place ≡ p → Answers step text level →
-    StandsAt p new.destuffer.run new.destuffer.last new.levels.items (text ++ level ∷ []) → LeavesAt step p → Next step new text level
+    StandsAt p new.run new.levels.items (text ++ level ∷ []) → LeavesAt step p → Next step new text level
 next_by step new p text level e a s l = record {
   answer = a;
-  stands = subst (λ q. StandsAt q new.destuffer.run new.destuffer.last new.levels.items (text ++ level ∷ [])) (sym e) s;
+  stands = subst (λ q. StandsAt q new.run new.levels.items (text ++ level ∷ [])) (sym e) s;
   leaves = leaves_at step new (subst (LeavesAt step) (sym e) l);
 }
 
@@ -68,79 +66,83 @@ tail_ends (Taken frame) f right seen text level new other place t h =
 tail_ends (Fault kind) f right seen text level new other place t h =
     next_by (Fault kind) new (Ended (Fault kind)) text level place h.answer (ended (Fault kind) text level (tail_undecided f right seen text t) h.answer tt) refl
 
-pub next_sof : (run : ℕ) (last : Bool) (u text : List Bool) (level : Bool) (new : Reader) → InRegion run last u text → u ≡ [] → level ≡ true → new.place ≡ Ended (Fault Form) → Next (Fault Form) new text level
-next_sof run last u text level new h none e place =
-    let a = sof_fault text u level h.inside none e in
-    next_by (Fault Form) new (Ended (Fault Form)) text level place a (ended (Fault Form) text level (region_undecided text u h.inside) a tt) refl
+pub next_sof : (u text : List Bool) (level : Bool) (new : Reader) → Inside text u → u ≡ [] → level ≡ true → new.place ≡ Ended (Fault Form) → Next (Fault Form) new text level
+next_sof u text level new h none e place =
+    let a = sof_fault text u level h none e in
+    next_by (Fault Form) new (Ended (Fault Form)) text level place a (ended (Fault Form) text level (region_undecided text u h) a tt) refl
 
-pub next_sixth : (run next : ℕ) (last newer : Bool) (u text : List Bool) (level : Bool) (new : Reader) (p : Piece) → InRegion run last u text → p ≡ piece.Fault →
-    Pushes p (reverse text) level next newer → new.place ≡ Ended (Fault Stuff) → Next (Fault Stuff) new text level
-next_sixth run next last newer u text level new p h is push place =
-    let sixth = subst (λ q. Pushes q (reverse text) level next newer) is push in
-    let a = stuff_fault text u level h.inside sixth in
-    next_by (Fault Stuff) new (Ended (Fault Stuff)) text level place a (ended (Fault Stuff) text level (region_undecided text u h.inside) a tt) refl
+pub next_sixth : (u text : List Bool) (level : Bool) (new : Reader) → Inside text u → five_equal (reverse text) ≡ true → level ≡ newest (reverse text) →
+    new.place ≡ Ended (Fault Stuff) → Next (Fault Stuff) new text level
+next_sixth u text level new h five same place =
+    let a = stuff_fault text u level h five same in
+    next_by (Fault Stuff) new (Ended (Fault Stuff)) text level place a (ended (Fault Stuff) text level (region_undecided text u h) a tt) refl
 
 -- the answer at the end of a region
 abbrev pub Bodies : Step → Place → List Bool → Type 0
 Bodies step place u = (right : Bool) × Judges right u × (step ≡ Body (frame_at u) right) × (place ≡ AfterBody (frame_at u) right 0)
 
-pub next_stuff_body : (run next : ℕ) (last newer : Bool) (u text : List Bool) (level : Bool) (new : Reader) (p : Piece) (step : Step) → InRegion run last u text → p ≡ piece.Stuff →
-    Pushes p (reverse text) level next newer → length u ≡ fields_length u + 15 → Bodies step new.place u → Next step new text level
-next_stuff_body run next last newer u text level new p step h is push full b =
-    let a = after_stuff run next last newer u text level h (subst (λ q. Pushes q (reverse text) level next newer) is push) in
-    let both = body_tail (text ++ level ∷ []) u b.0 a.kept full a.ended b.1 in
+next_body : (u text : List Bool) (level : Bool) (new : Reader) (step : Step) → Kept (text ++ level ∷ []) u → length u ≡ fields_length u + 15 → five_equal (reverse (text ++ level ∷ [])) ≡ false →
+    Bodies step new.place u → Next step new text level
+next_body u text level new step kept full ended b =
+    let both = body_tail (text ++ level ∷ []) u b.0 kept full ended b.1 in
     subst (λ s. Next s new text level) (sym b.2) (next_by (Body (frame_at u) b.0) new (AfterBody (frame_at u) b.0 0) text level b.3 both.0 both.1 tt)
 
-pub next_stuff : (run : ℕ) (last : Bool) (u text : List Bool) (level : Bool) (new : Reader) (p : Piece) → InRegion run last u text → p ≡ piece.Stuff →
-    Pushes p (reverse text) level new.destuffer.run new.destuffer.last → (length u ≡ fields_length u + 15 → ⊥) → new.levels.items ≡ u → new.place ≡ Region → Next StuffBit new text level
-next_stuff run last u text level new p h is push part items place =
-    let a = after_stuff run new.destuffer.run last new.destuffer.last u text level h (subst (λ q. Pushes q (reverse text) level new.destuffer.run new.destuffer.last) is push) in
-    let inside = still_inside (text ++ level ∷ []) u a.kept (λ full. absurd (part full)) in
-    let stands : InRegion new.destuffer.run new.destuffer.last new.levels.items (text ++ level ∷ []) =
-    record { destuffed = a.destuffed; inside = subst (Inside (text ++ level ∷ [])) (sym items) inside } in
-    next_by StuffBit new Region text level place (completes (text ++ level ∷ []) u inside, a.five) stands tt
+ends_next : (text : List Bool) (level : Bool) (run : LevelRun) → EndsIn (level ∷ reverse text) run → EndsIn (reverse (text ++ level ∷ [])) run
+ends_next text level run h = subst (λ t. EndsIn t run) (sym (next_reverse text level)) h
 
-pub next_data_body : (run next : ℕ) (last newer : Bool) (u v text : List Bool) (level : Bool) (new : Reader) (p : Piece) (step : Step) → InRegion run last u text → p ≡ piece.Data →
-    Pushes p (reverse text) level next newer → (u ≡ [] → level ≡ false) → (length u < 118 → v ≡ u ++ level ∷ []) → length v ≡ fields_length v + 15 → next < 5 → Bodies step new.place v → Next step new text level
-next_data_body run next last newer u v text level new p step h is push sof keeps full few b =
-    let a = after_data run next last newer u text level h (subst (λ q. Pushes q (reverse text) level next newer) is push) sof in
-    let e : v ≡ u ++ level ∷ [] = keeps (omega (arith, a.short, length_few u)) in
-    let ended : five_equal (reverse (text ++ level ∷ [])) ≡ false = not_five (reverse (text ++ level ∷ [])) (omega (arith, a.destuffed.run_is, few)) in
-    let both = body_tail (text ++ level ∷ []) v b.0 (subst (Kept (text ++ level ∷ [])) (sym e) a.kept) full ended b.1 in
-    subst (λ s. Next s new text level) (sym b.2) (next_by (Body (frame_at v) b.0) new (AfterBody (frame_at v) b.0 0) text level b.3 both.0 both.1 tt)
+pub next_stuff_body : (u text : List Bool) (level : Bool) (new : Reader) (step : Step) → Inside text u → five_equal (reverse text) ≡ true → level ≡ not (newest (reverse text)) →
+    length u ≡ fields_length u + 15 → Bodies step new.place u → Next step new text level
+next_stuff_body u text level new step h five opposite full b =
+    let a = after_stuff u text level h five opposite in next_body u text level new step a.kept full a.ended b
 
-pub next_more : (run : ℕ) (last : Bool) (u text : List Bool) (level : Bool) (new : Reader) (p : Piece) → InRegion run last u text → p ≡ piece.Data →
-    Pushes p (reverse text) level new.destuffer.run new.destuffer.last → (u ≡ [] → level ≡ false) → (length u < 118 → new.levels.items ≡ u ++ level ∷ []) →
-    (length new.levels.items ≡ fields_length new.levels.items + 15 → 5 ≤ new.destuffer.run) → new.place ≡ Region → Next More new text level
-next_more run last u text level new p h is push sof keeps part place =
-    let a = after_data run new.destuffer.run last new.destuffer.last u text level h (subst (λ q. Pushes q (reverse text) level new.destuffer.run new.destuffer.last) is push) sof in
-    let e : new.levels.items ≡ u ++ level ∷ [] = keeps (omega (arith, a.short, length_few u)) in
+pub next_stuff : (u text : List Bool) (level : Bool) (new : Reader) → Inside text u → five_equal (reverse text) ≡ true → level ≡ not (newest (reverse text)) → EndsIn (level ∷ reverse text) new.run →
+    (length u ≡ fields_length u + 15 → ⊥) → new.levels.items ≡ u → new.place ≡ Region → Next StuffBit new text level
+next_stuff u text level new h five opposite ends part items place =
     let w = text ++ level ∷ [] in
-    let inside = still_inside w new.levels.items (subst (Kept w) (sym e) a.kept)
-    (λ full. after_five (reverse w) (a.destuffed.run_is ∙ omega (arith, part full, a.destuffed.short))) in
-    let stands : InRegion new.destuffer.run new.destuffer.last new.levels.items w = record { destuffed = a.destuffed; inside = inside } in
-    next_by More new Region text level place (completes w new.levels.items inside, a.plain) stands tt
+    let a = after_stuff u text level h five opposite in
+    let inside = still_inside w u a.kept (λ full. absurd (part full)) in
+    let stands : InRegion new.run new.levels.items w = record { ends = ends_next text level new.run ends; inside = subst (Inside w) (sym items) inside } in
+    next_by StuffBit new Region text level place (completes w u inside, five) stands tt
+
+pub next_data_body : (u v text : List Bool) (level : Bool) (new : Reader) (step : Step) → Inside text u → five_equal (reverse text) ≡ false → (u ≡ [] → level ≡ false) →
+    (length u < 118 → v ≡ u ++ level ∷ []) → length v ≡ fields_length v + 15 → five_equal (level ∷ reverse text) ≡ false → Bodies step new.place v → Next step new text level
+next_data_body u v text level new step h plain sof keeps full few b =
+    let a = after_data u text level h plain sof in
+    let e : v ≡ u ++ level ∷ [] = keeps (omega (arith, a.short, length_few u)) in
+    next_body v text level new step (subst (Kept (text ++ level ∷ [])) (sym e) a.kept) full (ap five_equal (next_reverse text level) ∙ few) b
+
+pub next_more : (u text : List Bool) (level : Bool) (new : Reader) → Inside text u → five_equal (reverse text) ≡ false → (u ≡ [] → level ≡ false) → EndsIn (level ∷ reverse text) new.run →
+    (length u < 118 → new.levels.items ≡ u ++ level ∷ []) →
+    (length new.levels.items ≡ fields_length new.levels.items + 15 → five_equal (level ∷ reverse text) ≡ true) → new.place ≡ Region → Next More new text level
+next_more u text level new h plain sof ends keeps part place =
+    let w = text ++ level ∷ [] in
+    let a = after_data u text level h plain sof in
+    let e : new.levels.items ≡ u ++ level ∷ [] = keeps (omega (arith, a.short, length_few u)) in
+    let inside = still_inside w new.levels.items (subst (Kept w) (sym e) a.kept) (λ full. ap five_equal (next_reverse text level) ∙ part full) in
+    let stands : InRegion new.run new.levels.items w = record { ends = ends_next text level new.run ends; inside = inside } in
+    next_by More new Region text level place (completes w new.levels.items inside, plain) stands tt
 
 -- a level of the text with which the region goes on
-pub next_plain : (run : ℕ) (last : Bool) (u text : List Bool) (level : Bool) (new : Reader) → InRegion run last u text → Pushes piece.Data (reverse text) level new.destuffer.run new.destuffer.last → (u ≡ [] → ⊥) →
+next_plain : (u text : List Bool) (level : Bool) (new : Reader) → Inside text u → five_equal (reverse text) ≡ false → (u ≡ [] → ⊥) → EndsIn (level ∷ reverse text) new.run →
     (length u < 118 → new.levels.items ≡ u ++ level ∷ []) → (length u + 1 ≡ fields_length u + 15 → ⊥) → new.place ≡ Region → Next More new text level
-next_plain run last u text level new h push some keeps other place =
+next_plain u text level new h plain some ends keeps other place =
     let sof : u ≡ [] → level ≡ false = λ none. absurd (some none) in
-    let a = after_data run new.destuffer.run last new.destuffer.last u text level h push sof in
+    let a = after_data u text level h plain sof in
     let e : new.levels.items ≡ u ++ level ∷ [] = keeps (omega (arith, a.short, length_few u)) in
-    next_more run last u text level new piece.Data h refl push sof keeps
+    next_more u text level new h plain sof ends keeps
     (λ full. absurd (other (complete_next u level (subst (λ t. length t ≡ fields_length t + 15) e full)))) place
 
-region_stands : (p : Place) (run : ℕ) (last : Bool) (u text : List Bool) → p ≡ Region → StandsAt p run last u text → InRegion run last u text
-region_stands p run last u text e h = subst (λ q. StandsAt q run last u text) e h
+region_stands : (p : Place) (run : LevelRun) (u text : List Bool) → p ≡ Region → StandsAt p run u text → InRegion run u text
+region_stands p run u text e h = subst (λ q. StandsAt q run u text) e h
 
 pub plain_push : (old new : Reader) (level : Bool) → old.place ≡ Region → new.place ≡ Region →
-    ((text : List Bool) → InRegion old.destuffer.run old.destuffer.last old.levels.items text → Pushes piece.Data (reverse text) level new.destuffer.run new.destuffer.last) → (old.levels.items ≡ [] → ⊥) →
+    ((text : List Bool) → EndsIn text old.run → (five_equal text ≡ false) × EndsIn (level ∷ text) new.run) → (old.levels.items ≡ [] → ⊥) →
     (length old.levels.items < 118 → new.levels.items ≡ old.levels.items ++ level ∷ []) → (length old.levels.items + 1 ≡ fields_length old.levels.items + 15 → ⊥) → IsPush old level More new
 plain_push old new level here place push some keeps other =
     let next : (text : List Bool) → StandsAfter old text → Next More new text level = λ text s.
-    let h = region_stands old.place old.destuffer.run old.destuffer.last old.levels.items text here s in
-    next_plain old.destuffer.run old.destuffer.last old.levels.items text level new h (push text h) some keeps other place in
+    let h = region_stands old.place old.run old.levels.items text here s in
+    let p = push (reverse text) h.ends in
+    next_plain old.levels.items text level new h.inside p.0 some p.1 keeps other place in
     record {
       next = λ text r s. next text s;
       stands = λ text s. (next text s).stands;
@@ -149,7 +151,7 @@ plain_push old new level here place push some keeps other =
 
 -- what a reader keeps as its newest answer says nothing of the text
 abbrev with_told : Reader → Step → Reader
-with_told r told = record { destuffer = r.destuffer; levels = r.levels; place = r.place; told = told }
+with_told r told = record { run = r.run; levels = r.levels; place = r.place; told = told }
 
 leaves_told : (step : Step) (new : Reader) (told : Step) → Leaves step new → Leaves step (with_told new told)
 leaves_told More new told h = h

@@ -1,5 +1,5 @@
 -- The laws of the answers.
-use Rattle.std.proofs.Common.{◌≡◌, ◌⊎◌, inl, inr, ℕ, Bool, true, false, List, [], ◌∷◌, ◌++◌, replicate, refl, sym, ap, subst, ◌∙◌, append_assoc}
+use Rattle.std.proofs.Common.{◌≡◌, ◌⊎◌, inl, inr, Bool, true, false, List, [], ◌∷◌, ◌++◌, replicate, refl, sym, ap, subst, ◌∙◌, append_assoc}
 use Rattle.std.proofs.lemmas.List.{append-nil}
 use Rattle.can_frame.specs.Frames.{FrameValue}
 use Rattle.can_frame.specs.Fields.{Unchecked}
@@ -9,6 +9,7 @@ use Rattle.can_frame.specs.Reading.{StandsAt, HasEnded, IsOpen}
 use Rattle.can_frame.specs.ReaderLaws.{OneAnswer, ReadingIsUndecided, FrontsAreTaken, TakenAreFronts, FirstFaultsAreAnswered, AnsweredFaultsAreFirst}
 use Rattle.can_frame.specs.declared.step.FaultKind.{FaultKind}
 use Rattle.can_frame.specs.declared.step.FaultKind.TheVariants.{Stuff, Form, Ack, Crc}
+use Rattle.can_frame.specs.declared.level_run.LevelRun.{LevelRun}
 use Rattle.can_frame.specs.declared.step.Step.{Step}
 use Rattle.can_frame.specs.declared.step.Step.TheVariants.{More, StuffBit, Body, Tail, Taken, Fault}
 use Rattle.can_frame.specs.declared.reader.Place.{Place}
@@ -237,29 +238,29 @@ ended_taken Tail before level more f l a h = absurd l
 ended_taken (Taken g) before level more f l a h = ap Taken (no_front_begins g f (before ++ level ∷ []) more a h).1
 ended_taken (Fault kind) before level more f l a h = absurd (fault_ends kind f before level more a h)
 
-place_taken : (place : Place) (run : ℕ) (last : Bool) (levels text : List Bool) (f : FrameValue) → StandsAt place run last levels text → IsFront f text → place ≡ Ended (Taken f)
-place_taken Region run last levels text f h k =
+place_taken : (place : Place) (run : LevelRun) (levels text : List Bool) (f : FrameValue) → StandsAt place run levels text → IsFront f text → place ≡ Ended (Taken f)
+place_taken Region run levels text f h k =
     let p = parts f text k in absurd (no_region f p.x p.check p.region (front_tail false) text levels h.inside p.is_region p.whole)
-place_taken (AfterBody g right seen) run last levels text f h k = absurd (no_front g f right seen text h k)
-place_taken (Ended step) run last levels text f h k =
+place_taken (AfterBody g right seen) run levels text f h k = absurd (no_front g f right seen text h k)
+place_taken (Ended step) run levels text f h k =
     ap Ended (ended_taken step h.before h.level h.more f h.last h.answer (subst (IsFront f) h.whole k))
 
 pub fronts_are_taken : FrontsAreTaken
-fronts_are_taken reader text f h k = place_taken reader.place reader.destuffer.run reader.destuffer.last reader.levels.items text f h k
+fronts_are_taken reader text f h k = place_taken reader.place reader.run reader.levels.items text f h k
 
 pub taken_are_fronts : TakenAreFronts
 taken_are_fronts reader text f h e =
-    let d = subst (λ p. StandsAt p reader.destuffer.run reader.destuffer.last reader.levels.items text) e h in
+    let d = subst (λ p. StandsAt p reader.run reader.levels.items text) e h in
     (d.before ++ d.level ∷ [], d.more, d.answer, d.whole)
 
 -- a reader that is still reading has ended with nothing
-reading_at : (place : Place) (run : ℕ) (last : Bool) (levels text : List Bool) → StandsAt place run last levels text → IsOpen place → IsUndecided text
-reading_at Region run last levels text h o = region_undecided text levels h.inside
-reading_at (AfterBody f right seen) run last levels text h o = tail_undecided f right seen text h
-reading_at (Ended step) run last levels text h o = absurd o
+reading_at : (place : Place) (run : LevelRun) (levels text : List Bool) → StandsAt place run levels text → IsOpen place → IsUndecided text
+reading_at Region run levels text h o = region_undecided text levels h.inside
+reading_at (AfterBody f right seen) run levels text h o = tail_undecided f right seen text h
+reading_at (Ended step) run levels text h o = absurd o
 
 pub reading_is_undecided : ReadingIsUndecided
-reading_is_undecided reader text h o = reading_at reader.place reader.destuffer.run reader.destuffer.last reader.levels.items text h o
+reading_is_undecided reader text h o = reading_at reader.place reader.run reader.levels.items text h o
 
 -- a last answer comes at a front or a fault
 pub fault_is : (kind : FaultKind) (text : List Bool) (level : Bool) → FaultAnswers kind text level → IsFaulty (text ++ level ∷ [])
@@ -318,18 +319,18 @@ ended_faulty step before level more place d u h e = elim (meet before d.before l
   | inr (inr k) ↦ absurd (last_decides step d.before d.level before k.0 d.last d.answer u k.1)
 ]
 
-first_fault : (place : Place) (run : ℕ) (last : Bool) (levels before : List Bool) (level : Bool) (more : List Bool) → StandsAt place run last levels ((before ++ level ∷ []) ++ more) →
+first_fault : (place : Place) (run : LevelRun) (levels before : List Bool) (level : Bool) (more : List Bool) → StandsAt place run levels ((before ++ level ∷ []) ++ more) →
     IsUndecided before → IsFaulty (before ++ level ∷ []) → (kind : FaultKind) × FaultAnswers kind before level × (place ≡ Ended (Fault kind))
-first_fault Region run last levels before level more s u h =
+first_fault Region run levels before level more s u h =
     let w = before ++ level ∷ [] in absurd ((region_undecided (w ++ more) levels s.inside).no_fault w more refl h)
-first_fault (AfterBody f right seen) run last levels before level more s u h =
+first_fault (AfterBody f right seen) run levels before level more s u h =
     let w = before ++ level ∷ [] in absurd ((tail_undecided f right seen (w ++ more) s).no_fault w more refl h)
-first_fault (Ended step) run last levels before level more s u h = ended_faulty step before level more (Ended step) s u h refl
+first_fault (Ended step) run levels before level more s u h = ended_faulty step before level more (Ended step) s u h refl
 
 pub first_faults_are_answered : FirstFaultsAreAnswered
-first_faults_are_answered reader before level more s u h = first_fault reader.place reader.destuffer.run reader.destuffer.last reader.levels.items before level more s u h
+first_faults_are_answered reader before level more s u h = first_fault reader.place reader.run reader.levels.items before level more s u h
 
 pub answered_faults_are_first : AnsweredFaultsAreFirst
 answered_faults_are_first reader text kind h e =
-    let d = subst (λ p. StandsAt p reader.destuffer.run reader.destuffer.last reader.levels.items text) e h in
+    let d = subst (λ p. StandsAt p reader.run reader.levels.items text) e h in
     (d.before, d.level, d.more, d.whole, d.undecided, d.answer)

@@ -5,15 +5,15 @@ use Rattle.can_frame.specs.Frames.{FrameValue}
 use Rattle.can_frame.specs.Fields.{Unchecked, fields}
 use Rattle.can_frame.specs.Crc.{IsCrc}
 use Rattle.can_frame.specs.Stuffing.{five_equal, newest, IsStuffed, unstuffed}
-use Rattle.can_frame.specs.Destuffing.{HasRead}
 use Rattle.can_frame.specs.Fronts.{IsRegion, front_tail, BeginsRough}
 use Rattle.can_frame.specs.FieldReading.{number_at, ide, rtr_at, code_at, base_at, bytes_length, at_most_eight, fields_length, length_by, frame_at, digit}
 use Rattle.std.proofs.lemmas.Bool.Decides.{leb_tells, eqb_tells}
 use Rattle.can_frame.specs.Levels.{levels}
 use Rattle.can_frame.specs.declared.step.FaultKind.TheVariants.{Stuff, Form}
 use Rattle.can_frame.specs.Answers.{IsBody, FaultAnswers}
-use Rattle.can_frame.specs.Reading.{Inside, InRegion, InTail, Judges}
-use Rattle.can_frame.proofs.Stuffed.{one_more, five-opposite, no_sixth, stuff_bit}
+use Rattle.can_frame.specs.Reading.{Inside, InTail, Judges}
+use Rattle.can_frame.proofs.LevelRuns.{five-opposite}
+use Rattle.can_frame.proofs.Stuffed.{one_more, no_sixth, stuff_bit}
 use Rattle.can_frame.proofs.Numbers.{head_same, tail_same, peel, number-bound, levels-injective}
 use Rattle.can_frame.proofs.OneCheck.{one_crc}
 use Rattle.can_frame.proofs.OneStuffing.{IsStuffed-older, grows}
@@ -99,82 +99,60 @@ pub record Kept (text u : List Bool) : Type 0 where
   pub start : get_or u 0 false ≡ false
   pub few : length u ≤ fields_length u + 15
 
-plain_five : (r : List Bool) (x b : Bool) → five_equal r ≡ b → unstuffed (x ∷ r) ≡ x ∷ unstuffed r → five_equal r ≡ false
-unfolding unstuffed
-plain_five r x false e h = e
-plain_five r x true e h =
-    let short : unstuffed r ≡ x ∷ unstuffed r = sym (ap (λ b. cond b (unstuffed r) (x ∷ unstuffed r)) e) ∙ h in
-    absurd (omega (arith, ap length short))
-
-stuff_five : (r : List Bool) (x b : Bool) → five_equal r ≡ b → unstuffed (x ∷ r) ≡ unstuffed r → five_equal r ≡ true
-unfolding unstuffed
-stuff_five r x true e h = e
-stuff_five r x false e h =
-    let long : x ∷ unstuffed r ≡ unstuffed r = sym (ap (λ b. cond b (unstuffed r) (x ∷ unstuffed r)) e) ∙ h in
-    absurd (omega (arith, ap length long))
-
 start_more : (u : List Bool) (x : Bool) → get_or u 0 false ≡ false → (u ≡ [] → x ≡ false) → get_or (u ++ x ∷ []) 0 false ≡ false
 start_more [] x h k = k refl
 start_more (y ∷ u) x h k = h
 
-next_reverse : (text : List Bool) (level : Bool) → reverse (text ++ level ∷ []) ≡ level ∷ reverse text
+pub next_reverse : (text : List Bool) (level : Bool) → reverse (text ++ level ∷ []) ≡ level ∷ reverse text
 next_reverse text level = reverse-append text (level ∷ [])
 
-pub record AfterData (run : ℕ) (last : Bool) (u text : List Bool) (level : Bool) : Type 0 where
-  pub destuffed : HasRead run last (reverse (text ++ level ∷ []))
+-- behind a level of the text
+pub record AfterData (u text : List Bool) (level : Bool) : Type 0 where
   pub kept : Kept (text ++ level ∷ []) (u ++ level ∷ [])
-  pub plain : five_equal (reverse text) ≡ false
   pub short : length u < fields_length u + 15
 
-pub after_data : (run next : ℕ) (last newer : Bool) (u text : List Bool) (level : Bool) → InRegion run last u text →
-    HasRead next newer (level ∷ reverse text) × (unstuffed (level ∷ reverse text) ≡ level ∷ unstuffed (reverse text)) → (u ≡ [] → level ≡ false) → AfterData next newer u text level
-after_data run next last newer u text level h p sof =
+pub after_data : (u text : List Bool) (level : Bool) → Inside text u → five_equal (reverse text) ≡ false → (u ≡ [] → level ≡ false) → AfterData u text level
+after_data u text level h plain sof =
     let r = reverse text in
     let e = next_reverse text level in
-    let plain = plain_five r level (five_equal r) refl p.1 in
-    let short : length u < fields_length u + 15 = elim h.inside.unfinished [
+    let step = one_more r level plain h.stuffed in
+    let short : length u < fields_length u + 15 = elim h.unfinished [
       | inl s ↦ s
       | inr full ↦ absurd (cc (plain, full.1))
     ] in
     record {
-      destuffed = subst (HasRead next newer) (sym e) p.0;
       kept = record {
-        stuffed = subst IsStuffed (sym e) p.0.stuffed;
-        stands = ap unstuffed e ∙ p.1 ∙ ap (λ t. level ∷ t) h.inside.stands ∙ sym (reverse-append u (level ∷ []));
-        start = start_more u level h.inside.start sof;
+        stuffed = subst IsStuffed (sym e) step.0;
+        stands = ap unstuffed e ∙ step.1 ∙ ap (λ t. level ∷ t) h.stands ∙ sym (reverse-append u (level ∷ []));
+        start = start_more u level h.start sof;
         few = grow u level short;
       };
-      plain = plain;
       short = short;
     }
 
-pub record AfterStuff (run : ℕ) (last : Bool) (u text : List Bool) (level : Bool) : Type 0 where
-  pub destuffed : HasRead run last (reverse (text ++ level ∷ []))
+-- behind a stuff bit
+pub record AfterStuff (u text : List Bool) (level : Bool) : Type 0 where
   pub kept : Kept (text ++ level ∷ []) u
-  pub five : five_equal (reverse text) ≡ true
   pub ended : five_equal (reverse (text ++ level ∷ [])) ≡ false
 
 opposite_ended : (r : List Bool) (x : Bool) → five_equal r ≡ true → x ≡ not (newest r) → five_equal (x ∷ r) ≡ false
 opposite_ended [] x h e = absurd (cc h)
 opposite_ended (y ∷ r) x h e = ap (λ z. five_equal (z ∷ y ∷ r)) e ∙ five-opposite y r
 
-pub after_stuff : (run next : ℕ) (last newer : Bool) (u text : List Bool) (level : Bool) → InRegion run last u text →
-    HasRead next newer (level ∷ reverse text) × (unstuffed (level ∷ reverse text) ≡ unstuffed (reverse text)) → AfterStuff next newer u text level
-after_stuff run next last newer u text level h p =
+pub after_stuff : (u text : List Bool) (level : Bool) → Inside text u → five_equal (reverse text) ≡ true → level ≡ not (newest (reverse text)) → AfterStuff u text level
+after_stuff u text level h five opposite =
     let r = reverse text in
     let e = next_reverse text level in
-    let five = stuff_five r level (five_equal r) refl p.1 in
-    let few : length u ≤ fields_length u + 15 = elim h.inside.unfinished [ inl s ↦ omega (arith, s) | inr full ↦ omega (arith, full.0) ] in
+    let step = stuff_bit r level five h.stuffed opposite in
+    let few : length u ≤ fields_length u + 15 = elim h.unfinished [ inl s ↦ omega (arith, s) | inr full ↦ omega (arith, full.0) ] in
     record {
-      destuffed = subst (HasRead next newer) (sym e) p.0;
       kept = record {
-        stuffed = subst IsStuffed (sym e) p.0.stuffed;
-        stands = ap unstuffed e ∙ p.1 ∙ h.inside.stands;
-        start = h.inside.start;
+        stuffed = subst IsStuffed (sym e) step.0;
+        stands = ap unstuffed e ∙ step.1 ∙ h.stands;
+        start = h.start;
         few = few;
       };
-      five = five;
-      ended = ap five_equal e ∙ opposite_ended r level five (no_sixth r level five p.0.stuffed);
+      ended = ap five_equal e ∙ opposite_ended r level five opposite;
     }
 
 -- a whole region
@@ -251,25 +229,21 @@ goes_in text u level h b =
 region_reverse : (text m : List Bool) (level : Bool) → reverse ((text ++ level ∷ []) ++ m) ≡ reverse m ++ (level ∷ reverse text)
 region_reverse text m level = reverse-append (text ++ level ∷ []) m ∙ ap (λ t. reverse m ++ t) (next_reverse text level)
 
-not_opposite : (x y : Bool) → (x ≡ not y → ⊥) → x ≡ y
-not_opposite true true h = refl
-not_opposite true false h = absurd (h refl)
-not_opposite false true h = absurd (h refl)
-not_opposite false false h = refl
+not_itself : (x y : Bool) → x ≡ y → x ≡ not y → ⊥
+not_itself true true h k = cc k
+not_itself true false h k = cc h
+not_itself false true h k = cc h
+not_itself false false h k = cc k
 
-is_five : (r : List Bool) (x b : Bool) → five_equal r ≡ b → IsStuffed r → (IsStuffed (x ∷ r) → ⊥) → five_equal r ≡ true
-is_five r x true e h sixth = e
-is_five r x false e h sixth = absurd (sixth (one_more r x e h).0)
-
-pub stuff_fault : (text u : List Bool) (level : Bool) → Inside text u → (IsStuffed (level ∷ reverse text) → ⊥) → FaultAnswers Stuff text level
-stuff_fault text u level h sixth =
-    let r = reverse text in
-    let five = is_five r level (five_equal r) refl h.stuffed sixth in (
+pub stuff_fault : (text u : List Bool) (level : Bool) → Inside text u → five_equal (reverse text) ≡ true → level ≡ newest (reverse text) → FaultAnswers Stuff text level
+stuff_fault text u level h five same =
+    let r = reverse text in (
       completes text u h,
       five,
-      not_opposite level (newest r) (λ e. sixth (stuff_bit r level five h.stuffed e).0),
+      same,
       λ b. let g = goes_in text u level h b in
-          sixth (IsStuffed-older (reverse g.m) (level ∷ r) (subst IsStuffed (region_reverse text g.m level) g.is.stuffs.opposite)),
+          not_itself level (newest r) same
+          (no_sixth r level five (IsStuffed-older (reverse g.m) (level ∷ r) (subst IsStuffed (region_reverse text g.m level) g.is.stuffs.opposite))),
     )
 
 nothing_case : (x : Bool) (r : List Bool) (b : Bool) → five_equal r ≡ b → unstuffed (x ∷ r) ≡ [] → (unstuffed r ≡ [] → r ≡ []) → ⊥

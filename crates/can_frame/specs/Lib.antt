@@ -6,10 +6,10 @@ pub mod Crc
 pub mod Stuffing
 pub mod Spelling
 pub mod Register
+pub mod LevelRuns
 pub mod StuffingSteps
 pub mod IdParts
 pub mod FrameParts
-pub mod Destuffing
 pub mod FieldReading
 pub mod Fronts
 pub mod FrontLaws

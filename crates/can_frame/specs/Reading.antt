@@ -5,12 +5,13 @@ use Rattle.can_frame.specs.Frames.{FrameValue}
 use Rattle.can_frame.specs.Fields.{Unchecked, fields}
 use Rattle.can_frame.specs.Crc.{IsCrc}
 use Rattle.can_frame.specs.Stuffing.{five_equal, IsStuffed, unstuffed}
-use Rattle.can_frame.specs.Destuffing.{HasRead}
+use Rattle.can_frame.specs.LevelRuns.{EndsIn}
 use Rattle.can_frame.specs.Fronts.{IsRegion, front_tail}
 use Rattle.can_frame.specs.FieldReading.{fields_length}
 use Rattle.can_frame.specs.Answers.{Answers, IsLast, IsUndecided}
 use Rattle.can_frame.specs.declared.step.Step.{Step}
 use Rattle.can_frame.specs.declared.step.Step.TheVariants.{More, StuffBit, Body, Tail, Taken, Fault}
+use Rattle.can_frame.specs.declared.level_run.LevelRun.{LevelRun}
 use Rattle.can_frame.specs.declared.reader.Place.{Place}
 use Rattle.can_frame.specs.declared.reader.Place.TheVariants.{Region, AfterBody, Ended}
 use Rattle.can_frame.specs.declared.reader.Reader.{Reader}
@@ -22,9 +23,9 @@ pub record Inside (w u : List Bool) : Type 0 where
   pub start : get_or u 0 false ≡ false
   pub unfinished : (length u < fields_length u + 15) ⊎ ((length u ≡ fields_length u + 15) × (five_equal (reverse w) ≡ true))
 
--- within the stuffed region: the destuffer has read the text, and `levels` are what it stands for
-pub record InRegion (run : ℕ) (last : Bool) (levels text : List Bool) : Type 0 where
-  pub destuffed : HasRead run last (reverse text)
+-- within the stuffed region: the text ends in this run, and `levels` are what it stands for
+pub record InRegion (run : LevelRun) (levels text : List Bool) : Type 0 where
+  pub ends : EndsIn (reverse text) run
   pub inside : Inside text levels
 
 -- behind the stuffed region of f, with `seen` of the levels that follow
@@ -52,14 +53,14 @@ pub record HasEnded (step : Step) (text : List Bool) : Type 0 where
   pub last : IsLast step
 
 -- what the place says of the text
-abbrev pub StandsAt : Place → ℕ → Bool → List Bool → List Bool → Type 0
-StandsAt Region run last levels text = InRegion run last levels text
-StandsAt (AfterBody frame right seen) run last levels text = InTail frame right seen text
-StandsAt (Ended step) run last levels text = HasEnded step text
+abbrev pub StandsAt : Place → LevelRun → List Bool → List Bool → Type 0
+StandsAt Region run levels text = InRegion run levels text
+StandsAt (AfterBody frame right seen) run levels text = InTail frame right seen text
+StandsAt (Ended step) run levels text = HasEnded step text
 
 -- the reader stands after this text: it may have been pushed these levels since it was new
 abbrev pub StandsAfter : Reader → List Bool → Type 0
-StandsAfter r text = StandsAt r.place r.destuffer.run r.destuffer.last r.levels.items text
+StandsAfter r text = StandsAt r.place r.run r.levels.items text
 
 -- neither Taken nor a Fault came yet
 abbrev pub IsOpen : Place → Type 0

@@ -1,5 +1,5 @@
 -- Frames under new identifiers, as a gateway's route sends them on: RTR, the data length code and the bytes stay as they are.
-use Rattle.std.specs.Prelude.{ℕ, nat_eq, Bool, false, List}
+use Rattle.std.specs.Prelude.{nat_eq, Bool, false, List}
 use Rattle.std.specs.List.{find}
 use Rattle.std.specs.Option.{option_map_or}
 use Rattle.can_frame.specs.Frames.{Identifier, standard, extended, FrameValue}

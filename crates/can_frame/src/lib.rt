@@ -3,12 +3,12 @@
 #![tactic(auto)]
 
 mod crc;
-mod destuffing;
 mod error;
 mod frame;
 mod identifier;
 mod key;
 pub mod laws;
+mod level_run;
 mod memory;
 mod reader;
 mod reading;
@@ -21,6 +21,7 @@ pub use crate::crc::crc15;
 pub use crate::error::FrameError;
 pub use crate::frame::Frame;
 pub use crate::identifier::Id;
+pub use crate::level_run::LevelRun;
 pub use crate::memory::Memory;
 pub use crate::reader::Reader;
 pub use crate::rewrite::{Rewrite, rewritten};

@@ -1,6 +1,7 @@
 //! A receiver's reading of a frame, from SOF on.
 
-ghost use Rattle.std.specs.Prelude.{◌≡◌, ◌<◌, ◌+◌, ◌∷◌, ◌++◌, [], Bool, true, false, List, length};
+ghost use Rattle.std.specs.Prelude.{◌≡◌, ◌<◌, ◌+◌, ◌∷◌, ◌++◌, [], Bool, true, false, List, length, reverse};
+ghost use Rattle.can_frame.specs.Stuffing.{five_equal};
 ghost use Rattle.can_frame.specs.FieldReading.{fields_length, frame_at};
 ghost use Rattle.can_frame.specs.Reading.{
   InRegion,
@@ -14,8 +15,8 @@ ghost use Rattle.can_frame.specs.Reading.{
 };
 
 use crate::crc::crc15;
-use crate::destuffing::{Destuffer, Piece};
 use crate::frame::Frame;
+use crate::level_run::LevelRun;
 use crate::reading::{fields_len, frame_of, number_of};
 use crate::step::{FaultKind, Step};
 use arrayvec::ArrayVec;
@@ -37,7 +38,8 @@ enum Place {
 /// code of 9 to 15 as 8.
 #[derive(Drop)]
 pub struct Reader {
-    destuffer: Destuffer,
+    // how the text so far ends, within the stuffed region
+    run: LevelRun,
     // the unstuffed levels so far: fields of at most 103 and fifteen of the CRC
     levels: ArrayVec<bool, 118>,
     place: Place,
@@ -52,7 +54,7 @@ impl Reader {
         ensures reading { IsReading result }
     {
         Reader {
-            destuffer: Destuffer::new(),
+            run: LevelRun::new(),
             levels: ArrayVec::new(),
             place: Place::Region,
             told: Step::More,
@@ -89,13 +91,13 @@ impl Reader {
         if self.levels.is_empty() {
             return false;
         }
-        if self.destuffer.run() >= 5 {
+        if self.run.is_full() {
             return false;
         }
         if is_complete_next(self.levels.as_slice()) {
             return false;
         }
-        self.destuffer.read_data(level);
+        self.run.push(level);
         keep(&mut self.levels, level);
         true
     }
@@ -141,31 +143,40 @@ impl Reader {
     /// A level of the stuffed region.
     fn push_region(&mut self, level: bool) -> Step
         ensures { (text : List Bool) → self.old.place ≡ Place.Region
-            → InRegion self.old.destuffer.run self.old.destuffer.last self.old.levels.items text
+            → InRegion self.old.run self.old.levels.items text
             → Next result self.new text level }
     {
         if level && self.levels.is_empty() {
             return self.fail(FaultKind::Form);
         }
-        match self.destuffer.push(level) {
-            Piece::Fault => self.fail(FaultKind::Stuff),
-            Piece::Stuff => {
-                if is_complete(self.levels.as_slice()) {
-                    return body(self.levels.as_slice(), &mut self.place);
-                }
-                Step::StuffBit
-            }
-            Piece::Data => {
-                keep(&mut self.levels, level);
-                let complete = is_complete(self.levels.as_slice());
-                // five equal levels want a stuff bit, also behind the last bit of the CRC
-                let wants_stuff_bit = self.destuffer.run() >= 5;
-                if complete && !wants_stuff_bit {
-                    return body(self.levels.as_slice(), &mut self.place);
-                }
-                Step::More
-            }
+        if self.run.is_full() {
+            return self.push_behind_five(level);
         }
+        self.run.push(level);
+        keep(&mut self.levels, level);
+        let complete = is_complete(self.levels.as_slice());
+        // five equal levels want a stuff bit, also behind the last bit of the CRC
+        let wants_stuff_bit = self.run.is_full();
+        if complete && !wants_stuff_bit {
+            return body(self.levels.as_slice(), &mut self.place);
+        }
+        Step::More
+    }
+
+    /// A level behind five equal ones: a stuff bit, if it is their opposite.
+    fn push_behind_five(&mut self, level: bool) -> Step
+        ensures { (text : List Bool) → self.old.place ≡ Place.Region → five_equal (reverse text) ≡ true
+            → InRegion self.old.run self.old.levels.items text
+            → Next result self.new text level }
+    {
+        if level == self.run.level() {
+            return self.fail(FaultKind::Stuff);
+        }
+        self.run.push(level);
+        if is_complete(self.levels.as_slice()) {
+            return body(self.levels.as_slice(), &mut self.place);
+        }
+        Step::StuffBit
     }
 
     /// A level behind the stuffed region.

@@ -1,5 +1,5 @@
 -- What is begun and told at the bits of an attempt.
-use Rattle.std.proofs.Common.{◌≡◌, inl, inr, ◌⊎◌, ℕ, suc, ◌+◌, ◌-◌, ◌<◌, ◌≤◌, Bool, List, [], ◌∷◌, ◌++◌, length, refl, sym, ap, subst, arith, ◌∙◌}
+use Rattle.std.proofs.Common.{◌≡◌, inl, inr, ◌⊎◌, ℕ, ◌+◌, ◌-◌, ◌≤◌, Bool, List, [], ◌∷◌, ◌++◌, length, refl, sym, ap, subst, arith, ◌∙◌}
 use Rattle.std.specs.List.{Contains}
 use Rattle.std.proofs.lemmas.List.{append-nil, append_assoc, length-append}
 use Rattle.std.proofs.lemmas.List.Elements.{Contains-append_cases, Contains-append_left, Contains-append_right}
@@ -7,17 +7,17 @@ use Rattle.can_frame.specs.Frames.{FrameValue}
 use Rattle.can_node.specs.declared.confinement.ErrorEvent.{ErrorEvent}
 use Rattle.can_node.specs.declared.confinement.ErrorState.{ErrorState}
 use Rattle.can_node.specs.declared.outcome.Outcome.{Outcome}
-use Rattle.can_node.specs.declared.outcome.Outcome.TheVariants.{Completed, Lost, Errored, WentOff}
+use Rattle.can_node.specs.declared.outcome.Outcome.TheVariants.{Completed}
 use Rattle.can_node.specs.Confinement.{state_after}
-use Rattle.can_node.specs.Pairs.{Pair, driving}
+use Rattle.can_node.specs.Pairs.{Pair}
 use Rattle.can_node.specs.Phases.{Phase}
 use Rattle.can_node.specs.Phases.Phase.{Send}
-use Rattle.can_node.specs.Episodes.{Begun, Episode}
+use Rattle.can_node.specs.Episodes.{Episode}
 use Rattle.can_node.specs.Episodes.Course.{completed, lost, stuff_lost, unacknowledged, bit_differs}
 use Rattle.can_node.specs.Episodes.Episode.{ends, off_within, off_at_end}
 use Rattle.can_node.specs.Histories.{Past, Whole, with_episode, noted, begins, IsHistory}
 use Rattle.can_node.specs.Histories.Whole.{switched_on, then}
-use Rattle.can_node.specs.Cuts.{Onward, Leads, HasEpisode, HasLast, IsAttempt}
+use Rattle.can_node.specs.Cuts.{Onward, Leads, HasLast, IsAttempt}
 use Rattle.can_node.specs.Cuts.Onward.{stays, goes_on}
 use Rattle.can_node.specs.Attempts.{first_bit, IsAttemptFrom, IsOpenAttempt, SendsAlone}
 use Rattle.can_node.proofs.Texts.{starts}

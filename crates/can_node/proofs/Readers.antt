@@ -2,6 +2,7 @@
 use Rattle.std.proofs.Common.{◌≡◌, ℕ, Bool, true, List, ◌∷◌, ◌++◌, []}
 use Rattle.can_frame.specs.Answers.{IsUndecided}
 use Rattle.can_frame.specs.Reading.{StandsAfter, StandsAt, HasEnded, IsOpen, IsReading}
+use Rattle.can_frame.specs.declared.level_run.LevelRun.{LevelRun}
 use Rattle.can_frame.specs.declared.reader.Reader.{Reader}
 use Rattle.can_frame.specs.declared.reader.Place.{Place}
 use Rattle.can_frame.specs.declared.reader.Place.TheVariants as place
@@ -26,13 +27,13 @@ no_end step.Tail text h u = h.last
 no_end (step.Taken frame) text h u = u.no_front frame (h.before ++ h.level ∷ []) h.more h.whole h.answer
 no_end (step.Fault kind) text h u = u.no_fault (h.before ++ h.level ∷ []) h.more h.whole (fault_is kind h.before h.level h.answer)
 
-open_at : (p : Place) (run : ℕ) (last : Bool) (levels text : List Bool) → StandsAt p run last levels text → IsUndecided text → IsOpen p
-open_at place.Region run last levels text h u = tt
-open_at (place.AfterBody frame right seen) run last levels text h u = tt
-open_at (place.Ended s) run last levels text h u = no_end s text h u
+open_at : (p : Place) (run : LevelRun) (levels text : List Bool) → StandsAt p run levels text → IsUndecided text → IsOpen p
+open_at place.Region run levels text h u = tt
+open_at (place.AfterBody frame right seen) run levels text h u = tt
+open_at (place.Ended s) run levels text h u = no_end s text h u
 
 pub still_reading : (reader : Reader) (text : List Bool) → StandsAfter reader text → IsUndecided text → IsReading reader
-still_reading reader text h u = open_at reader.place reader.destuffer.run reader.destuffer.last reader.levels.items text h u
+still_reading reader text h u = open_at reader.place reader.run reader.levels.items text h u
 
 agrees_read_on : {state : State} {text : List Bool} {at : ℕ} {phase : Phase} {part : List Pair} {events : List ErrorEvent} → Agrees state text at phase part events → is_taking state ≡ true → IsReadOn text
 agrees_read_on (in_sync broken b below) takes = absurd (cc takes)

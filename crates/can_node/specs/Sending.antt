@@ -2,8 +2,8 @@
 use Rattle.std.specs.Prelude.{◌≡◌, ℕ, ◌≤◌, min, Bool, true, false, List, length, reverse, take, get_or}
 use Rattle.can_frame.specs.Frames.{FrameValue, IsFrameValue}
 use Rattle.can_frame.specs.Fields.{senders_choice}
-use Rattle.can_frame.specs.Stuffing.{five_equal, newest, unstuffed}
-use Rattle.can_frame.specs.StuffingSteps.{run_of}
+use Rattle.can_frame.specs.Stuffing.{five_equal, unstuffed}
+use Rattle.can_frame.specs.LevelRuns.{EndsIn}
 use Rattle.can_frame.specs.Spelling.{Spells}
 use Rattle.can_node.specs.Sends.{rtr_place}
 use Rattle.can_node.specs.Phases.{Phase}
@@ -29,11 +29,10 @@ Holds phase spelling = Unit {0}
 abbrev pub level_at : Spelling → ℕ → Bool
 level_at spelling place = get_or spelling.levels.items place true
 
--- how a text ends, newest level first: in how many equal levels, five or more counting as five, and in which
--- level; and how many of its levels are no stuff bits, 255 or more counting as 255
+-- how a text ends, which is given with its newest level first, and how many of its levels are no stuff bits, 255 or
+-- more counting as 255
 pub record Tallies (tally : Tally) (newest_first : List Bool) : Type 0 where
-  pub run_is : tally.run ≡ min (run_of newest_first) 5
-  pub last_is : tally.last ≡ newest newest_first
+  pub ends : EndsIn newest_first tally.run
   pub data_is : tally.data ≡ min (length (unstuffed newest_first)) 255
 
 -- what the bit behind a text is, which is given with its newest level first, where RTR has this place

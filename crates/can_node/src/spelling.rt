@@ -1,13 +1,11 @@
 //! A frame as its sender drives it.
 
 ghost use Rattle.std.specs.Prelude.{◌≡◌, ◌≤◌, ◌<◌, ◌+◌, ◌∷◌, List, Bool, true, false, length, reverse, min};
-ghost use Rattle.can_frame.specs.Stuffing.{newest};
-ghost use Rattle.can_frame.specs.StuffingSteps.{run_of};
 ghost use Rattle.can_node.specs.Sends.{rtr_place};
 ghost use Rattle.can_node.specs.Sending.{IsSpelling, IsBitAt, level_at, Tallies, SaysBit};
 
 use arrayvec::ArrayVec;
-use can_frame::{Frame, Id, wire};
+use can_frame::{Frame, Id, LevelRun, wire};
 
 /// What a bit is for a sender that drives it recessive and samples it dominant.
 #[derive(Clone, Copy)]
@@ -112,48 +110,21 @@ fn place_of_rtr(id: Id) -> u8
 }
 
 /// How a text ends, and how many of its levels are no stuff bits.
-#[derive(Clone, Copy)]
+#[derive(Drop)]
 struct Tally {
-    // equal levels at its end, five at most
-    run: u8,
-    last: bool,
+    run: LevelRun,
     data: u8,
 }
 
-/// The run behind one more level.
-fn next_run(run: u8, last: bool, level: bool) -> u8
-    ensures { (older : List Bool) → newest older ≡ last → run ≡ min (run_of older) 5
-        → result ≡ min (run_of (level ∷ older)) 5 }
-{
-    if run == 0 {
-        return 1;
-    }
-    if level == last {
-        if run < 5 {
-            return run + 1;
-        }
-        return 5;
-    }
-    1
-}
-
 impl Tally {
-    /// The text and one more level.
-    fn with(self, level: bool) -> Tally
-        ensures { (older : List Bool) → Tallies self older → Tallies result (level ∷ older) }
+    /// The next level of the text.
+    fn push(&mut self, level: bool)
+        ensures { (text : List Bool) → Tallies self.old text → Tallies self.new (level ∷ text) }
     {
-        let run = next_run(self.run, self.last, level);
-        if self.run >= 5 {
-            return Tally {
-                run,
-                last: level,
-                data: self.data,
-            };
-        }
-        Tally {
-            run,
-            last: level,
-            data: self.data.saturating_add(1),
+        let is_stuff_bit = self.run.is_full();
+        self.run.push(level);
+        if !is_stuff_bit {
+            self.data = self.data.saturating_add(1);
         }
     }
 }
@@ -163,12 +134,11 @@ fn tally_of(text: &[bool]) -> Tally
     ensures { Tallies result (reverse text.now) }
 {
     let mut tally = Tally {
-        run: 0,
-        last: true,
+        run: LevelRun::new(),
         data: 0,
     };
     for level in text {
-        tally = tally.with(*level);
+        tally.push(*level);
     }
     tally
 }
@@ -181,7 +151,7 @@ fn bit_behind(text: &[bool], rtr: u8) -> SendBit
     if tally.data > rtr {
         return SendBit::Other;
     }
-    if tally.run >= 5 {
+    if tally.run.is_full() {
         return SendBit::ArbitrationStuffBit;
     }
     if tally.data == 0 {
