@@ -1,2 +1,4 @@
+pub mod Ascii
+pub mod Decimal
 pub mod Hexadecimal
 pub mod LineLaws

@@ -1,0 +1,59 @@
+//! A number's decimal digits.
+
+ghost use Rattle.std.specs.Prelude.{◌≡◌, ◌+◌, ◌/◌, ◌%◌, ◌<◌, ◌≤◌, ◌∷◌, ◌++◌, length, drop, OnOk};
+ghost use Rattle.std.specs.Fmt.{decimal};
+
+use std::alloc::AllocError;
+
+/// How many digits the greatest `u64` has.
+const MOST_DIGITS: usize = 20;
+
+/// Writes the two digits of a number below 100.
+fn write_pair(digits: &mut [u8], at: usize, pair: u64)
+    requires pair { pair < 100 }
+    requires room { at + 2 ≤ length digits.old }
+    ensures { drop at digits.new ≡ (48 + pair / 10) ∷ (48 + pair % 10) ∷ drop (at + 2) digits.old }
+{
+    digits[at] = b'0' + (pair / 10) as u8;
+    digits[at + 1] = b'0' + (pair % 10) as u8;
+}
+
+/// Writes the one or two digits of a number below 100, so that they end at `end`, and tells where they start.
+fn write_first(digits: &mut [u8], end: usize, number: u64) -> usize
+    requires few { number < 100 }
+    requires room { length (decimal number) ≤ end }
+    requires end { end ≤ length digits.old }
+    ensures start { result ≤ end }
+    ensures written { drop result digits.new ≡ decimal number ++ drop end digits.old }
+{
+    if number < 10 {
+        digits[end - 1] = b'0' + number as u8;
+        return end - 1;
+    }
+    write_pair(digits, end - 2, number);
+    end - 2
+}
+
+/// Writes the digits of a number at the end, two at a time, and tells where they start.
+fn write_digits(digits: &mut [u8; MOST_DIGITS], number: u64) -> usize
+    ensures start { result ≤ 20 }
+    ensures written { drop result digits.new ≡ decimal number }
+{
+    let mut left = number;
+    let mut at = MOST_DIGITS;
+    while left >= 100 {
+        at -= 2;
+        write_pair(digits, at, left % 100);
+        left /= 100;
+    }
+    write_first(digits, at, left)
+}
+
+/// Adds a number in decimal.
+pub fn push_decimal(text: &mut Vec<u8>, number: u64) -> Result<(), AllocError>
+    ensures { OnOk result (text.new.items ≡ text.old.items ++ decimal number) }
+{
+    let mut digits = [0; MOST_DIGITS];
+    let start = write_digits(&mut digits, number);
+    text.extend_from_slice(&digits[start..])
+}
