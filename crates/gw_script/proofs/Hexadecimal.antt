@@ -1,9 +1,26 @@
 -- Hexadecimal digits, one by one and two by two.
-use Rattle.std.proofs.Common.{◌≡◌, ℕ, zero, suc, ◌+◌, ◌-◌, ◌/◌, ◌%◌, ◌^◌, ◌<◌, List, [], ◌∷◌, ◌++◌, length, replicate, true, false, cond, refl, ap, sym, ◌∙◌, arith, inl, inr, eq-zero-or-pos}
+use Rattle.std.proofs.Common.{◌≡◌, ℕ, zero, suc, ◌+◌, ◌-◌, ◌/◌, ◌%◌, ◌^◌, ◌<◌, List, [], ◌∷◌, ◌++◌, Bool, length, replicate, true, false, cond, refl, ap, sym, ◌∙◌, arith, inl, inr, eq-zero-or-pos, get_or, eqb, eqb→eq, T, ◌&&◌}
+use lib.Ieee.Fits.{and_l, and_r}
 use borrow.Author.Tests.{eq-eqb, ne_eqb}
 use Rattle.can_frame.specs.Frames.{Identifier, standard, extended, IsIdentifier, is_extended_id, number_of}
 use Rattle.std.specs.Fmt.{digits, digits_onto, digit_glyph}
+use Rattle.gw_script.specs.declared.frame_text.TheConstants.{DIGITS}
 use Rattle.gw_script.specs.FrameTexts.{hexadecimal, identifier_text}
+
+-- the first entries of the table are digits
+abbrev are_digits : ℕ → Bool
+are_digits zero = true
+are_digits (suc d) = eqb (get_or DIGITS d 0) (digit_glyph false d) && are_digits d
+
+first-digits : (count d : ℕ) → T (are_digits count) → d < count → get_or DIGITS d 0 ≡ digit_glyph false d
+first-digits zero d are below = absurd (omega arith)
+first-digits (suc count) d are below = elim (eq-zero-or-pos (count - d)) [
+  | inl none ↦ let last : d ≡ count = omega arith in rw last (eqb→eq _ _ (and_l _ (are_digits count) are))
+  | inr some ↦ first-digits count d (and_r _ (are_digits count) are) (omega arith)
+]
+
+pub DIGITS_at : (d : ℕ) → d < 16 → get_or DIGITS d 0 ≡ digit_glyph false d
+DIGITS_at d few = first-digits 16 d tt few
 
 abbrev glyph : ℕ → ℕ
 glyph n = digit_glyph false (n % 16)

@@ -1,6 +1,6 @@
 //! A number's decimal digits.
 
-ghost use Rattle.std.specs.Prelude.{◌≡◌, ◌+◌, ◌/◌, ◌%◌, ◌<◌, ◌≤◌, ◌∷◌, ◌++◌, length, drop, OnOk};
+ghost use Rattle.std.specs.Prelude.{◌≡◌, ◌+◌, ◌/◌, ◌%◌, ◌<◌, ◌≤◌, ◌∷◌, ◌++◌, length, drop, codes, OnOk};
 ghost use Rattle.std.specs.Fmt.{decimal};
 
 use std::alloc::AllocError;
@@ -34,13 +34,15 @@ fn write_first(digits: &mut [u8], end: usize, number: u64) -> usize
     end - 2
 }
 
-/// Writes the digits of a number at the end, two at a time, and tells where they start.
-fn write_digits(digits: &mut [u8; MOST_DIGITS], number: u64) -> usize
-    ensures start { result ≤ 20 }
-    ensures written { drop result digits.new ≡ decimal number }
+/// Writes the digits of a number, two at a time, so that they end at `end`, and tells where they start.
+fn write_digits(digits: &mut [u8], end: usize, number: u64) -> usize
+    requires room { 20 ≤ end }
+    requires end { end ≤ length digits.old }
+    ensures start { result ≤ end }
+    ensures written { drop result digits.new ≡ decimal number ++ drop end digits.old }
 {
     let mut left = number;
-    let mut at = MOST_DIGITS;
+    let mut at = end;
     while left >= 100 {
         at -= 2;
         write_pair(digits, at, left % 100);
@@ -54,6 +56,15 @@ pub fn push_decimal(text: &mut Vec<u8>, number: u64) -> Result<(), AllocError>
     ensures { OnOk result (text.new.items ≡ text.old.items ++ decimal number) }
 {
     let mut digits = [0; MOST_DIGITS];
-    let start = write_digits(&mut digits, number);
+    let start = write_digits(&mut digits, MOST_DIGITS, number);
+    text.extend_from_slice(&digits[start..])
+}
+
+/// Adds a number in decimal, and a space.
+pub fn push_decimal_and_space(text: &mut Vec<u8>, number: u64) -> Result<(), AllocError>
+    ensures { OnOk result (text.new.items ≡ text.old.items ++ (decimal number ++ codes " ")) }
+{
+    let mut digits = [b' '; MOST_DIGITS + 1];
+    let start = write_digits(&mut digits, MOST_DIGITS, number);
     text.extend_from_slice(&digits[start..])
 }

@@ -8,8 +8,8 @@ ghost use Rattle.gw_script.specs.FrameTexts.{frame_text};
 ghost use Rattle.gw_script.specs.NamedPlaces.{label_of, NamesRequest, NamesEvent};
 ghost use Rattle.gw_script.specs.ReportTexts.{kind_text, told_text, label_text, segment_name, node_name, event_line};
 
-use crate::digits::push_decimal;
-use crate::frame_text::text_of;
+use crate::digits::{push_decimal, push_decimal_and_space};
+use crate::frame_text::{FrameText, write_frame};
 use crate::report_names::{node_name, route_name, route_of, segment_name};
 use can_frame::Frame;
 use can_node::ErrorKind;
@@ -33,47 +33,41 @@ fn kind_text(kind: ErrorKind) -> &'static str
 fn push_frame(text: &mut Vec<u8>, frame: &Frame) -> Result<(), AllocError>
     ensures { OnOk result (text.new.items ≡ text.old.items ++ frame_text frame.now) }
 {
-    text.extend_from_slice(text_of(frame).as_slice())
+    let mut bytes = FrameText::new();
+    write_frame(&mut bytes, frame);
+    text.extend_from_slice(bytes.as_slice())
 }
 
-/// Adds the number of a bit, and a space.
-fn push_bit(text: &mut Vec<u8>, bit: u64) -> Result<(), AllocError>
-    ensures { OnOk result (text.new.items ≡ text.old.items ++ (decimal bit ++ codes " ")) }
-{
-    push_decimal(text, bit)?;
-    text.extend_from_slice(b" ")
-}
-
-/// Adds what happened at a node.
+/// Adds a space and what happened at a node.
 fn push_told(text: &mut Vec<u8>, told: &Told) -> Result<(), AllocError>
-    ensures { OnOk result (text.new.items ≡ text.old.items ++ told_text told.now) }
+    ensures { OnOk result (text.new.items ≡ text.old.items ++ (codes " " ++ told_text told.now)) }
 {
     match told {
         Told::Started { frame, .. } => {
-            text.extend_from_slice(b"started ")?;
+            text.extend_from_slice(b" started ")?;
             push_frame(text, frame)
         }
         Told::Took { start, frame } => {
-            text.extend_from_slice(b"took ")?;
-            push_bit(text, *start)?;
+            text.extend_from_slice(b" took ")?;
+            push_decimal_and_space(text, *start)?;
             push_frame(text, frame)
         }
         Told::Completed { start, frame, .. } => {
-            text.extend_from_slice(b"completed ")?;
-            push_bit(text, *start)?;
+            text.extend_from_slice(b" completed ")?;
+            push_decimal_and_space(text, *start)?;
             push_frame(text, frame)
         }
         Told::Lost { start } => {
-            text.extend_from_slice(b"lost ")?;
+            text.extend_from_slice(b" lost ")?;
             push_decimal(text, *start)
         }
         Told::Error(kind) => {
-            text.extend_from_slice(b"error ")?;
+            text.extend_from_slice(b" error ")?;
             text.extend_from_slice(kind_text(*kind).as_bytes())
         }
-        Told::Off => text.extend_from_slice(b"off"),
-        Told::Back => text.extend_from_slice(b"back"),
-        Told::Reaped(_) => text.extend_from_slice(b"reaped"),
+        Told::Off => text.extend_from_slice(b" off"),
+        Told::Back => text.extend_from_slice(b" back"),
+        Told::Reaped(_) => text.extend_from_slice(b" reaped"),
     }
 }
 
@@ -124,13 +118,12 @@ fn push_place(
     requires { NamesEvent script.now segment event.now }
     ensures { OnOk result
         (text.new.items ≡ text.old.items ++ (name.now ++ (codes " " ++ (decimal event.now.bit
-        ++ (codes " " ++ (node_name script.now segment event.now.node ++ codes " ")))))) }
+        ++ (codes " " ++ node_name script.now segment event.now.node))))) }
 {
     text.extend_from_slice(name.as_bytes())?;
     text.extend_from_slice(b" ")?;
-    push_bit(text, event.bit)?;
-    text.extend_from_slice(node_name(script, segment, event.node as usize).as_bytes())?;
-    text.extend_from_slice(b" ")
+    push_decimal_and_space(text, event.bit)?;
+    text.extend_from_slice(node_name(script, segment, event.node as usize).as_bytes())
 }
 
 /// Adds the line of an event of the segment with this name.

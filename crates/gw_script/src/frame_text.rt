@@ -1,6 +1,6 @@
 //! A frame as a line shows it.
 
-ghost use Rattle.std.specs.Prelude.{◌≡◌, ◌+◌, ◌*◌, ◌<◌, ◌≤◌, ◌++◌, length, false, OnOk, string_bytes};
+ghost use Rattle.std.specs.Prelude.{◌≡◌, ◌+◌, ◌*◌, ◌<◌, ◌≤◌, [], ◌++◌, length, false, OnOk, string_bytes};
 ghost use Rattle.std.specs.Fmt.{digit_glyph};
 ghost use Rattle.arrayvec.specs.ArrayVec.{array_vec_len};
 ghost use Rattle.gw_script.specs.FrameTexts.{hexadecimal, identifier_text, bytes_text, frame_text};
@@ -14,6 +14,9 @@ const LONGEST: usize = 32;
 
 /// The text of a frame, or the beginning of it.
 pub type FrameText = ArrayVec<u8, LONGEST>;
+
+/// The digits of 0 to 15.
+static DIGITS: [u8; 16] = *b"0123456789abcdef";
 
 fn push_word(text: &mut FrameText, word: &[u8])
     requires { array_vec_len text.old + length word.now ≤ 32 }
@@ -29,11 +32,7 @@ fn digit(number: u8) -> u8
     requires { number < 16 }
     ensures { result ≡ digit_glyph false number }
 {
-    if number < 10 {
-        b'0' + number
-    } else {
-        b'a' - 10 + number
-    }
+    DIGITS[number as usize]
 }
 
 /// Adds a byte's two digits.
@@ -79,21 +78,20 @@ fn push_bytes(text: &mut FrameText, bytes: &[u8])
     }
 }
 
-/// A frame: the identifier in lower-case hexadecimal, of three digits (standard) or eight
-/// (extended), then `data` and the bytes, or `remote` and the data length code.
-pub fn text_of(frame: &Frame) -> FrameText
-    ensures { result.items ≡ frame_text frame.now }
+/// Writes a frame into an empty text: the identifier in lower-case hexadecimal, of three digits (standard)
+/// or eight (extended), then `data` and the bytes, or `remote` and the data length code.
+pub fn write_frame(text: &mut FrameText, frame: &Frame)
+    requires { text.old.items ≡ [] }
+    ensures { text.new.items ≡ frame_text frame.now }
 {
-    let mut text = ArrayVec::new();
-    push_identifier(&mut text, frame.id());
+    push_identifier(text, frame.id());
     if frame.is_remote() {
-        push_word(&mut text, b" remote ");
+        push_word(text, b" remote ");
         text.push(b'0' + frame.dlc());
     } else {
-        push_word(&mut text, b" data ");
-        push_bytes(&mut text, frame.bytes());
+        push_word(text, b" data ");
+        push_bytes(text, frame.bytes());
     }
-    text
 }
 
 /// Adds a frame: the identifier in lower-case hexadecimal, of three digits (standard) or eight
@@ -101,7 +99,9 @@ pub fn text_of(frame: &Frame) -> FrameText
 pub fn push_frame(text: &mut String, frame: &Frame) -> Result<(), AllocError>
     ensures { OnOk result (string_bytes text.new ≡ string_bytes text.old ++ frame_text frame.now) }
 {
-    match std::str::from_utf8(text_of(frame).as_slice()) {
+    let mut bytes = FrameText::new();
+    write_frame(&mut bytes, frame);
+    match std::str::from_utf8(bytes.as_slice()) {
         Ok(shown) => text.push_str(shown),
         Err(_) => unreachable!(),
     }

@@ -1,16 +1,14 @@
 -- Each pair is written in front of those behind it.
-use Rattle.std.proofs.Common.{◌≡◌, ◌+◌, ◌-◌, ◌++◌, ap, ◌∙◌, arith, append_assoc}
-use Rattle.std.proofs.lemmas.List.{append-nil, drop_all}
+use Rattle.std.proofs.Common.{◌≡◌, ◌+◌, ◌-◌, refl, arith, append_assoc}
 use Rattle.std.proofs.lemmas.Fmt.{length-decimal-le}
-use Rattle.std.specs.Fmt.{decimal}
 use Rattle.gw_script.proofs.Decimal.{decimal_pair, length_pair}
 use Rattle.gw_script.proofs.digits.write_digits.Goals as goal
 
 pub loop-left-init : goal.loop-left-init
 loop-left-init c = record {
-  room = length-decimal-le 20 c.args.number (omega arith) (omega arith) (omega arith);
+  room = omega (arith, length-decimal-le 20 c.args.number (omega arith) (omega arith) (omega arith));
   at = omega arith;
-  written = ap (λ xs. decimal c.args.number ++ xs) (drop_all 20 c.args.digits.now (omega arith)) ∙ append-nil (decimal c.args.number);
+  written = refl;
 }
 
 pub overflow_sub-at : goal.overflow_sub-at

@@ -5,8 +5,8 @@ use Rattle.gw_script.proofs.digits.write_digits.Given as goal
 abbrev pub invariant-loop-left : goal.invariant-loop-left
 invariant-loop-left l = record {
   room : length (decimal l.left) ≤ l.at;
-  at : l.at ≤ 20;
-  written : decimal l.left ++ drop l.at l.digits ≡ decimal l.number;
+  at : l.at ≤ l.end;
+  written : decimal l.left ++ drop l.at l.digits ≡ decimal l.number ++ drop l.end l.fn.digits;
 }
 
 abbrev pub decreases-loop-left : goal.decreases-loop-left

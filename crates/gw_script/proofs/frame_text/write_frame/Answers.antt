@@ -4,7 +4,7 @@ use Rattle.std.proofs.lemmas.Fmt.{decimal_digit}
 use Rattle.can_frame.specs.Frames.{Content, data_bytes, remote_code}
 use Rattle.can_frame.specs.Fields.{is_remote, length_code}
 use Rattle.gw_script.specs.FrameTexts.{content_text}
-use Rattle.gw_script.proofs.frame_text.text_of.Goals as goal
+use Rattle.gw_script.proofs.frame_text.write_frame.Goals as goal
 
 remote-text : (content : Content) (code : ℕ) → true ≡ is_remote content → code ≡ length_code content → code ≤ 8 →
     content_text content ≡ codes "remote " ++ ((48 + code) ∷ [])
@@ -18,7 +18,7 @@ returns-then-is_remote c =
       c.push.ensures.items,
       c.push_word.ensures,
       c.push_identifier.ensures.items,
-      c.new-text.ensures,
+      c.requires,
       c.id.ensures,
     )
     (simp append_assoc)
