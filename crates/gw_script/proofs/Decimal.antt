@@ -1,10 +1,15 @@
 -- A number's decimal digits, two at a time.
-use Rattle.std.proofs.Common.{◌≡◌, ℕ, ◌+◌, ◌/◌, ◌%◌, ◌^◌, ◌<◌, ◌≤◌, List, [], ◌∷◌, ◌++◌, length, ap, ◌∙◌, arith, append_assoc, length-append}
+use Rattle.std.proofs.Common.{◌≡◌, ℕ, ◌+◌, ◌*◌, ◌/◌, ◌%◌, ◌^◌, ◌<◌, ◌≤◌, List, [], ◌∷◌, ◌++◌, length, ap, ◌∙◌, arith, append_assoc, length-append, get_or, zero-add}
 use Rattle.std.proofs.lemmas.Fmt.{decimal_digit, decimal_step}
 use Rattle.std.specs.Fmt.{decimal}
+use Rattle.gw_script.specs.declared.digits.TheConstants.{PAIRS}
+use Rattle.gw_script.proofs.Tables.{pairs_at}
 
 abbrev pub pair : ℕ → List ℕ
 pair p = (48 + p / 10) ∷ (48 + p % 10) ∷ []
+
+pub PAIRS_at : (p : ℕ) → p < 100 → (get_or PAIRS (p * 2) 0 ≡ 48 + p / 10) × (get_or PAIRS (p * 2 + 1) 0 ≡ 48 + p % 10)
+PAIRS_at p few = rw zero-add at (pairs_at (λ n. 48 + n / 10) (λ n. 48 + n % 10) 100 0 p few)
 
 pub length_one : (n : ℕ) → n < 10 → length (decimal n) ≡ 1
 length_one n few = ap length (decimal_digit n few)

@@ -1,26 +1,11 @@
 -- Hexadecimal digits, one by one and two by two.
-use Rattle.std.proofs.Common.{◌≡◌, ℕ, zero, suc, ◌+◌, ◌-◌, ◌/◌, ◌%◌, ◌^◌, ◌<◌, List, [], ◌∷◌, ◌++◌, Bool, length, replicate, true, false, cond, refl, ap, sym, ◌∙◌, arith, inl, inr, eq-zero-or-pos, get_or, eqb, eqb→eq, T, ◌&&◌}
-use lib.Ieee.Fits.{and_l, and_r}
+use Rattle.std.proofs.Common.{◌≡◌, ℕ, zero, suc, ◌+◌, ◌-◌, ◌/◌, ◌%◌, ◌^◌, ◌<◌, List, [], ◌∷◌, ◌++◌, length, replicate, true, false, cond, refl, ap, sym, ◌∙◌, arith, inl, inr, eq-zero-or-pos, get_or, zero-add, ◌*◌}
 use borrow.Author.Tests.{eq-eqb, ne_eqb}
 use Rattle.can_frame.specs.Frames.{Identifier, standard, extended, IsIdentifier, is_extended_id, number_of}
 use Rattle.std.specs.Fmt.{digits, digits_onto, digit_glyph}
-use Rattle.gw_script.specs.declared.frame_text.TheConstants.{DIGITS}
+use Rattle.gw_script.specs.declared.frame_text.TheConstants.{PAIRS}
+use Rattle.gw_script.proofs.Tables.{pairs_at}
 use Rattle.gw_script.specs.FrameTexts.{hexadecimal, identifier_text}
-
--- the first entries of the table are digits
-abbrev are_digits : ℕ → Bool
-are_digits zero = true
-are_digits (suc d) = eqb (get_or DIGITS d 0) (digit_glyph false d) && are_digits d
-
-first-digits : (count d : ℕ) → T (are_digits count) → d < count → get_or DIGITS d 0 ≡ digit_glyph false d
-first-digits zero d are below = absurd (omega arith)
-first-digits (suc count) d are below = elim (eq-zero-or-pos (count - d)) [
-  | inl none ↦ let last : d ≡ count = omega arith in rw last (eqb→eq _ _ (and_l _ (are_digits count) are))
-  | inr some ↦ first-digits count d (and_r _ (are_digits count) are) (omega arith)
-]
-
-pub DIGITS_at : (d : ℕ) → d < 16 → get_or DIGITS d 0 ≡ digit_glyph false d
-DIGITS_at d few = first-digits 16 d tt few
 
 abbrev glyph : ℕ → ℕ
 glyph n = digit_glyph false (n % 16)
@@ -74,6 +59,9 @@ hexadecimal-last width n enough fits = ap (padded (suc width)) (digits-onto n) �
 
 pub two-digits : (n : ℕ) → n < 256 → hexadecimal 2 n ≡ digit_glyph false (n / 16) ∷ digit_glyph false (n % 16) ∷ []
 two-digits n few = let high : n / 16 % 16 ≡ n / 16 = omega arith in rw (hexadecimal-last 1 n (omega arith) (omega arith), high)
+
+pub PAIRS_at : (n : ℕ) → n < 256 → (get_or PAIRS (n * 2) 0 ≡ digit_glyph false (n / 16)) × (get_or PAIRS (n * 2 + 1) 0 ≡ digit_glyph false (n % 16))
+PAIRS_at n few = rw zero-add at (pairs_at (λ m. digit_glyph false (m / 16)) (λ m. digit_glyph false (m % 16)) 256 0 n few)
 
 pub three-digits : (n : ℕ) → n < 4096 → hexadecimal 3 n ≡ digit_glyph false (n / 256) ∷ hexadecimal 2 (n % 256)
 three-digits n few =

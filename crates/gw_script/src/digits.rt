@@ -8,14 +8,28 @@ use std::alloc::AllocError;
 /// How many digits the greatest `u64` has.
 const MOST_DIGITS: usize = 20;
 
+/// The digits of 0 to 99, two a number.
+static PAIRS: [u8; 200] = *b"\
+    00010203040506070809\
+    10111213141516171819\
+    20212223242526272829\
+    30313233343536373839\
+    40414243444546474849\
+    50515253545556575859\
+    60616263646566676869\
+    70717273747576777879\
+    80818283848586878889\
+    90919293949596979899";
+
 /// Writes the two digits of a number below 100.
 fn write_pair(digits: &mut [u8], at: usize, pair: u64)
     requires pair { pair < 100 }
     requires room { at + 2 ≤ length digits.old }
     ensures { drop at digits.new ≡ (48 + pair / 10) ∷ (48 + pair % 10) ∷ drop (at + 2) digits.old }
 {
-    digits[at] = b'0' + (pair / 10) as u8;
-    digits[at + 1] = b'0' + (pair % 10) as u8;
+    let from = pair as usize * 2;
+    digits[at] = PAIRS[from];
+    digits[at + 1] = PAIRS[from + 1];
 }
 
 /// Writes the one or two digits of a number below 100, so that they end at `end`, and tells where they start.

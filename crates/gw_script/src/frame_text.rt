@@ -15,8 +15,24 @@ const LONGEST: usize = 32;
 /// The text of a frame, or the beginning of it.
 pub type FrameText = ArrayVec<u8, LONGEST>;
 
-/// The digits of 0 to 15.
-static DIGITS: [u8; 16] = *b"0123456789abcdef";
+/// The digits of 0 to 255, two a number.
+static PAIRS: [u8; 512] = *b"\
+    000102030405060708090a0b0c0d0e0f\
+    101112131415161718191a1b1c1d1e1f\
+    202122232425262728292a2b2c2d2e2f\
+    303132333435363738393a3b3c3d3e3f\
+    404142434445464748494a4b4c4d4e4f\
+    505152535455565758595a5b5c5d5e5f\
+    606162636465666768696a6b6c6d6e6f\
+    707172737475767778797a7b7c7d7e7f\
+    808182838485868788898a8b8c8d8e8f\
+    909192939495969798999a9b9c9d9e9f\
+    a0a1a2a3a4a5a6a7a8a9aaabacadaeaf\
+    b0b1b2b3b4b5b6b7b8b9babbbcbdbebf\
+    c0c1c2c3c4c5c6c7c8c9cacbcccdcecf\
+    d0d1d2d3d4d5d6d7d8d9dadbdcdddedf\
+    e0e1e2e3e4e5e6e7e8e9eaebecedeeef\
+    f0f1f2f3f4f5f6f7f8f9fafbfcfdfeff";
 
 fn push_word(text: &mut FrameText, word: &[u8])
     requires { array_vec_len text.old + length word.now ≤ 32 }
@@ -27,22 +43,15 @@ fn push_word(text: &mut FrameText, word: &[u8])
     }
 }
 
-/// The digit of a number below 16, in lower case.
-fn digit(number: u8) -> u8
-    requires { number < 16 }
-    ensures { result ≡ digit_glyph false number }
-{
-    DIGITS[number as usize]
-}
-
 /// Adds a byte's two digits.
 fn push_byte(text: &mut FrameText, byte: u8)
     requires { array_vec_len text.old + 2 ≤ 32 }
     ensures items { text.new.items ≡ text.old.items ++ hexadecimal 2 byte }
     ensures room { array_vec_len text.new ≡ array_vec_len text.old + 2 }
 {
-    text.push(digit(byte / 16));
-    text.push(digit(byte % 16));
+    let from = byte as usize * 2;
+    text.push(PAIRS[from]);
+    text.push(PAIRS[from + 1]);
 }
 
 /// Adds three digits of a standard identifier, eight of an extended one.
@@ -59,7 +68,8 @@ fn push_identifier(text: &mut FrameText, id: Id)
         push_byte(text, (number / 256 % 256) as u8);
         push_byte(text, (number % 256) as u8);
     } else {
-        text.push(digit((number / 256) as u8));
+        // of the upper byte, only the second digit
+        text.push(PAIRS[number as usize / 256 * 2 + 1]);
         push_byte(text, (number % 256) as u8);
     }
 }

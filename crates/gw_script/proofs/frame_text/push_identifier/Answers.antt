@@ -1,6 +1,6 @@
 -- Eight digits of an extended identifier, three of a standard one.
-use Rattle.std.proofs.Common.{◌<◌, arith, append_assoc}
-use Rattle.gw_script.proofs.Hexadecimal.{extended-text, standard-text, standard-fits, eight-digits, three-digits}
+use Rattle.std.proofs.Common.{◌≡◌, ◌/◌, ◌%◌, ◌<◌, arith, append_assoc}
+use Rattle.gw_script.proofs.Hexadecimal.{extended-text, standard-text, standard-fits, eight-digits, three-digits, PAIRS_at}
 use Rattle.gw_script.proofs.frame_text.push_identifier.Goals as goal
 
 pub returns-then-is_extended-clause-items : goal.returns-then-is_extended-clause-items
@@ -20,12 +20,14 @@ pub returns-else-is_extended-clause-items : goal.returns-else-is_extended-clause
 returns-else-is_extended-clause-items c =
     let fits = standard-fits c.args.id c.if-is_extended.ensures c.facts.ensures in
     let few : c.number-number.result < 4096 = omega (arith, fits, c.number-number.ensures.value) in
+    let low : c.number-number.result / 256 % 16 ≡ c.number-number.result / 256 = omega arith in
     rw (
       standard-text c.args.id c.if-is_extended.ensures,
       ← c.number-number.ensures.value,
       three-digits c.number-number.result few,
       c.push_byte-else-is_extended.ensures.items,
       c.push.ensures.items,
-      c.digit.ensures,
+      (PAIRS_at (c.number-number.result / 256) (omega arith)).1,
+      low,
       append_assoc,
     )
