@@ -1,5 +1,5 @@
 -- Tables of two entries a number.
-use Rattle.std.proofs.Common.{◌≡◌, ℕ, zero, suc, ◌+◌, ◌*◌, ◌<◌, List, [], ◌∷◌, get_or, arith, refl, add-zero}
+use Rattle.std.proofs.Common.{◌≡◌, ℕ, zero, suc, ◌+◌, ◌*◌, ◌<◌, List, [], ◌∷◌, get_or, arith, add-zero}
 
 -- the entries of `count` numbers from n on
 abbrev pub pairs_from : (ℕ → ℕ) → (ℕ → ℕ) → ℕ → ℕ → List ℕ

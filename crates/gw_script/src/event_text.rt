@@ -42,33 +42,34 @@ fn push_frame(text: &mut Vec<u8>, frame: &Frame) -> Result<(), AllocError>
 fn push_told(text: &mut Vec<u8>, told: &Told) -> Result<(), AllocError>
     ensures { OnOk result (text.new.items ≡ text.old.items ++ (codes " " ++ told_text told.now)) }
 {
-    match told {
+    let frame = match told {
         Told::Started { frame, .. } => {
             text.extend_from_slice(b" started ")?;
-            push_frame(text, frame)
+            frame
         }
         Told::Took { start, frame } => {
             text.extend_from_slice(b" took ")?;
             push_decimal_and_space(text, *start)?;
-            push_frame(text, frame)
+            frame
         }
         Told::Completed { start, frame, .. } => {
             text.extend_from_slice(b" completed ")?;
             push_decimal_and_space(text, *start)?;
-            push_frame(text, frame)
+            frame
         }
         Told::Lost { start } => {
             text.extend_from_slice(b" lost ")?;
-            push_decimal(text, *start)
+            return push_decimal(text, *start);
         }
         Told::Error(kind) => {
             text.extend_from_slice(b" error ")?;
-            text.extend_from_slice(kind_text(*kind).as_bytes())
+            return text.extend_from_slice(kind_text(*kind).as_bytes());
         }
-        Told::Off => text.extend_from_slice(b" off"),
-        Told::Back => text.extend_from_slice(b" back"),
-        Told::Reaped(_) => text.extend_from_slice(b" reaped"),
-    }
+        Told::Off => return text.extend_from_slice(b" off"),
+        Told::Back => return text.extend_from_slice(b" back"),
+        Told::Reaped(_) => return text.extend_from_slice(b" reaped"),
+    };
+    push_frame(text, frame)
 }
 
 /// The request that a line names.

@@ -8,7 +8,7 @@ ghost use Rattle.can_node.specs.Counters.{counts_of};
 ghost use Rattle.gw_script.specs.Lines.{line, lines_from};
 ghost use Rattle.gw_config.specs.Nodes.{names_of_nodes};
 ghost use Rattle.gw_script.specs.NamedPlaces.{NamesNodes, Names};
-ghost use Rattle.gw_script.specs.ReportTexts.{state_text, node_line, segment_text, route_line, report_text};
+ghost use Rattle.gw_script.specs.ReportTexts.{segment_name, state_text, node_line, segment_text, route_line, report_text};
 
 use crate::digits::push_decimal;
 use crate::event_text::push_events;
@@ -41,7 +41,8 @@ fn push_count(text: &mut Vec<u8>, word: &[u8], count: u64) -> Result<(), AllocEr
 /// Adds the end of a node's line: its counters and its state.
 fn push_counters(text: &mut Vec<u8>, counters: &Counters) -> Result<(), AllocError>
     ensures { OnOk result (text.new.items ≡ text.old.items ++ (let counts = counts_of counters.now in
-        line (codes " tec " ∷ decimal counts.tec ∷ codes " rec " ∷ decimal counts.rec ∷ codes " " ∷ state_text (state_of counts) ∷ []))) }
+        line (codes " tec " ∷ decimal counts.tec ∷ codes " rec " ∷ decimal counts.rec
+        ∷ codes " " ∷ state_text (state_of counts) ∷ []))) }
 {
     push_count(text, b" tec ", u64::from(counters.tec()))?;
     push_count(text, b" rec ", u64::from(counters.rec()))?;
@@ -88,6 +89,17 @@ fn push_nodes(
     Ok(())
 }
 
+/// Adds the line of a segment's end.
+fn push_end(text: &mut Vec<u8>, script: &Script, segment: usize) -> Result<(), AllocError>
+    requires { segment < length script.now.segments }
+    ensures { OnOk result (text.new.items ≡ text.old.items
+        ++ line (segment_name script.now segment ∷ codes " end " ∷ decimal script.now.bits ∷ [])) }
+{
+    text.extend_from_slice(segment_name(script, segment).as_bytes())?;
+    push_count(text, b" end ", u64::from(script.bits()))?;
+    text.extend_from_slice(b"\n")
+}
+
 /// Adds what is told of a segment.
 fn push_segment(
     text: &mut Vec<u8>,
@@ -102,9 +114,7 @@ fn push_segment(
 {
     push_events(text, script, segment, kept.events.as_slice())?;
     push_nodes(text, script, segment, kept.counters.as_slice())?;
-    text.extend_from_slice(segment_name(script, segment).as_bytes())?;
-    push_count(text, b" end ", u64::from(script.bits()))?;
-    text.extend_from_slice(b"\n")
+    push_end(text, script, segment)
 }
 
 /// Adds what is told of the segments.
@@ -132,8 +142,10 @@ fn push_taken(text: &mut Vec<u8>, report: &RouteReport) -> Result<(), AllocError
 
 /// Adds the end of a route's line: what became of its requests.
 fn push_sent(text: &mut Vec<u8>, report: &RouteReport) -> Result<(), AllocError>
-    ensures { OnOk result (text.new.items ≡ text.old.items ++ line (codes " completed " ∷ decimal (vec_len report.now.completed)
-        ∷ codes " aborted " ∷ decimal (vec_len report.now.aborted) ∷ codes " held " ∷ decimal report.now.held ∷ [])) }
+    ensures { OnOk result (text.new.items ≡ text.old.items
+        ++ line (codes " completed " ∷ decimal (vec_len report.now.completed)
+        ∷ codes " aborted " ∷ decimal (vec_len report.now.aborted)
+        ∷ codes " held " ∷ decimal report.now.held ∷ [])) }
 {
     push_count(text, b" completed ", report.completed.len() as u64)?;
     push_count(text, b" aborted ", report.aborted.len() as u64)?;
