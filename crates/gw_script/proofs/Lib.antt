@@ -1,2 +1,5 @@
+pub mod Ascii
+pub mod Decimal
 pub mod Hexadecimal
 pub mod LineLaws
+pub mod Tables

@@ -1,12 +1,15 @@
 //! The lines of a segment's events.
 
-ghost use Rattle.std.specs.Prelude.{◌≡◌, ◌<◌, ◌++◌, length, string_bytes, IfSome, OnOk};
+ghost use Rattle.std.specs.Prelude.{◌≡◌, ◌<◌, ◌++◌, length, codes, IfSome, OnOk};
 ghost use Rattle.std.specs.List.{flat_map};
+ghost use Rattle.std.specs.Fmt.{decimal};
 ghost use Rattle.bx_core.specs.Lists.{Each};
+ghost use Rattle.gw_script.specs.FrameTexts.{frame_text};
 ghost use Rattle.gw_script.specs.NamedPlaces.{label_of, NamesRequest, NamesEvent};
-ghost use Rattle.gw_script.specs.ReportTexts.{kind_text, told_text, label_text, event_line};
+ghost use Rattle.gw_script.specs.ReportTexts.{kind_text, told_text, label_text, segment_name, node_name, event_line};
 
-use crate::frame_text::push_frame;
+use crate::digits::{push_decimal, push_decimal_and_space};
+use crate::frame_text::{FrameText, write_frame};
 use crate::report_names::{node_name, route_name, route_of, segment_name};
 use can_frame::Frame;
 use can_node::ErrorKind;
@@ -26,37 +29,47 @@ fn kind_text(kind: ErrorKind) -> &'static str
     }
 }
 
-/// Adds what happened at a node.
-fn push_told(text: &mut String, told: &Told) -> Result<(), AllocError>
-    ensures { OnOk result (string_bytes text.new ≡ string_bytes text.old ++ told_text told.now) }
+/// Adds a frame.
+fn push_frame(text: &mut Vec<u8>, frame: &Frame) -> Result<(), AllocError>
+    ensures { OnOk result (text.new.items ≡ text.old.items ++ frame_text frame.now) }
 {
-    match told {
+    let mut bytes = FrameText::new();
+    write_frame(&mut bytes, frame);
+    text.extend_from_slice(bytes.as_slice())
+}
+
+/// Adds a space and what happened at a node.
+fn push_told(text: &mut Vec<u8>, told: &Told) -> Result<(), AllocError>
+    ensures { OnOk result (text.new.items ≡ text.old.items ++ (codes " " ++ told_text told.now)) }
+{
+    let frame = match told {
         Told::Started { frame, .. } => {
-            text.push_str("started ")?;
-            push_frame(text, frame)
+            text.extend_from_slice(b" started ")?;
+            frame
         }
         Told::Took { start, frame } => {
-            let start = *start;
-            write!(text, "took {start} ")?;
-            push_frame(text, frame)
+            text.extend_from_slice(b" took ")?;
+            push_decimal_and_space(text, *start)?;
+            frame
         }
         Told::Completed { start, frame, .. } => {
-            let start = *start;
-            write!(text, "completed {start} ")?;
-            push_frame(text, frame)
+            text.extend_from_slice(b" completed ")?;
+            push_decimal_and_space(text, *start)?;
+            frame
         }
         Told::Lost { start } => {
-            let start = *start;
-            write!(text, "lost {start}")
+            text.extend_from_slice(b" lost ")?;
+            return push_decimal(text, *start);
         }
         Told::Error(kind) => {
-            let kind = kind_text(*kind);
-            write!(text, "error {kind}")
+            text.extend_from_slice(b" error ")?;
+            return text.extend_from_slice(kind_text(*kind).as_bytes());
         }
-        Told::Off => text.push_str("off"),
-        Told::Back => text.push_str("back"),
-        Told::Reaped(_) => text.push_str("reaped"),
-    }
+        Told::Off => return text.extend_from_slice(b" off"),
+        Told::Back => return text.extend_from_slice(b" back"),
+        Told::Reaped(_) => return text.extend_from_slice(b" reaped"),
+    };
+    push_frame(text, frame)
 }
 
 /// The request that a line names.
@@ -73,7 +86,7 @@ pub fn label_of(told: &Told) -> Option<Label>
 
 /// Adds the request that a line names, if it names one.
 fn push_label(
-    text: &mut String,
+    text: &mut Vec<u8>,
     script: &Script,
     segment: usize,
     node: usize,
@@ -81,44 +94,62 @@ fn push_label(
 ) -> Result<(), AllocError>
     requires { IfSome label (NamesRequest script.now segment node) }
     ensures { OnOk result
-        (string_bytes text.new ≡ string_bytes text.old ++ label_text script.now segment node label) }
+        (text.new.items ≡ text.old.items ++ label_text script.now segment node label) }
 {
     match label {
         None => Ok(()),
         Some(label) => {
             let route = route_of(script, segment, node, label);
-            let name = route_name(script, route);
-            let number = label.number;
-            write!(text, " {name} {number}")
+            text.extend_from_slice(b" ")?;
+            text.extend_from_slice(route_name(script, route).as_bytes())?;
+            text.extend_from_slice(b" ")?;
+            push_decimal(text, u64::from(label.number))
         }
     }
 }
 
-/// Adds the line of an event.
-fn push_event(
-    text: &mut String,
+/// Adds where and when an event was: the segment, which has this name, the bit and the node.
+fn push_place(
+    text: &mut Vec<u8>,
     script: &Script,
     segment: usize,
+    name: &str,
     event: &Event,
 ) -> Result<(), AllocError>
-    requires segment { segment < length script.now.segments }
+    requires { NamesEvent script.now segment event.now }
+    ensures { OnOk result
+        (text.new.items ≡ text.old.items ++ (name.now ++ (codes " " ++ (decimal event.now.bit
+        ++ (codes " " ++ node_name script.now segment event.now.node))))) }
+{
+    text.extend_from_slice(name.as_bytes())?;
+    text.extend_from_slice(b" ")?;
+    push_decimal_and_space(text, event.bit)?;
+    text.extend_from_slice(node_name(script, segment, event.node as usize).as_bytes())
+}
+
+/// Adds the line of an event of the segment with this name.
+fn push_event(
+    text: &mut Vec<u8>,
+    script: &Script,
+    segment: usize,
+    name: &str,
+    event: &Event,
+) -> Result<(), AllocError>
+    requires name { name.now ≡ segment_name script.now segment }
     requires event { NamesEvent script.now segment event.now }
     ensures { OnOk result
-        (string_bytes text.new ≡ string_bytes text.old ++ event_line script.now segment event.now) }
+        (text.new.items ≡ text.old.items ++ event_line script.now segment event.now) }
 {
-    let name = segment_name(script, segment);
-    let bit = event.bit;
-    let node = event.node as usize;
-    let node_name = node_name(script, segment, node);
-    write!(text, "{name} {bit} {node_name} ")?;
+    push_place(text, script, segment, name, event)?;
     push_told(text, &event.told)?;
-    push_label(text, script, segment, node, label_of(&event.told))?;
-    text.push_str("\n")
+    let label = label_of(&event.told);
+    push_label(text, script, segment, event.node as usize, label)?;
+    text.extend_from_slice(b"\n")
 }
 
 /// Adds the lines of events.
 pub fn push_events(
-    text: &mut String,
+    text: &mut Vec<u8>,
     script: &Script,
     segment: usize,
     events: &[Event],
@@ -126,10 +157,11 @@ pub fn push_events(
     requires segment { segment < length script.now.segments }
     requires events { Each (NamesEvent script.now segment) events.now }
     ensures { OnOk result
-        (string_bytes text.new ≡ string_bytes text.old ++ flat_map (event_line script.now segment) events.now) }
+        (text.new.items ≡ text.old.items ++ flat_map (event_line script.now segment) events.now) }
 {
+    let name = segment_name(script, segment);
     for event in events {
-        push_event(text, script, segment, event)?;
+        push_event(text, script, segment, name, event)?;
     }
     Ok(())
 }

@@ -1,6 +1,7 @@
 //! What the program reads and prints: scripts, lists of mailbox events, and the text of reports.
 #![tactic(auto)]
 
+mod digits;
 mod event_list;
 mod event_text;
 mod frame_text;

@@ -18,7 +18,7 @@ pub fn print(alloc: Global, script: &Script, report: &Report) -> Result<Vec<u8>,
     ensures text { IfOk result (λ bytes. bytes.items ≡ report_text script.now report.now) }
 {
     match text_of(alloc, script, report) {
-        Ok(text) => Ok(text.into_bytes()),
+        Ok(text) => Ok(text),
         Err(_) => Err(Memory),
     }
 }
