@@ -2,7 +2,7 @@
 
 use bx_core::{AbortAnswer, Gate, Heard, NoGate, Point, Sent, TxBus};
 use bx_mail::{Post, PostRoute};
-use can_frame::{Frame, Id, Memory};
+use can_frame::{Frame, Id};
 use std::sync::Wait;
 use std::test::Fail;
 
@@ -54,18 +54,6 @@ fn requests_are_sent_in_the_order_of_posts(rt: HostRuntime) -> Result<(), Fail> 
     assert!(rt; !bus.ready(&rt));
     assert_eq!(rt; bus.start(&rt), None);
     Ok(())
-}
-
-/// Accepts the ample answer or the refusal of memory, and nothing else: for runs in which an allocation fails.
-#[test]
-fn posts_are_made_or_memory_is_refused(rt: HostRuntime) {
-    match Post::new(rt.alloc(), 2) {
-        Ok((bus, sides)) => {
-            assert!(rt; !bus.is_transmitting());
-            assert_eq!(rt; sides.len(), 2);
-        }
-        Err(refused) => assert_eq!(rt; refused, Memory),
-    }
 }
 
 // The queue has eight places.
