@@ -10,7 +10,6 @@ use Rattle.bx_core.specs.Steps.{after}
 use Rattle.bx_core.specs.Law.{left_by, run}
 use Rattle.gw_script.specs.FrameTexts.{frame_text}
 use Rattle.gw_script.specs.Lines.{line}
-use Rattle.gw_script.proofs.LineLaws.{nested, nested-line}
 use Rattle.gw_tool.specs.Reports.{AppendsWire, AppendsDone, AppendsDones, AppendsRoutes, IsReport, count_line, digit, refused_line, refused_lines}
 
 -- the pieces of the line of a frame that was sent
@@ -30,6 +29,18 @@ pub dones-snoc : (route : ℕ) (old mid new : List ℕ) (es : List Entry) (e : E
     AppendsDones route old new (es ++ e ∷ [])
 dones-snoc route old mid new [] e is last = (new, rw (← is) last, refl)
 dones-snoc route old mid new (f ∷ es) e (next, first, rest) last = (next, first, dones-snoc route next mid new es e rest last)
+
+-- pieces as `writeln!` joins them, before its line feed
+abbrev pub nested : List (List ℕ) → List ℕ
+nested [] = []
+nested (piece ∷ []) = piece
+nested (piece ∷ second ∷ pieces) = piece ++ nested (second ∷ pieces)
+
+nested-line : (pieces : List (List ℕ)) → nested pieces ++ (10 ∷ []) ≡ line pieces
+nested-line [] = refl
+nested-line (piece ∷ []) = refl
+nested-line (piece ∷ second ∷ pieces) =
+    append_assoc piece (nested (second ∷ pieces)) (10 ∷ []) ∙ ap (λ t. piece ++ t) (nested-line (second ∷ pieces))
 
 -- the pieces of a line of counts
 abbrev pub count_pieces : ℕ → ℕ → ℕ → ℕ → ℕ → ℕ → List (List ℕ)
