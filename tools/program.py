@@ -1,10 +1,12 @@
-"""The built program."""
+"""The built program, or that which the environment names in PROGRAM."""
 
 import json
+import os
 import pathlib
 import subprocess
 
-PROGRAM = pathlib.Path(__file__).resolve().parent.parent / "crates/bxgate/out/bxgate"
+ROOT = pathlib.Path(__file__).resolve().parent.parent
+PROGRAM = pathlib.Path(os.environ.get("PROGRAM") or ROOT / "crates/bxgate/out/bxgate")
 
 
 def reported(script, turn):

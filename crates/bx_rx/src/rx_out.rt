@@ -40,6 +40,11 @@ impl RxOut {
     pub fn release<R: Wait>(&mut self, rt: &R) -> Option<RxFrame>
         ensures { IsReleased self.old result self.new }
     {
+        // mostly there is none, and two loads tell so
+        if self.line.is_empty_as::<Releases>(&mut self.pass) {
+            self.note_none();
+            return None;
+        }
         match self.line.pop_as::<Releases, R>(rt, &mut self.pass) {
             Some(frame) => Some(frame),
             None => {

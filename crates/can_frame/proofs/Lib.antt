@@ -15,3 +15,4 @@ pub mod Nexts
 pub mod ReaderLaws
 pub mod Spellings
 pub mod Runs
+pub mod SameFrames

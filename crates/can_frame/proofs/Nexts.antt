@@ -6,7 +6,7 @@ use Rattle.can_frame.specs.Stuffing.{five_equal, newest}
 use Rattle.can_frame.specs.FieldReading.{fields_length, frame_at}
 use Rattle.can_frame.specs.LevelRuns.{EndsIn}
 use Rattle.can_frame.specs.Answers.{Answers, IsLast, IsUndecided}
-use Rattle.can_frame.specs.Reading.{Inside, InRegion, InTail, TailNext, HasEnded, StandsAt, StandsAfter, IsOpen, IsPush, Leaves, Next, Judges}
+use Rattle.can_frame.specs.Reading.{Inside, InRegion, InTail, TailNext, HasEnded, StandsAt, StandsAfter, IsOpen, IsPush, Leaves, Next, Judges, StandsAs}
 use Rattle.can_frame.specs.declared.level_run.LevelRun.{LevelRun}
 use Rattle.can_frame.specs.declared.step.FaultKind.TheVariants.{Stuff, Form}
 use Rattle.can_frame.specs.declared.step.Step.{Step}
@@ -148,6 +148,48 @@ plain_push old new level here place push some keeps other =
       stands = λ text s. (next text s).stands;
       again = λ given e. absurd (cc (here, e));
     }
+
+pub stuff_push : (old new : Reader) (level : Bool) → old.place ≡ Region → new.place ≡ Region →
+    ((text : List Bool) → EndsIn text old.run → (five_equal text ≡ true) × (level ≡ not (newest text)) × EndsIn (level ∷ text) new.run) →
+    new.levels.items ≡ old.levels.items → (length old.levels.items ≡ fields_length old.levels.items + 15 → ⊥) → IsPush old level StuffBit new
+stuff_push old new level here place push items part =
+    let next : (text : List Bool) → StandsAfter old text → Next StuffBit new text level = λ text s.
+    let h = region_stands old.place old.run old.levels.items text here s in
+    let p = push (reverse text) h.ends in
+    next_stuff old.levels.items text level new h.inside p.0 p.1 p.2 part items place in
+    record {
+      next = λ text r s. next text s;
+      stands = λ text s. (next text s).stands;
+      again = λ given e. absurd (cc (here, e));
+    }
+
+-- behind the region
+pub tail_push : (old new : Reader) (level : Bool) (step : Step) (f : FrameValue) (right : Bool) (seen : ℕ) → old.place ≡ AfterBody f right seen → new.place ≡ AfterBody f right (seen + 1) → step ≡ Tail →
+    ((text : List Bool) → InTail f right seen text → TailNext step f right seen text level) → IsPush old level Tail new
+tail_push old new level step f right seen here place is goes =
+    let next : (text : List Bool) → StandsAfter old text → Next Tail new text level = λ text s.
+    let h : InTail f right seen text = subst (λ p. StandsAt p old.run old.levels.items text) here s in
+    tail_goes_on Tail f right seen text level new refl place (subst (λ t. TailNext t f right seen text level) is (goes text h)) in
+    record {
+      next = λ text r s. next text s;
+      stands = λ text s. (next text s).stands;
+      again = λ given e. absurd (cc (here, e));
+    }
+
+-- two readers within the stuffed region that hold the same
+pub stands_as : (one other : Reader) → one.place ≡ Region → other.place ≡ Region → one.run ≡ other.run → one.levels.items ≡ other.levels.items → StandsAs one other
+stands_as one other here there runs items = record {
+  stands = λ text s. subst (λ p. StandsAt p other.run other.levels.items text) (sym there)
+      (subst (λ u. InRegion other.run u text) items (subst (λ r. InRegion r one.levels.items text) runs (region_stands one.place one.run one.levels.items text here s)));
+  reading = λ reading. subst IsOpen (sym there) tt;
+}
+
+-- two readers behind the same frame, with as many levels since
+pub stands_behind_as : (one other : Reader) (f : FrameValue) (right : Bool) (seen : ℕ) → one.place ≡ AfterBody f right seen → other.place ≡ AfterBody f right seen → StandsAs one other
+stands_behind_as one other f right seen here there = record {
+  stands = λ text s. subst (λ p. StandsAt p other.run other.levels.items text) (sym there) (subst (λ p. StandsAt p one.run one.levels.items text) here s);
+  reading = λ reading. subst IsOpen (sym there) tt;
+}
 
 -- what a reader keeps as its newest answer says nothing of the text
 abbrev with_told : Reader → Step → Reader

@@ -102,6 +102,15 @@ pub record IsPush (old : Reader) (level : Bool) (step : Step) (new : Reader) : T
   pub stands : (text : List Bool) → StandsAfter old text → StandsAfter new (text ++ level ∷ [])
   pub again : (given : Step) → HasAnswered old given → (step ≡ given) × HasAnswered new given
 
+-- a push within the stuffed region, behind which that goes on
+abbrev pub ReadsOn : Reader → Bool → Reader → Type 0
+ReadsOn old level new = IsPush old level More new ⊎ IsPush old level StuffBit new
+
+-- the other reader stands after each text after which this one does, and reads on where this one does
+pub record StandsAs (one other : Reader) : Type 0 where
+  pub stands : (text : List Bool) → StandsAfter one text → StandsAfter other text
+  pub reading : IsReading one → IsReading other
+
 -- where an answer behind the region leaves the reader
 abbrev pub TailGoes : Step → FrameValue → Bool → ℕ → List Bool → Type 0
 TailGoes More f right seen text = ⊥

@@ -1,6 +1,6 @@
 //! Data frames and remote frames.
 
-ghost use Rattle.std.specs.Prelude.{◌≡◌, ◌<◌, ◌≤◌, MatchResult, length};
+ghost use Rattle.std.specs.Prelude.{◌≡◌, ◌<◌, ◌≤◌, MatchResult, length, true, false};
 ghost use Rattle.can_frame.specs.Frames.{IsFrameValue, AllBytes, data_bytes, remote_code};
 ghost use Rattle.can_frame.specs.Fields.{is_remote, length_code, bytes_of};
 
@@ -94,6 +94,14 @@ impl Frame {
         self.id.facts();
         are_bytes(self.bytes());
         let _dlc = self.dlc();
+    }
+
+    /// Whether the other is the same frame.
+    pub fn is_same(&self, other: &Frame) -> bool
+        ensures same { result ≡ true → self.now ≡ other.now }
+        ensures another { result ≡ false → self.now ≡ other.now → ⊥ }
+    {
+        *self == *other
     }
 
     /// The identifier.

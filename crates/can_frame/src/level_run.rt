@@ -6,7 +6,7 @@ ghost use Rattle.can_frame.specs.LevelRuns.{EndsIn};
 
 /// In how many equal levels a text ends, five at most, and in which. It keeps no text: each contract speaks
 /// of every text that may end so, given with its newest level first.
-#[derive(Clone, Copy)]
+#[derive(Clone, Copy, PartialEq, Eq)]
 pub struct LevelRun {
     count: u8,
     level: bool,

@@ -9,6 +9,8 @@ ghost use Rattle.can_frame.specs.Reading.{
   StandsAfter,
   IsReading,
   IsPush,
+  ReadsOn,
+  StandsAs,
   Next,
   TailNext,
   Judges,
@@ -74,6 +76,9 @@ impl Reader {
         if self.push_more(level) {
             return Step::More;
         }
+        if self.reads_tail(level) {
+            return Step::Tail;
+        }
         self.push_any(level);
         self.told
     }
@@ -100,6 +105,132 @@ impl Reader {
         self.run.push(level);
         keep(&mut self.levels, level);
         true
+    }
+
+    /// A reader that is the same.
+    pub fn copy(&self) -> Reader
+        ensures { result ≡ self.now }
+    {
+        let mut levels = ArrayVec::new();
+        // it has the same room
+        let _ = levels.try_extend_from_slice(self.levels.as_slice());
+        Reader {
+            run: self.run,
+            levels,
+            place: self.place,
+            told: self.told,
+        }
+    }
+
+    /// Whether both have read the same of a frame: then either may read on for the other. It tells so of none that has
+    /// given its last answer.
+    pub fn reads_as(&self, other: &Reader) -> bool
+        ensures { result ≡ true → StandsAs self.now other.now }
+    {
+        let place = self.place;
+        match place {
+            Place::Region => self.reads_region_as(other),
+            Place::AfterBody(frame, right, seen) => other.is_behind(&frame, right, seen),
+            Place::Ended(_) => false,
+        }
+    }
+
+    /// So within the stuffed region.
+    fn reads_region_as(&self, other: &Reader) -> bool
+        ensures { result ≡ true → StandsAs self.now other.now }
+    {
+        if !self.is_in_region() {
+            return false;
+        }
+        if !other.is_in_region() {
+            return false;
+        }
+        if self.run != other.run {
+            return false;
+        }
+        self.levels.as_slice() == other.levels.as_slice()
+    }
+
+    /// Whether it stands behind this frame, with so many levels since.
+    fn is_behind(&self, frame: &Frame, right: bool, seen: u8) -> bool
+        ensures { result ≡ true → self.now.place ≡ Place.AfterBody frame.now right seen }
+    {
+        let place = self.place;
+        match place {
+            Place::AfterBody(own, own_right, own_seen) => {
+                if !own.is_same(frame) {
+                    return false;
+                }
+                own_right == right && own_seen == seen
+            }
+            _ => false,
+        }
+    }
+
+    /// Pushes a level with which the stuffed region goes on, and tells whether it did: `push` would answer `More` or
+    /// `StuffBit`. Else the reader is as it was.
+    #[inline(always)]
+    pub fn reads_on(&mut self, level: bool) -> bool
+        ensures on { result ≡ true → ReadsOn self.old level self.new }
+        ensures other { result ≡ false → self.new ≡ self.old }
+    {
+        if self.push_more(level) {
+            return true;
+        }
+        self.push_stuff(level)
+    }
+
+    /// Pushes a level that is `StuffBit`, and tells whether it did.
+    #[inline(never)]
+    fn push_stuff(&mut self, level: bool) -> bool
+        ensures stuff { result ≡ true → IsPush self.old level Step.StuffBit self.new }
+        ensures other { result ≡ false → self.new ≡ self.old }
+    {
+        if !self.is_in_region() {
+            return false;
+        }
+        if !self.run.is_full() {
+            return false;
+        }
+        if level == self.run.level() {
+            return false;
+        }
+        if is_complete(self.levels.as_slice()) {
+            return false;
+        }
+        self.run.push(level);
+        true
+    }
+
+    /// Pushes a level behind the stuffed region with which the frame goes on, and tells whether it did: `push` would
+    /// answer `Tail`. Else the reader is as it was.
+    #[inline]
+    pub fn reads_tail(&mut self, level: bool) -> bool
+        ensures on { result ≡ true → IsPush self.old level Step.Tail self.new }
+        ensures other { result ≡ false → self.new ≡ self.old }
+    {
+        let place = self.place;
+        match place {
+            Place::AfterBody(frame, right, seen) => self.reads_behind(frame, right, seen, level),
+            _ => false,
+        }
+    }
+
+    /// So where it stands behind this frame.
+    fn reads_behind(&mut self, frame: Frame, right: bool, seen: u8, level: bool) -> bool
+        ensures on { result ≡ true → self.old.place ≡ Place.AfterBody frame right seen → IsPush self.old level Step.Tail self.new }
+        ensures other { result ≡ false → self.new ≡ self.old }
+    {
+        if seen >= 8 {
+            return false;
+        }
+        match tail_step(frame, right, seen, level) {
+            Step::Tail => {
+                self.place = Place::AfterBody(frame, right, seen + 1);
+                true
+            }
+            _ => false,
+        }
     }
 
     /// Whether the next level is one of the stuffed region.

@@ -5,8 +5,6 @@ use Rattle.can_frame.specs.Frames.{FrameValue}
 use Rattle.can_frame.specs.Fields.{senders_choice, fields}
 use Rattle.can_frame.specs.Stuffing.{unstuffed}
 use Rattle.can_frame.specs.Spelling.{Spells, tail_levels}
-use Rattle.can_frame.specs.Reading.{StandsAfter as ReaderStandsAfter}
-use Rattle.can_frame.specs.declared.reader.Reader.{Reader}
 use Rattle.can_frame.proofs.Numbers.{head_same}
 use Rattle.can_frame.proofs.OneStuffing.{grows}
 use Rattle.can_frame.proofs.Spellings.{slot_stands_alone}
@@ -127,7 +125,7 @@ no_pairs start given may_begin [] e = (refl, e)
 no_pairs start given may_begin (p ∷ pairs) e = absurd (cc e)
 
 -- the episode ends before the next bit, and the node sends from there on
-record Starts (next : State) (new : Reader) (frame : FrameValue) (at : ℕ) (phase : Phase) (part : List Pair) (events : List ErrorEvent) : Type 0 where
+record Starts (next : State) (frame : FrameValue) (at : ℕ) (phase : Phase) (part : List Pair) (events : List ErrorEvent) : Type 0 where
   pub start : ℕ
   pub given : List Bool
   pub episode : (before : List ErrorEvent) → IsOnOutside phase (before ++ events) → Episode at before phase part events Nothing (Send start given frame)
@@ -135,11 +133,10 @@ record Starts (next : State) (new : Reader) (frame : FrameValue) (at : ℕ) (pha
   pub place : ℕ
   pub next_is : next ≡ Sending start place
   pub agrees : (later : ℕ) → Agrees (Sending start place) given later (Send start given frame) [] []
-  pub reads : ReaderStandsAfter new given
 
-begin_starts : {state : State} {text : List Bool} {at : ℕ} {phase : Phase} {part : List Pair} {events : List ErrorEvent} (old new : Reader) (next : State) (now : ℕ) (frame : FrameValue) (spelling : Spelling) →
-    Agrees state text at phase part events → may_start state ≡ true → ReaderStands state old text → now ≡ at + length part → IsSpelling frame spelling → Begins state old now next new → Starts next new frame at phase part events
-begin_starts {at = at} old new next now frame spelling (in_idle n) may reads clock k begins =
+begin_starts : {state : State} {text : List Bool} {at : ℕ} {phase : Phase} {part : List Pair} {events : List ErrorEvent} (next : State) (now : ℕ) (frame : FrameValue) (spelling : Spelling) →
+    Agrees state text at phase part events → may_start state ≡ true → now ≡ at + length part → IsSpelling frame spelling → Begins state now next → Starts next frame at phase part events
+begin_starts {at = at} next now frame spelling (in_idle n) may clock k begins =
     let first = first_idle frame spelling k in
     let here : now ≡ at + n = clock ∙ ap (λ m. at + m) (length-map (recessive n) _ ∙ length-replicate n true) in
     record {
@@ -148,11 +145,10 @@ begin_starts {at = at} old new next now frame spelling (in_idle n) may reads clo
       episode = λ before on. begun n frame k.is_frame (subst AreOn (append-nil before) on);
       still_on = λ before on. on;
       place = 0;
-      next_is = begins.0 ∙ ap (λ m. Sending m 0) here;
+      next_is = begins ∙ ap (λ m. Sending m 0) here;
       agrees = λ later. in_send [] frame [] [] first.driven first.expected refl first.bit refl;
-      reads = begins.1;
     }
-begin_starts {text = text} {at = at} old new next now frame spelling (in_take {start = start} given levels may_begin pairs events is on goes wants sof place) may reads clock k begins =
+begin_starts {text = text} {at = at} next now frame spelling (in_take {start = start} given levels may_begin pairs events is on goes wants sof place) may clock k begins =
     let none_yet = no_pairs start given may_begin pairs (sym wants ∙ may) in
     let nothing = reads_none goes none_yet.0 in
     let given_is : given ≡ false ∷ [] = sof none_yet.1 in
@@ -167,29 +163,28 @@ begin_starts {text = text} {at = at} old new next now frame spelling (in_take {s
           (joined start given frame k.is_frame (subst AreOn (ap (λ es. before ++ es) nothing.1 ∙ append-nil before) still))));
       still_on = λ before still. still;
       place = 1;
-      next_is = begins.0;
+      next_is = begins;
       agrees = λ later. in_send given frame [] [] first.driven first.expected (sym (append-nil given)) first.bit (omega (arith, ap length given_is));
-      reads = subst (λ r. ReaderStandsAfter r given) (sym begins.1) (subst (ReaderStandsAfter old) text_is (reads.stands refl));
     }
-begin_starts old new next now frame spelling (in_sync broken b below) may reads clock k begins = absurd (cc may)
-begin_starts old new next now frame spelling (in_send given frame_of before seen driven expected is bit place) may reads clock k begins = absurd (cc may)
-begin_starts old new next now frame spelling in_last may reads clock k begins = absurd (cc may)
-begin_starts old new next now frame spelling (in_active levels size below runs few) may reads clock k begins = absurd (cc may)
-begin_starts old new next now frame spelling (in_overload levels size below runs few) may reads clock k begins = absurd (cc may)
-begin_starts old new next now frame spelling (in_passive owed levels h) may reads clock k begins = absurd (cc may)
-begin_starts old new next now frame spelling (in_wait run n is far due) may reads clock k begins = absurd (cc may)
-begin_starts old new next now frame spelling (in_delimiter kind run n some below) may reads clock k begins = absurd (cc may)
-begin_starts old new next now frame spelling (in_rest below) may reads clock k begins = absurd (cc may)
-begin_starts old new next now frame spelling (in_suspend below) may reads clock k begins = absurd (cc may)
-begin_starts old new next now frame spelling (in_off rest broken below counted b short) may reads clock k begins = absurd (cc may)
+begin_starts next now frame spelling (in_sync broken b below) may clock k begins = absurd (cc may)
+begin_starts next now frame spelling (in_send given frame_of before seen driven expected is bit place) may clock k begins = absurd (cc may)
+begin_starts next now frame spelling in_last may clock k begins = absurd (cc may)
+begin_starts next now frame spelling (in_active levels size below runs few) may clock k begins = absurd (cc may)
+begin_starts next now frame spelling (in_overload levels size below runs few) may clock k begins = absurd (cc may)
+begin_starts next now frame spelling (in_passive owed levels h) may clock k begins = absurd (cc may)
+begin_starts next now frame spelling (in_wait run n is far due) may clock k begins = absurd (cc may)
+begin_starts next now frame spelling (in_delimiter kind run n some below) may clock k begins = absurd (cc may)
+begin_starts next now frame spelling (in_rest below) may clock k begins = absurd (cc may)
+begin_starts next now frame spelling (in_suspend below) may clock k begins = absurd (cc may)
+begin_starts next now frame spelling (in_off rest broken below counted b short) may clock k begins = absurd (cc may)
 
-pub begin_stands : (old new : Node) (frame : FrameValue) → may_start old.state ≡ true → IsSpelling frame new.spelling → Begins old.state old.reader old.clock new.state new.reader →
+pub begin_stands : (old new : Node) (frame : FrameValue) → may_start old.state ≡ true → IsSpelling frame new.spelling → Begins old.state old.clock new.state →
     new.counters ≡ old.counters → new.clock ≡ old.clock → (past : Past) → StandsAfter old past → StandsAfter new (with_begin past frame)
 begin_stands old new frame may k begins counters_is clock_is past h =
     let st = h.in_state in
     let at = st.done.first + length st.done.pairs in
     let here : old.clock ≡ at + length st.part = omega (arith, h.clock_is, ap (λ p. p.first + length p.pairs) st.past_is, length-append st.done.pairs st.part) in
-    let s = begin_starts old.reader new.reader new.state old.clock frame new.spelling st.agrees may h.reads here k begins in
+    let s = begin_starts new.state old.clock frame new.spelling st.agrees may here k begins in
     let done : Past = with_episode st.done st.phase st.part st.counting Nothing in
     let whole = then st.whole (s.episode st.done.events st.on) in
     record {
@@ -206,11 +201,11 @@ begin_stands old new frame may k begins counters_is clock_is past h =
         past_is = ap (λ p. with_begin p frame) st.past_is ∙
             same_past done.first _ _ _ _ _ _ _ _ (sym (append-nil done.pairs)) (sym (append-nil done.events)) refl (sym (append-nil done.outcomes));
       });
-      reads = subst (λ t. ReaderStands t new.reader s.given) (sym s.next_is) (record { stands = λ is. absurd (cc is); reading = λ is. absurd (cc is); follows = λ is. s.reads });
+      reads = subst (λ t. ReaderStands t new.reader s.given) (sym s.next_is) (record { stands = λ is. absurd (cc is); reading = λ is. absurd (cc is) });
       clock_is = clock_is ∙ h.clock_is;
       counted = subst (λ c. counts_of c ≡ counts_after past.events) (sym counters_is) h.counted;
     }
 
-pub begins_sending : (state next : State) (old new : Reader) (now : ℕ) → Begins state old now next new → IsSome (sof_of next)
-begins_sending (Taking start may stage) next old new now begins = subst (λ s. IsSome (sof_of s)) (sym begins.0) refl
-begins_sending state next old new now begins = subst (λ s. IsSome (sof_of s)) (sym begins.0) refl
+pub begins_sending : (state next : State) (now : ℕ) → Begins state now next → IsSome (sof_of next)
+begins_sending (Taking start may stage) next now begins = subst (λ s. IsSome (sof_of s)) (sym begins) refl
+begins_sending state next now begins = subst (λ s. IsSome (sof_of s)) (sym begins) refl

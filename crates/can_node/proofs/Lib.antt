@@ -12,6 +12,7 @@ pub mod SendMoves
 pub mod Bits
 pub mod Samples
 pub mod Begins
+pub mod Listens
 pub mod Texts
 pub mod Bounds
 pub mod ActiveFlags

@@ -1,5 +1,5 @@
 -- A reader behind a text of which nothing is decided reads on.
-use Rattle.std.proofs.Common.{◌≡◌, ℕ, Bool, true, List, ◌∷◌, ◌++◌, []}
+use Rattle.std.proofs.Common.{◌≡◌, ℕ, Bool, true, false, refl, List, ◌∷◌, ◌++◌, []}
 use Rattle.can_frame.specs.Answers.{IsUndecided}
 use Rattle.can_frame.specs.Reading.{StandsAfter, StandsAt, HasEnded, IsOpen, IsReading}
 use Rattle.can_frame.specs.declared.level_run.LevelRun.{LevelRun}
@@ -10,10 +10,14 @@ use Rattle.can_frame.specs.declared.step.Step.{Step}
 use Rattle.can_frame.specs.declared.step.Step.TheVariants as step
 use Rattle.can_frame.proofs.ReaderLaws.{fault_is}
 use Rattle.can_node.specs.declared.confinement.ErrorEvent.{ErrorEvent}
+use Rattle.can_node.specs.declared.confinement.ErrorState.{ErrorState}
+use Rattle.can_node.specs.declared.confinement.ErrorState.TheVariants.{Active, Passive, Off}
+use Rattle.can_node.specs.declared.confinement.Role.{Role}
 use Rattle.can_node.specs.declared.outcome.Outcome.{Outcome}
 use Rattle.can_node.specs.declared.state.State.{State}
 use Rattle.can_node.specs.Pairs.{Pair}
-use Rattle.can_node.specs.Phases.{Phase}
+use Rattle.can_node.specs.Phases.{Phase, flag_of}
+use Rattle.can_node.specs.Phases.Phase.{Take}
 use Rattle.can_node.specs.Takes.{IsReadOn}
 use Rattle.can_node.specs.Machine.{Agrees, Lands, is_taking}
 use Rattle.can_node.specs.Machine.Agrees.{in_sync, in_idle, in_take, in_send, in_last, in_active, in_overload, in_passive, in_wait, in_delimiter, in_rest, in_suspend, in_off}
@@ -55,3 +59,31 @@ pub reads_on : {new : State} {outcome : Outcome} {after : List Bool} {at : ℕ} 
     Lands new outcome after at before phase pairs events → is_taking new ≡ true → IsReadOn after
 reads_on (goes_on agrees nothing) takes = agrees_read_on agrees takes
 reads_on (is_over next course agrees) takes = agrees_read_on (agrees 0) takes
+
+-- a node reads a frame just in the episode of a take
+takes : Phase → Bool
+takes (Take start given may_begin) = true
+takes phase = false
+
+take_phase : {state : State} {text : List Bool} {at : ℕ} {phase : Phase} {part : List Pair} {events : List ErrorEvent} → Agrees state text at phase part events → is_taking state ≡ takes phase
+unfolding takes
+take_phase (in_sync broken b below) = refl
+take_phase (in_idle n) = refl
+take_phase (in_take given levels may_begin pairs events is on reads may sof place) = refl
+take_phase (in_send given frame before seen driven expected is bit place) = refl
+take_phase in_last = refl
+take_phase (in_active levels size below runs few) = refl
+take_phase (in_overload levels size below runs few) = refl
+take_phase (in_passive owed levels h) = refl
+take_phase (in_wait run n is far due) = refl
+take_phase (in_delimiter kind run n some below) = refl
+take_phase (in_rest below) = refl
+take_phase (in_suspend below) = refl
+take_phase (in_off rest broken below counted b short) = refl
+
+-- so none reads at the start of an error flag
+pub flag_takes_none : (errors : ErrorState) (owed : List ErrorEvent) (role : Role) (state : State) (text : List Bool) (at : ℕ) → Agrees state text at (flag_of errors owed role) [] [] → is_taking state ≡ false
+unfolding takes
+flag_takes_none Active owed role state text at agrees = take_phase agrees
+flag_takes_none Passive owed role state text at agrees = take_phase agrees
+flag_takes_none Off owed role state text at agrees = take_phase agrees

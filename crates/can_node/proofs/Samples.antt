@@ -1,5 +1,5 @@
 -- One bit of a node: its state and its reader, its counters, and the past that it stands after.
-use Rattle.std.proofs.Common.{◌≡◌, ◌⊎◌, inl, inr, ℕ, ◌+◌, Bool, true, false, Option, Some, None, List, [], ◌∷◌, ◌++◌, length, refl, sym, ap, subst, arith, ◌∙◌, length-append}
+use Rattle.std.proofs.Common.{◌≡◌, ◌⊎◌, inl, inr, ℕ, ◌+◌, Bool, true, false, Option, Some, None, List, [], ◌∷◌, ◌++◌, length, take, refl, sym, ap, subst, arith, ◌∙◌, length-append}
 use Rattle.std.proofs.lemmas.List.{append_assoc, append-nil}
 use Rattle.std.proofs.lemmas.List.Sums.{fold-append}
 use Rattle.can_frame.specs.Answers.{Answers}
@@ -33,7 +33,7 @@ use Rattle.can_node.specs.Episodes.Course.{recovered}
 use Rattle.can_node.specs.Episodes.Episode.{ends}
 use Rattle.can_node.specs.Histories.{Past, no_past, IsHistory, IsOnOutside}
 use Rattle.can_node.specs.Histories.Whole.{switched_on}
-use Rattle.can_node.specs.Machine.{Agrees, Lands, Goes, GoesReading, GoesSending, Advances, LeadsTo, Counts, InState, ReaderStands, listed, quiet, EndsIn, Steps, IsSteady, is_taking, is_sending, level_of, level_in, may_start, sof_of, with_bit}
+use Rattle.can_node.specs.Machine.{Agrees, Lands, Goes, GoesReading, GoesSending, LosesAt, Advances, LeadsTo, Counts, InState, ReaderStands, listed, quiet, EndsIn, Steps, IsSteady, is_taking, is_sending, level_of, level_in, may_start, sof_of, with_bit}
 use Rattle.can_node.specs.Machine.Agrees.{in_sync, in_idle, in_take, in_send, in_last, in_active, in_overload, in_passive, in_wait, in_delimiter, in_rest, in_suspend, in_off}
 use Rattle.can_node.specs.Machine.Lands.{goes_on, is_over}
 use Rattle.can_node.specs.Machine.LeadsTo.{no_event, stays_on, goes_off}
@@ -42,7 +42,8 @@ use Rattle.can_node.proofs.Starts.{sof_inside}
 use Rattle.can_node.proofs.Moves.{idle_on}
 use Rattle.can_node.proofs.TakeMoves.{take_more, take_stuff}
 use Rattle.can_node.proofs.Readers.{still_reading, reads_on}
-use Rattle.can_node.proofs.Bits.{agrees_begun, in_state_history, course_quiet, no_send_behind, stands_on, stands_over, outside, lands_on, lands_off}
+use Rattle.can_node.proofs.SendMoves.{lost_text}
+use Rattle.can_node.proofs.Bits.{agrees_begun, in_state_history, course_quiet, stands_on, stands_over, outside, lands_on, lands_off}
 
 -- a node that reads a frame
 pub reading_advances : (start : ℕ) (may : Bool) (stage : Stage) (old new : Reader) (spelling : Spelling) (now : ℕ) (errors : ErrorState) (level : Bool) (step : Step) (turn : Turn) → IsPush old level step new →
@@ -50,16 +51,17 @@ pub reading_advances : (start : ℕ) (may : Bool) (stage : Stage) (old new : Rea
 reading_advances start may stage old new spelling now errors level step turn push goes text at before phase part events clock err agrees holds reads =
     let next = push.next text (reads.reading refl) (reads.stands refl) in
     let both = goes may new text at before phase part events err agrees next in
-    record { after = text ++ level ∷ []; lands = both.0; reads = record { stands = λ is. next.stands; reading = both.1; follows = λ is. next.stands } }
+    record { after = text ++ level ∷ []; lands = both.0; reads = record { stands = λ is. next.stands; reading = both.1 } }
 
--- a node that sends one
-pub sending_advances : (start place : ℕ) (old new : Reader) (spelling : Spelling) (now : ℕ) (errors : ErrorState) (level : Bool) (step : Step) (turn : Turn) → IsPush old level step new →
-    GoesSending start place spelling errors level turn → Advances (Sending start place) old spelling now errors level turn new
-sending_advances start place old new spelling now errors level step turn push goes text at before phase part events clock err agrees holds reads =
+-- A node that sends one. If it begins to read it has lost arbitration, and its reader has read what it drove.
+pub sending_advances : (start place : ℕ) (old new : Reader) (spelling : Spelling) (now : ℕ) (errors : ErrorState) (level : Bool) (turn : Turn) → GoesSending start place spelling errors level turn →
+    (is_taking turn.state ≡ true → LosesAt place spelling) → (is_taking turn.state ≡ true → ReaderStandsAfter new (take place spelling.levels.items ++ level ∷ [])) →
+    Advances (Sending start place) old spelling now errors level turn new
+sending_advances start place old new spelling now errors level turn goes lost read text at before phase part events clock err agrees holds reads =
     let after = text ++ level ∷ [] in
-    let stands = push.stands text (reads.follows refl) in
     let lands = goes text at before phase part events err agrees holds in
-    record { after = after; lands = lands; reads = record { stands = λ is. stands; reading = λ is. still_reading new after stands (reads_on lands is).undecided; follows = λ is. stands } }
+    let stands : is_taking turn.state ≡ true → ReaderStandsAfter new after = λ is. subst (λ t. ReaderStandsAfter new (t ++ level ∷ [])) (lost_text spelling (lost is) agrees holds) (read is) in
+    record { after = after; lands = lands; reads = record { stands = stands; reading = λ is. still_reading new after (stands is) (reads_on lands is).undecided } }
 
 -- a node that reads on as before
 pub steady_advances : (start : ℕ) (may : Bool) (stage : Stage) (old new : Reader) (spelling : Spelling) (now : ℕ) (errors : ErrorState) (level : Bool) (step : Step) → IsPush old level step new →
@@ -94,7 +96,7 @@ other_advances state old new spelling now errors level turn no_send goes stands 
     record {
       after = false ∷ [];
       lands = subst (λ d. Lands turn.state turn.outcome (false ∷ []) at before phase (part ++ record { driven = d; sampled = level } ∷ []) (events ++ listed turn.event)) own lands;
-      reads = record { stands = stands; reading = reading; follows = λ is. absurd (cc (is, no_send_behind state turn.state text (false ∷ []) at before phase part _ events _ turn.outcome no_send agrees lands)) };
+      reads = record { stands = stands; reading = reading };
     }
 
 -- an idle bus
@@ -236,7 +238,7 @@ samples_off old new level turn errors shows advances counts state_is same clock_
         in_state = subst (λ s. InState s new.spelling left.after (with_bit past pair turn.event WentOff)) (sym state_is)
             (subst (λ s. InState (Recovering 0 0) s left.after (with_bit past pair turn.event WentOff)) (sym same)
             (bit_off old.state turn.state old.spelling h.text left.after past pair turn.event turn.outcome st left.lands ((counts past.events).leads h.counted)));
-        reads = subst (λ s. ReaderStands s new.reader left.after) (sym state_is) (record { stands = λ is. absurd (cc is); reading = λ is. absurd (cc is); follows = λ is. absurd (cc is) });
+        reads = subst (λ s. ReaderStands s new.reader left.after) (sym state_is) (record { stands = λ is. absurd (cc is); reading = λ is. absurd (cc is) });
         clock_is = clock_is ∙ clock_next old past pair h;
         counted = (counts past.events).stands h.counted;
       };
@@ -276,7 +278,7 @@ new_stands node state_is counted = record {
     on = refl;
     past_is = refl;
   });
-  reads = subst (λ s. ReaderStands s node.reader []) (sym state_is) (record { stands = λ is. absurd (cc is); reading = λ is. absurd (cc is); follows = λ is. absurd (cc is) });
+  reads = subst (λ s. ReaderStands s node.reader []) (sym state_is) (record { stands = λ is. absurd (cc is); reading = λ is. absurd (cc is) });
   clock_is = omega arith;
   counted = counted;
 }

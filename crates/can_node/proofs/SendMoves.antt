@@ -23,12 +23,12 @@ use Rattle.can_node.specs.declared.spelling.SendBit.TheVariants.{Arbitration, Ar
 use Rattle.can_node.specs.Confinement.{state_after}
 use Rattle.can_node.specs.Pairs.{Pair, driving}
 use Rattle.can_node.specs.Sends.{IsSendBit, IsArbitration, IsArbitrationStuffBit, rtr_place}
-use Rattle.can_node.specs.Sending.{IsSpelling, IsBitAt, SaysBit, level_at}
+use Rattle.can_node.specs.Sending.{Holds, IsSpelling, IsBitAt, SaysBit, level_at}
 use Rattle.can_node.specs.Phases.{Phase, flag_of}
 use Rattle.can_node.specs.Phases.Phase.{Send, Take, Intermission}
 use Rattle.can_node.specs.Episodes.{Course, ack_events}
 use Rattle.can_node.specs.Episodes.Course.{completed, lost, stuff_lost, unacknowledged, bit_differs}
-use Rattle.can_node.specs.Machine.{Agrees, Lands, GoesSending, Signals, listed}
+use Rattle.can_node.specs.Machine.{Agrees, Lands, GoesSending, LosesAt, Signals, is_taking, listed}
 use Rattle.can_node.specs.Machine.Agrees.{in_send, in_rest}
 use Rattle.can_node.specs.Machine.Lands.{goes_on, is_over}
 use Rattle.can_node.proofs.Moves.{turn}
@@ -147,22 +147,46 @@ says bit spelling frame place a holds h few is =
     let small : spelling.rtr ≤ 32 = omega (arith, holds.rtr_is, rtr_few frame.id) in
     subst (SaysBit bit (reverse a)) holds.rtr_is (subst (λ t. SaysBit bit (reverse t) spelling.rtr) is (h few small))
 
+-- where arbitration may be lost the node has sampled what it drove
+record Arbitrates (spelling : Spelling) (frame : FrameValue) (given bef seen : List Bool) (place : ℕ) : Type 0 where
+  pub differs : Differs spelling frame given bef seen place true
+  pub arbitration : IsArbitration frame (given ++ bef)
+  pub same : given ++ bef ≡ given ++ seen
+
+arbitrates : (spelling : Spelling) (frame : FrameValue) (given bef seen : List Bool) (driven expected : Bool) (place : ℕ) → IsSendBit frame given bef seen driven expected → place ≡ length given + length bef → IsSpelling frame spelling →
+    LosesAt place spelling → Arbitrates spelling frame given bef seen place
+arbitrates spelling frame given bef seen driven expected place bit place_is holds loses =
+    let d = differs spelling frame given bef seen driven expected place true bit place_is holds loses.elsewhere loses.drives in
+    let a = given ++ bef in
+    let say = says Arbitration spelling frame place a holds loses.bit_is d.few d.text_is in
+    let arbitration : IsArbitration frame a = record { no_stuff_bit = say.0; after_sof = say.1; up_to_rtr = say.2 } in
+    record {
+      differs = d;
+      arbitration = arbitration;
+      same = d.short (omega (arith, d.whole, arbitration_short frame a d.later true holds.is_frame d.spells arbitration));
+    }
+
+-- so what it drove before is what its text is
+pub lost_text : {start place : ℕ} {text : List Bool} {at : ℕ} {phase : Phase} {part : List Pair} {events : List ErrorEvent} (spelling : Spelling) → LosesAt place spelling → Agrees (Sending start place) text at phase part events →
+    Holds phase spelling → take place spelling.levels.items ≡ text
+lost_text {place = place} spelling loses (in_send given frame bef seen driven expected is bit place_is) holds =
+    let h = arbitrates spelling frame given bef seen driven expected place bit place_is holds loses in
+    h.differs.text_is ∙ h.same ∙ sym is
+
 pub send_lost : (start place : ℕ) (spelling : Spelling) (e : ErrorState) → IsBitAt Arbitration spelling place → level_at spelling place ≡ true → (place + 9 ≡ length spelling.levels.items → ⊥) →
     GoesSending start place spelling e false (record { state = Taking start false Region; event = None; outcome = Lost })
 send_lost start place spelling e bit_is drives elsewhere text at before phase part events err (in_send given frame bef seen driven expected is bit place_is) holds =
-    let d = differs spelling frame given bef seen driven expected place true bit place_is holds elsewhere drives in
+    let h = arbitrates spelling frame given bef seen driven expected place bit place_is holds (record { bit_is = bit_is; drives = drives; elsewhere = elsewhere }) in
+    let d = h.differs in
     let a = given ++ bef in
-    let say = says Arbitration spelling frame place a holds bit_is d.few d.text_is in
-    let arbitrates : IsArbitration frame a = record { no_stuff_bit = say.0; after_sof = say.1; up_to_rtr = say.2 } in
-    let same : a ≡ given ++ seen = d.short (omega (arith, d.whole, arbitration_short frame a d.later true holds.is_frame d.spells arbitrates)) in
-    let inside = lost_inside frame a d.later true holds.is_frame d.spells arbitrates in
-    let read : a ++ false ∷ [] ≡ text ++ false ∷ [] = ap (λ t. t ++ false ∷ []) (same ∙ sym is) in
+    let inside = lost_inside frame a d.later true holds.is_frame d.spells h.arbitration in
+    let read : a ++ false ∷ [] ≡ text ++ false ∷ [] = ap (λ t. t ++ false ∷ []) (h.same ∙ sym is) in
     let begins : (later : ℕ) → Agrees (Taking start false Region) (text ++ false ∷ []) later (Take start (text ++ false ∷ []) false) [] [] =
     λ later. reads_from (text ++ false ∷ []) _ (subst (λ t. Inside t (reverse (false ∷ unstuffed (reverse a)))) read inside) start false (λ no_start. absurd (cc no_start)) later in
     let given_is : text ++ false ∷ [] ≡ given ++ seen ++ false ∷ [] = ap (λ t. t ++ false ∷ []) is in
     is_over (Take start (given ++ seen ++ false ∷ []) false)
     (subst (λ b. Course at before (Send start given frame) (driving bef seen ++ record { driven = b; sampled = false } ∷ []) [] Lost (Take start (given ++ seen ++ false ∷ []) false)) (sym drives)
-    (lost start given frame bef seen d.bit arbitrates))
+    (lost start given frame bef seen d.bit h.arbitration))
     (subst (λ g. (later : ℕ) → Agrees (Taking start false Region) (text ++ false ∷ []) later (Take start g false) [] []) given_is begins)
 
 pub send_stuff_lost : (start place : ℕ) (spelling : Spelling) (e : ErrorState) (flag : State) → ((text : List Bool) (later : ℕ) → Agrees flag text later (flag_of e [] Sender) [] []) →

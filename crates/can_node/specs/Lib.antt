@@ -1,5 +1,6 @@
 pub mod Confinement
 pub mod Counters
+pub mod KnownCounts
 pub mod Pairs
 pub mod Sends
 pub mod Takes
@@ -9,8 +10,10 @@ pub mod Phases
 pub mod Episodes
 pub mod Histories
 pub mod Sending
+pub mod Spelled
 pub mod Machine
 pub mod Node
+pub mod Listener
 pub mod Cuts
 pub mod Copies
 pub mod Attempts

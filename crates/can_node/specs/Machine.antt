@@ -9,6 +9,7 @@ use Rattle.can_frame.specs.declared.step.Step.{Step}
 use Rattle.can_frame.specs.declared.step.Step.TheVariants.{More, StuffBit}
 use Rattle.can_frame.specs.declared.reader.Reader.{Reader}
 use Rattle.can_node.specs.declared.confinement.Role.{Role}
+use Rattle.can_node.specs.declared.confinement.Role.TheVariants.{Sender, Receiver}
 use Rattle.can_node.specs.declared.confinement.ErrorEvent.{ErrorEvent}
 use Rattle.can_node.specs.declared.confinement.ErrorEvent.TheVariants.{SenderError}
 use Rattle.can_node.specs.declared.confinement.ErrorState.{ErrorState}
@@ -28,7 +29,8 @@ use Rattle.can_node.specs.Counters.{StandsAfter}
 use Rattle.can_node.specs.Confinement.{state_after}
 use Rattle.can_node.specs.Pairs.{Pair, listening, dominating, driving, recessive, dominant}
 use Rattle.can_node.specs.Sends.{IsSendBit}
-use Rattle.can_node.specs.Sending.{Holds, level_at}
+use Rattle.can_node.specs.Sending.{Holds, IsBitAt, level_at}
+use Rattle.can_node.specs.declared.spelling.SendBit.TheVariants.{Arbitration}
 use Rattle.can_node.specs.Takes.{IsReadOn, Reads}
 use Rattle.can_node.specs.Flags.{IsWithoutSix, owed_events, flag_bits, dominant_end, dominant_events, first_counted}
 use Rattle.can_node.specs.Waits.{Broken, Recoveries}
@@ -134,17 +136,38 @@ may_start Idling = true
 may_start (Taking start may_begin stage) = may_begin
 may_start state = false
 
+-- a node in this state reads on in the stuffed region of a frame, and may not begin to send instead
+abbrev pub is_in_region : State → Bool
+is_in_region (Taking start false Region) = true
+is_in_region state = false
+
+-- a receiver
+abbrev pub is_receiver : Role → Bool
+is_receiver Receiver = true
+is_receiver Sender = false
+
+-- a node in this state listens to the line as others may: it sends no frame, and has nothing left to do of one that
+-- it sent
+abbrev pub listens : State → Bool
+listens (Sending start place) = false
+listens (Suspending ones) = false
+listens (Recovering runs ones) = false
+listens (Flagging kind role sent until) = is_receiver role
+listens (PassiveFlagging role owes ones zeros) = is_receiver role
+listens (Waiting kind role until first) = is_receiver role
+listens (Delimiting role ones) = is_receiver role
+listens (Resting role ones) = is_receiver role
+listens state = true
+
 -- the number of the SOF of the frame that a node in this state sends
 abbrev pub sof_of : State → Option ℕ
 sof_of (Sending start place) = Some start
 sof_of state = None
 
--- if a node in this state reads or sends a frame, its reader has read this text of it; and it reads on, if
--- the node does
+-- if a node in this state reads a frame, its reader has read this text of it, and reads on
 pub record ReaderStands (state : State) (reader : Reader) (text : List Bool) : Type 0 where
   pub stands : is_taking state ≡ true → ReaderStandsAfter reader text
   pub reading : is_taking state ≡ true → IsReading reader
-  pub follows : is_sending state ≡ true → ReaderStandsAfter reader text
 
 -- what a node in this state makes of a bit at which it samples this level
 abbrev pub pair_of : State → Bool → Pair
@@ -218,10 +241,16 @@ pub record IsSteady (may_begin : Bool) (stage : Stage) (step : Step) : Type 0 wh
   pub inside : stage ≡ Region
   pub goes_on : (step ≡ More) ⊎ (step ≡ StuffBit)
 
--- A node in this state begins to send at this bit. If it has read SOF it goes on behind it, and its reader too.
-abbrev pub Begins : State → Reader → ℕ → State → Reader → Type 0
-Begins (Taking start may_begin stage) old now next new = (next ≡ Sending start 1) × (new ≡ old)
-Begins state old now next new = (next ≡ Sending now 0) × ReaderStandsAfter new []
+-- A node in this state begins to send at this bit. If it has read SOF it goes on behind it.
+abbrev pub Begins : State → ℕ → State → Type 0
+Begins (Taking start may_begin stage) now next = next ≡ Sending start 1
+Begins state now next = next ≡ Sending now 0
+
+-- In this place of a spelling arbitration may be lost: a recessive bit of it stands there, and no stuff bit.
+pub record LosesAt (place : ℕ) (spelling : Spelling) : Type 0 where
+  pub bit_is : IsBitAt Arbitration spelling place
+  pub drives : level_at spelling place ≡ true
+  pub elsewhere : place + 9 ≡ length spelling.levels.items → ⊥
 
 -- what an event leads to behind the events before it, and whether that is bus off
 pub data LeadsTo (events : List ErrorEvent) : Option ErrorEvent → Bool → Type 0 where

@@ -3,6 +3,7 @@ use Rattle.std.specs.Prelude.{◌≡◌, ℕ, ◌+◌, Bool, Option, List, [], �
 use Rattle.can_frame.specs.Frames.{FrameValue}
 use Rattle.can_node.specs.declared.confinement.ErrorEvent.{ErrorEvent}
 use Rattle.can_node.specs.declared.outcome.Outcome.{Outcome}
+use Rattle.can_node.specs.declared.counters.Counters.{Counters}
 use Rattle.can_node.specs.declared.node.Node.{Node}
 use Rattle.can_node.specs.Counters.{StandsAfter as CountersStandAfter}
 use Rattle.can_node.specs.Phases.{wants_start, sent_from}
@@ -11,7 +12,7 @@ use Rattle.can_node.specs.Machine.{InState, ReaderStands, level_in, may_start, s
 
 -- the node stands after this past: it may have done this, and nothing else, since it was switched on
 pub record StandsAfter (node : Node) (past : Past) : Type 0 where
-  -- what its reader has read, if it reads or sends a frame
+  -- what its reader has read, if it reads a frame
   pub text : List Bool
   pub in_state : InState node.state node.spelling text past
   pub reads : ReaderStands node.state node.reader text
@@ -33,6 +34,10 @@ may_begin node = may_start node.state
 -- the number of the SOF of the frame that it sends
 abbrev pub sends_from : Node → Option ℕ
 sends_from node = sof_of node.state
+
+-- its error counters
+abbrev pub counters_in : Node → Counters
+counters_in node = node.counters
 
 -- a past in which the node begins to send this frame at its next bit
 abbrev pub with_begin : Past → FrameValue → Past

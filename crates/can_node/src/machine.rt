@@ -1,6 +1,6 @@
 //! One bit of a node: what its level makes of state, reader and counters.
 
-ghost use Rattle.std.specs.Prelude.{◌≡◌, ℕ, Bool, List, true, false, ◌∷◌, []};
+ghost use Rattle.std.specs.Prelude.{◌≡◌, ℕ, Bool, List, true, false, ◌∷◌, ◌++◌, []};
 ghost use Rattle.can_frame.specs.Reading.{StandsAfter, IsReading, IsPush};
 ghost use Rattle.can_node.specs.Machine.{
   Goes,
@@ -9,14 +9,18 @@ ghost use Rattle.can_node.specs.Machine.{
   IsMade,
   IsSteady,
   Steps,
+  is_in_region,
+  is_receiver,
   is_taking,
   is_sending,
   level_in,
+  level_of,
+  listens,
   may_start,
   sof_of,
 };
 
-use crate::confinement::{ErrorEvent, ErrorState};
+use crate::confinement::{ErrorEvent, ErrorState, Role};
 use crate::counters::Counters;
 use crate::outcome::Outcome;
 use crate::sends::after_sending;
@@ -29,15 +33,24 @@ use crate::turns::{
 };
 use can_frame::{Reader, Step};
 
+/// The level that a node drives in this state, if it sends no frame.
+pub(crate) fn level_of(state: State) -> bool
+    ensures { result ≡ level_of state }
+{
+    match state {
+        State::Flagging(_, _, _, _) => false,
+        State::Taking(_, _, stage) => !stage.is_own_slot(),
+        _ => true,
+    }
+}
+
 /// The level that a node drives in this state.
 pub(crate) fn level_in(state: State, spelling: &Spelling) -> bool
     ensures { result ≡ level_in state spelling.now }
 {
     match state {
         State::Sending(_, place) => spelling.level(place),
-        State::Flagging(_, _, _, _) => false,
-        State::Taking(_, _, stage) => !stage.is_own_slot(),
-        _ => true,
+        _ => level_of(state),
     }
 }
 
@@ -62,15 +75,53 @@ pub(crate) fn sof_of(state: State) -> Option<u64>
     }
 }
 
+/// Whether a node in this state listens to the line as others may: it sends no frame, and has nothing left to do of one
+/// that it sent.
+pub(crate) fn listens(state: State) -> bool
+    ensures { result ≡ listens state }
+{
+    match state {
+        State::Sending(_, _) => false,
+        State::Suspending(_) => false,
+        State::Recovering(_, _) => false,
+        State::Flagging(_, role, _, _) => is_receiver(role),
+        State::PassiveFlagging(role, _, _, _) => is_receiver(role),
+        State::Waiting(_, role, _, _) => is_receiver(role),
+        State::Delimiting(role, _) => is_receiver(role),
+        State::Resting(role, _) => is_receiver(role),
+        _ => true,
+    }
+}
+
+fn is_receiver(role: Role) -> bool
+    ensures { result ≡ is_receiver role }
+{
+    match role {
+        Role::Receiver => true,
+        Role::Sender => false,
+    }
+}
+
+/// Whether a node in this state reads on in the stuffed region of a frame, and may not begin to send instead.
+#[inline]
+pub(crate) fn is_in_region(state: State) -> bool
+    ensures { result ≡ is_in_region state }
+{
+    match state {
+        State::Taking(_, may_begin, stage) => !may_begin && stage == Stage::Region,
+        _ => false,
+    }
+}
+
 /// Whether a node in this state reads a frame.
-fn is_taking(state: State) -> bool
+pub(crate) fn is_taking(state: State) -> bool
     ensures { result ≡ is_taking state }
 {
     matches!(state, State::Taking(_, _, _))
 }
 
 /// What a level makes of a state that neither reads nor sends a frame.
-fn turn_of(state: State, now: u64, errors: ErrorState, level: bool) -> Turn
+pub(crate) fn turn_of(state: State, now: u64, errors: ErrorState, level: bool) -> Turn
     ensures { is_taking state ≡ false → is_sending state ≡ false
         → Goes state now errors level result }
 {
@@ -99,12 +150,25 @@ fn turn_of(state: State, now: u64, errors: ErrorState, level: bool) -> Turn
 
 /// A reader of the frame whose SOF was just sampled.
 #[inline(never)]
-fn reader_after_sof() -> Reader
+pub(crate) fn reader_after_sof() -> Reader
     ensures stands { StandsAfter result (false ∷ []) }
     ensures reading { IsReading result }
 {
     let mut reader = Reader::new();
     let _more = reader.push(false);
+    reader
+}
+
+/// A reader of the frame of which these levels were sampled, SOF first, and then this one.
+#[inline(never)]
+fn reader_behind(text: &[bool], level: bool) -> Reader
+    ensures { StandsAfter result (text.now ++ level ∷ []) }
+{
+    let mut reader = Reader::new();
+    for sampled in text {
+        let _step = reader.push(*sampled);
+    }
+    let _step = reader.push(level);
     reader
 }
 
@@ -172,25 +236,27 @@ fn turn_taking(
     )
 }
 
-/// A turn of a node that sends a frame.
+/// A turn of a node that sends a frame. If it loses arbitration it reads on: what it drove so far is what it has read.
 #[inline(never)]
 fn turn_sending(
     state: &mut State,
     counters: &mut Counters,
+    reader: &mut Reader,
     spelling: &Spelling,
     start: u64,
     place: u8,
     level: bool,
 ) -> Outcome
-    ensures { (step : Step) (old new : Reader) (now : ℕ) → IsPush old level step new
-        → Steps (State.Sending start place) counters.old old spelling.now now level result state.new counters.new new }
+    ensures { (now : ℕ) → Steps (State.Sending start place) counters.old reader.old spelling.now now level
+        result state.new counters.new reader.new }
 {
     let errors = counters.state();
-    make(
-        after_sending(start, place, spelling, errors, level),
-        state,
-        counters,
-    )
+    let turn = after_sending(start, place, spelling, errors, level);
+    if is_taking(turn.state) {
+        *reader = reader_behind(spelling.before(place), level);
+        return make(turn, state, counters);
+    }
+    make(turn, state, counters)
 }
 
 /// A turn of a node that neither reads nor sends a frame.
@@ -214,8 +280,8 @@ fn turn_outside(
     make(turn, state, counters)
 }
 
-/// One bit of a node, at which it samples this level: what it brings to an end. If a frame is read or sent, its
-/// reader is pushed that level: a sender that loses arbitration reads on.
+/// One bit of a node, at which it samples this level: what it brings to an end. If a frame is read, its reader is
+/// pushed that level. A sender reads only once it has lost arbitration: up to there it samples what it drives.
 ///
 /// Most bits of a bus make no turn. They end here, and the calls for the others stay calls, so that these bits
 /// pay for no `Turn`.
@@ -239,12 +305,11 @@ pub(crate) fn advance(
             turn_taking(state, counters, start, stage, step, level)
         }
         State::Sending(start, place) => {
-            let _read = reader.push(level);
             if spelling.is_echo(place, level) {
                 *state = State::Sending(start, place.saturating_add(1));
                 return Outcome::Nothing;
             }
-            turn_sending(state, counters, spelling, start, place, level)
+            turn_sending(state, counters, reader, spelling, start, place, level)
         }
         State::Idling if level => Outcome::Nothing,
         _ => turn_outside(state, counters, reader, now, level),
@@ -252,14 +317,12 @@ pub(crate) fn advance(
 }
 
 /// The state of a node that begins to send at this bit. If the third bit of intermission was dominant, SOF
-/// stands on the bus already, and the reader has read it.
-#[inline(never)]
-pub(crate) fn begin(state: State, reader: &mut Reader, now: u64) -> State
-    ensures { Begins state reader.old now result reader.new }
+/// stands on the bus already.
+pub(crate) fn begin(state: State, now: u64) -> State
+    ensures { Begins state now result }
 {
     if let State::Taking(start, _, _) = state {
         return State::Sending(start, 1);
     }
-    *reader = Reader::new();
     State::Sending(now, 0)
 }

@@ -1,14 +1,17 @@
 //! A node of one segment.
 
 ghost use Rattle.std.specs.Prelude.{◌≡◌, ℕ, ◌+◌, ◌<◌, true, IsSome};
-ghost use Rattle.can_node.specs.Counters.{StandsAfter as CountersStandAfter};
+ghost use Rattle.can_node.specs.Counters.{StandsAfter as CountersStandAfter, counts_of};
 ghost use Rattle.can_node.specs.Histories.{Past, no_past, IsHistory};
+ghost use Rattle.can_node.specs.Listener.{StandsWith, caught_up, listener_of, listens_in};
+ghost use Rattle.can_node.specs.KnownCounts.{Knows, known_of};
 ghost use Rattle.can_node.specs.Node.{
   StandsAfter,
   IsSample,
   IsWanting,
   IsSending,
   bit_of,
+  counters_in,
   driven_by,
   may_begin,
   sends_from,
@@ -16,9 +19,11 @@ ghost use Rattle.can_node.specs.Node.{
 };
 
 use crate::counters::Counters;
-use crate::machine::{advance, begin, level_in, may_start, sof_of};
+use crate::known_counts::KnownCounts;
+use crate::listener::Listener;
+use crate::machine::{advance, begin, level_in, listens, may_start, sof_of};
 use crate::outcome::Outcome;
-use crate::spelling::Spelling;
+use crate::spelled::Spelled;
 use crate::state::State;
 use can_frame::{Frame, Reader};
 
@@ -30,10 +35,10 @@ use can_frame::{Frame, Reader};
 #[derive(Drop)]
 pub struct Node {
     state: State,
-    // of the frame that is read or sent; without use else
+    // of the frame that is read; without use else
     reader: Reader,
-    // of the frame that is sent; without use else
-    spelling: Spelling,
+    // of the frame that is sent; else that of the last, which may be begun again
+    spelling: Spelled,
     counters: Counters,
     // the number of the next bit
     clock: u64,
@@ -48,7 +53,7 @@ impl Node {
         Node {
             state: State::Syncing(0),
             reader: Reader::new(),
-            spelling: Spelling::empty(),
+            spelling: Spelled::empty(),
             counters: Counters::new(),
             clock: from_bit,
         }
@@ -63,7 +68,8 @@ impl Node {
 
     /// The error counters.
     pub fn counters(&self) -> Counters
-        ensures { (past : Past) → StandsAfter self.now past → CountersStandAfter result past.events }
+        ensures is { result ≡ counters_in self.now }
+        ensures stand { (past : Past) → StandsAfter self.now past → CountersStandAfter result past.events }
     {
         self.counters
     }
@@ -77,6 +83,56 @@ impl Node {
         may_start(self.state)
     }
 
+    /// What is known of its error counts, as much as there is to be known.
+    pub fn known_counts(&self) -> KnownCounts
+        ensures known { Knows result (counters_in self.now) }
+        ensures most { result ≡ known_of (counts_of (counters_in self.now)) }
+    {
+        KnownCounts::of(self.counters)
+    }
+
+    /// Whether a listener may come to stand for it: it sends no frame, and no error or overload frame, suspension or
+    /// intermission behind its own frame.
+    pub fn is_listening(&self) -> bool
+        ensures { result ≡ listens_in self.now }
+    {
+        listens(self.state)
+    }
+
+    /// One that has come as far as this node, and may follow the line for it and others.
+    pub fn listener(&self) -> Listener
+        ensures { result ≡ listener_of self.now }
+    {
+        Listener {
+            state: self.state,
+            reader: self.reader.copy(),
+        }
+    }
+
+    /// Whether the node has come as far as this listener, so that it may stand for it. It tells so of none that sends
+    /// a frame.
+    pub fn stands_with(&self, listener: &Listener) -> bool
+        ensures { result ≡ true → StandsWith self.now listener.now }
+    {
+        if self.state != listener.state {
+            return false;
+        }
+        match self.state {
+            State::Sending(_, _) => false,
+            State::Taking(_, _, _) => self.reader.reads_as(&listener.reader),
+            _ => true,
+        }
+    }
+
+    /// The node, for which this listener stood, catches up with it: its next bit is that of this number.
+    pub fn catch_up(&mut self, listener: &Listener, bit: u64)
+        ensures { self.new ≡ caught_up self.old listener.now bit }
+    {
+        self.state = listener.state;
+        self.reader = listener.reader.copy();
+        self.clock = bit;
+    }
+
     /// The node begins to send this frame at the next bit: with its SOF where the bus is idle, and with its
     /// first identifier bit where the third bit of intermission was dominant, which is SOF then (Bosch CAN
     /// Specification 2.0, part B, 3.2.5 INTERFRAME SPACING).
@@ -88,8 +144,8 @@ impl Node {
         ensures sends { IsSome (sends_from self.new) }
         ensures history { (past : Past) → StandsAfter self.new past → IsHistory past }
     {
-        self.spelling = Spelling::of(&frame);
-        self.state = begin(self.state, &mut self.reader, self.clock);
+        self.spelling.spell(&frame);
+        self.state = begin(self.state, self.clock);
     }
 
     /// The number of the SOF of the frame that the node sends, also where another node drove it; `None` while
@@ -105,7 +161,7 @@ impl Node {
     pub fn drive(&self) -> bool
         ensures { result ≡ driven_by self.now }
     {
-        level_in(self.state, &self.spelling)
+        level_in(self.state, self.spelling.spelling())
     }
 
     /// The node samples this level, and has driven the one of `drive`. It tells what this bit brings to
@@ -122,7 +178,7 @@ impl Node {
             &mut self.state,
             &mut self.counters,
             &mut self.reader,
-            &self.spelling,
+            self.spelling.spelling(),
             now,
             level,
         )

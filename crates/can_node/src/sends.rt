@@ -4,7 +4,7 @@ ghost use Rattle.std.specs.Prelude.{◌≡◌, ◌+◌, ℕ, true, false, List, 
 ghost use Rattle.can_node.specs.Phases.{flag_of};
 ghost use Rattle.can_node.specs.Episodes.{ack_events};
 ghost use Rattle.can_node.specs.Sending.{IsBitAt, level_at};
-ghost use Rattle.can_node.specs.Machine.{Agrees, Signals, GoesSending, listed};
+ghost use Rattle.can_node.specs.Machine.{Agrees, GoesSending, LosesAt, Signals, is_taking, listed};
 ghost use Rattle.can_node.specs.declared.confinement.Role.TheVariants.{Sender};
 ghost use Rattle.can_node.specs.declared.confinement.ErrorEvent.TheVariants.{SenderError};
 ghost use Rattle.can_node.specs.declared.spelling.Spelling.{Spelling};
@@ -22,6 +22,7 @@ fn unacknowledged(errors: ErrorState) -> Turn
     ensures flags { (text : List Bool) (later : ℕ) → Agrees result.state text later (flag_of errors (SenderError ∷ []) Sender) [] [] }
     ensures event { listed result.event ≡ ack_events errors }
     ensures outcome { result.outcome ≡ Outcome.Errored ErrorKind.Ack }
+    ensures reads_none { is_taking result.state ≡ false }
 {
     let outcome = Outcome::Errored(ErrorKind::Ack);
     let owed = None;
@@ -57,8 +58,9 @@ fn bit_error(errors: ErrorState) -> Turn
 
 /// A recessive bit is dominant on the bus.
 fn overruled(start: u64, bit: SendBit, errors: ErrorState) -> Turn
-    ensures { (place : ℕ) (spelling : Spelling) → IsBitAt bit spelling place → level_at spelling place ≡ true
+    ensures goes { (place : ℕ) (spelling : Spelling) → IsBitAt bit spelling place → level_at spelling place ≡ true
         → (place + 9 ≡ length spelling.levels.items → ⊥) → GoesSending start place spelling errors false result }
+    ensures lost { is_taking result.state ≡ true → bit ≡ SendBit.Arbitration }
 {
     match bit {
         SendBit::Arbitration => Turn {
@@ -84,7 +86,8 @@ pub(crate) fn after_sending(
     errors: ErrorState,
     level: bool,
 ) -> Turn
-    ensures { GoesSending start place spelling.now errors level result }
+    ensures goes { GoesSending start place spelling.now errors level result }
+    ensures lost { is_taking result.state ≡ true → LosesAt place spelling.now }
 {
     if spelling.is_slot(place) {
         if level {

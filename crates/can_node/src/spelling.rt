@@ -1,6 +1,6 @@
 //! A frame as its sender drives it.
 
-ghost use Rattle.std.specs.Prelude.{◌≡◌, ◌≤◌, ◌<◌, ◌+◌, ◌∷◌, List, Bool, true, false, length, reverse, min};
+ghost use Rattle.std.specs.Prelude.{◌≡◌, ◌≤◌, ◌<◌, ◌+◌, ◌∷◌, List, Bool, true, false, length, reverse, min, take};
 ghost use Rattle.can_node.specs.Sends.{rtr_place};
 ghost use Rattle.can_node.specs.Sending.{IsSpelling, IsBitAt, level_at, Tallies, SaysBit};
 
@@ -56,6 +56,14 @@ impl Spelling {
             Some(level) => *level,
             None => true,
         }
+    }
+
+    /// The levels before this place.
+    pub(crate) fn before(&self, place: u8) -> &[bool]
+        ensures { result.now ≡ take place self.now.levels.items }
+    {
+        let levels = self.levels.as_slice();
+        &levels[..usize::from(place).min(levels.len())]
     }
 
     /// Whether the ACK slot has this place. The ACK delimiter and seven bits of EOF stand behind it.

@@ -8,7 +8,7 @@ use crate::flag::FlagKind;
 use crate::outcome::Outcome;
 
 /// Where the next level stands in a frame that is read.
-#[derive(Clone, Copy)]
+#[derive(Clone, Copy, PartialEq, Eq)]
 pub(crate) enum Stage {
     /// In the stuffed region.
     Region,
@@ -33,7 +33,7 @@ impl Stage {
 }
 
 /// How far a node has come in its episode.
-#[derive(Clone, Copy)]
+#[derive(Clone, Copy, PartialEq, Eq)]
 pub(crate) enum State {
     /// Switched on, with so many recessive levels in a row, fewer than eleven.
     Syncing(u8),

@@ -17,7 +17,7 @@ use Rattle.can_segment.specs.declared.event.Label.{Label}
 use Rattle.can_segment.specs.declared.plan.Controller.{Controller}
 use Rattle.can_segment.specs.declared.plan.SegmentPlan.{SegmentPlan}
 use Rattle.can_segment.specs.declared.plan.Talker.{Talker}
-use Rattle.can_segment.specs.declared.sent.Sent.{Sent}
+use Rattle.can_segment.specs.declared.transmission.Transmission.{Transmission}
 use Rattle.can_segment.specs.Attempts.{act_at}
 use Rattle.can_segment.specs.Faults.{sampled_level}
 use Rattle.can_segment.specs.Traces.{Act, Bit, with_start, with_act, act_of, past_of, sending_of}
@@ -77,7 +77,7 @@ next_act plan on node trace bit h e =
     ]
 
 -- what a node begins and tells is noted in its past
-start_keeps : (past : Past) (begun : Option Sent) →
+start_keeps : (past : Past) (begun : Option Transmission) →
     ((with_start past begun).outcomes ≡ past.outcomes)
     × ((with_start past begun).first + length (with_start past begun).pairs ≡ past.first + length past.pairs)
 start_keeps past None = (refl, refl)
@@ -92,11 +92,11 @@ act_outcomes past act =
     ∙ ap (λ n. past.outcomes ++ noted n act.outcome) keeps.1
 
 -- a frame with its bit, where one is begun
-abbrev begun_in : ℕ → Option Sent → List (ℕ × FrameValue)
+abbrev begun_in : ℕ → Option Transmission → List (ℕ × FrameValue)
 begun_in bit None = []
 begun_in bit (Some sent) = (bit, sent.frame) ∷ []
 
-start_begun : (past : Past) (begun : Option Sent) →
+start_begun : (past : Past) (begun : Option Transmission) →
     (with_start past begun).begun ≡ past.begun ++ begun_in (past.first + length past.pairs) begun
 start_begun past None = sym (append-nil past.begun)
 start_begun past (Some sent) = refl
@@ -176,8 +176,8 @@ pub record Does (plan : SegmentPlan) (node on : ℕ) (trace : List Bit) (b : ℕ
   pub late : on ≤ b
   pub within : b < length trace
   pub clock : (past_of on node (take b trace)).first + length (past_of on node (take b trace)).pairs ≡ b
-  pub begins : (sent : Sent) → act.begun ≡ Some sent → IsBegun (past_of on node (take b trace)) sent
-  pub begun : (sent : Sent) → act.begun ≡ Some sent → Contains (past_of on node trace).begun (b, sent.frame)
+  pub begins : (sent : Transmission) → act.begun ≡ Some sent → IsBegun (past_of on node (take b trace)) sent
+  pub begun : (sent : Transmission) → act.begun ≡ Some sent → Contains (past_of on node trace).begun (b, sent.frame)
   pub told : (x : ℕ × Outcome) → Contains (noted b act.outcome) x → Contains (past_of on node trace).outcomes x
   pub reaps : (label : Label) → act.reaped ≡ Some label → IsReaping (sending_of node (take b trace)) act label
 
@@ -298,7 +298,7 @@ does_at {plan = plan} node on b act (one_more {trace = trace} bit run is_bit) e 
 pub record BeganAt (node on : ℕ) (trace : List Bit) (b : ℕ) (frame : FrameValue) : Type 0 where
   pub act : Act
   pub act_is : act_at node trace b ≡ Some act
-  pub sent : Sent
+  pub sent : Transmission
   pub begun_is : act.begun ≡ Some sent
   pub frame_is : sent.frame ≡ frame
 
@@ -308,8 +308,8 @@ pub record ToldAt (node : ℕ) (trace : List Bit) (b : ℕ) (outcome : Outcome) 
   pub act_is : act_at node trace b ≡ Some act
   pub outcome_is : act.outcome ≡ outcome
 
-begun_noted : (at b : ℕ) (begun : Option Sent) (frame : FrameValue) → Contains (begun_in at begun) (b, frame) →
-    (sent : Sent) × (begun ≡ Some sent) × (sent.frame ≡ frame) × (b ≡ at)
+begun_noted : (at b : ℕ) (begun : Option Transmission) (frame : FrameValue) → Contains (begun_in at begun) (b, frame) →
+    (sent : Transmission) × (begun ≡ Some sent) × (sent.frame ≡ frame) × (b ≡ at)
 begun_noted at b None frame c = absurd (omega (arith, c.1))
 begun_noted at b (Some sent) frame c =
     let e = one_noted (at, sent.frame) (b, frame) c in

@@ -17,7 +17,7 @@ use Rattle.can_node.proofs.Outcomes.IsEnd.{is_completed, is_lost, is_error, is_o
 use Rattle.can_node.proofs.Sofs.{starts_are_sofs}
 use Rattle.can_segment.specs.declared.event.Event.{Event}
 use Rattle.can_segment.specs.declared.plan.SegmentPlan.{SegmentPlan}
-use Rattle.can_segment.specs.declared.sent.Sent.{Sent}
+use Rattle.can_segment.specs.declared.transmission.Transmission.{Transmission}
 use Rattle.can_segment.specs.Attempts.{act_at, begun_at, sending_at, outcome_at, IsTold, AttemptsAreTold, EndsAreOfAttempts}
 use Rattle.can_segment.specs.Traces.{Act, Bit, act_of, past_of, sending_of, sending_now, sending_after, sending_behind, ends_sending}
 use Rattle.can_segment.specs.Runs.{Run, firsts}
@@ -86,7 +86,7 @@ outcome_by node trace b act is = ap outcome_in is
     outcome_in (Some act) = act.outcome
 
 -- the act at a bit at which something is begun, or told
-pub act_begins : (node : ℕ) (trace : List Bit) (b : ℕ) (sent : Sent) → begun_at node trace b ≡ Some sent →
+pub act_begins : (node : ℕ) (trace : List Bit) (b : ℕ) (sent : Transmission) → begun_at node trace b ≡ Some sent →
     (act : Act) × (act_at node trace b ≡ Some act) × (act.begun ≡ Some sent)
 act_begins node trace b sent e = elim (act_or_none (act_at node trace b)) [
   | inl none ↦ absurd (let nothing = ap (option_and_then (λ (a : Act). a.begun)) none in cc (nothing, e))
@@ -107,13 +107,13 @@ act_ends node trace b e = elim (act_or_none (act_at node trace b)) [
 
 -- From a bit on a node sends what it began there: up to another bit it begins nothing else, and no transmission ends
 -- before.
-pub record SendsFrom (node : ℕ) (trace : List Bit) (first last : ℕ) (sent : Sent) : Type 0 where
+pub record SendsFrom (node : ℕ) (trace : List Bit) (first last : ℕ) (sent : Transmission) : Type 0 where
   pub in_order : first ≤ last
   pub begins : begun_at node trace first ≡ Some sent
-  pub none_begun : (bit : ℕ) (other : Sent) → first < bit → bit ≤ last → begun_at node trace bit ≡ Some other → ⊥
+  pub none_begun : (bit : ℕ) (other : Transmission) → first < bit → bit ≤ last → begun_at node trace bit ≡ Some other → ⊥
   pub none_ended : (bit : ℕ) → first ≤ bit → bit < last → ends_sending (outcome_at node trace bit) ≡ true → ⊥
 
-after_more : (sending : Option Sent) (outcome : Outcome) (b : Bool) → ends_sending outcome ≡ b → (b ≡ true → ⊥) →
+after_more : (sending : Option Transmission) (outcome : Outcome) (b : Bool) → ends_sending outcome ≡ b → (b ≡ true → ⊥) →
     sending_after sending outcome ≡ sending
 after_more sending outcome true e not = absurd (not refl)
 after_more sending outcome false e not = ap (λ c. cond c None sending) e
@@ -130,13 +130,13 @@ behind_more node trace k not = elim (act_or_none (act_at node trace k)) [
       ∙ sym (ap (λ f. sending_now (sending_of node (take k trace)) (option_and_then (λ (a : Act). a.begun) f)) some.1))
 ]
 
-now_none : (before begun : Option Sent) (sent : Sent) → before ≡ Some sent → ((other : Sent) → begun ≡ Some other → ⊥) →
+now_none : (before begun : Option Transmission) (sent : Transmission) → before ≡ Some sent → ((other : Transmission) → begun ≡ Some other → ⊥) →
     sending_now before begun ≡ Some sent
 now_none before None sent e none = e
 now_none before (Some other) sent e none = absurd (none other refl)
 
 -- so it still sends it at that other bit
-sends_still : (node : ℕ) (trace : List Bit) (first k : ℕ) (sent : Sent) → SendsFrom node trace first (first + k) sent →
+sends_still : (node : ℕ) (trace : List Bit) (first k : ℕ) (sent : Transmission) → SendsFrom node trace first (first + k) sent →
     sending_at node trace (first + k) ≡ Some sent
 sends_still node trace first zero sent s =
     ap (λ n. sending_at node trace n) (omega arith) ∙ ap (sending_now (sending_of node (take first trace))) s.begins
@@ -156,22 +156,22 @@ sends_still node trace first (suc k) sent s =
     (λ other e. s.none_begun (suc (first + k)) other (omega arith) (omega arith) e)
 
 -- the other way round: what a node sends at a bit it began at some bit
-began : (before begun : Option Sent) (sent : Sent) → sending_now before begun ≡ Some sent →
+began : (before begun : Option Transmission) (sent : Transmission) → sending_now before begun ≡ Some sent →
     (begun ≡ Some sent) ⊎ ((begun ≡ None) × (before ≡ Some sent))
 began before None sent e = inr (refl, e)
 began before (Some other) sent e = inl e
 
-after_sends : (sending : Option Sent) (outcome : Outcome) (b : Bool) (sent : Sent) → ends_sending outcome ≡ b →
+after_sends : (sending : Option Transmission) (outcome : Outcome) (b : Bool) (sent : Transmission) → ends_sending outcome ≡ b →
     sending_after sending outcome ≡ Some sent → (b ≡ true → ⊥) × (sending ≡ Some sent)
 after_sends sending outcome true sent is e =
     absurd (let none : sending_after sending outcome ≡ None = ap (λ c. cond c None sending) is in cc (none, e))
 after_sends sending outcome false sent is e = ((λ f. absurd (cc f)), sym (ap (λ c. cond c None sending) is) ∙ e)
 
-record SendsBehind (node : ℕ) (trace : List Bit) (k : ℕ) (sent : Sent) : Type 0 where
+record SendsBehind (node : ℕ) (trace : List Bit) (k : ℕ) (sent : Transmission) : Type 0 where
   before : sending_at node trace k ≡ Some sent
   goes_on : ends_sending (outcome_at node trace k) ≡ true → ⊥
 
-sends_behind : (node : ℕ) (trace : List Bit) (k : ℕ) (sent : Sent) → sending_of node (take (suc k) trace) ≡ Some sent →
+sends_behind : (node : ℕ) (trace : List Bit) (k : ℕ) (sent : Transmission) → sending_of node (take (suc k) trace) ≡ Some sent →
     SendsBehind node trace k sent
 sends_behind node trace k sent e = elim (act_or_none (act_at node trace k)) [
   | inl none ↦ record {
@@ -190,7 +190,7 @@ sends_behind node trace k sent e = elim (act_or_none (act_at node trace k)) [
       })
 ]
 
-from_here : (node : ℕ) (trace : List Bit) (k : ℕ) (sent : Sent) → begun_at node trace k ≡ Some sent →
+from_here : (node : ℕ) (trace : List Bit) (k : ℕ) (sent : Transmission) → begun_at node trace k ≡ Some sent →
     SendsFrom node trace k k sent
 from_here node trace k sent now = record {
   in_order = omega arith;
@@ -199,7 +199,7 @@ from_here node trace k sent now = record {
   none_ended = λ bit from to is. omega (arith, from, to);
 }
 
-sends_since : (node : ℕ) (trace : List Bit) (k : ℕ) (sent : Sent) → sending_at node trace k ≡ Some sent →
+sends_since : (node : ℕ) (trace : List Bit) (k : ℕ) (sent : Transmission) → sending_at node trace k ≡ Some sent →
     (first : ℕ) × SendsFrom node trace first k sent
 sends_since node trace zero sent e = elim (began None (begun_at node trace 0) sent e) [
   | inl now ↦ (0, from_here node trace 0 sent now)
@@ -232,7 +232,7 @@ sends_since node trace (suc k) sent e =
 -- an attempt of a node's history, as the acts show it
 record Shown (node : ℕ) (trace : List Bit) (start : ℕ) (frame : FrameValue) (first end : ℕ)
     (outcome : Outcome) : Type 0 where
-  sent : Sent
+  sent : Transmission
   start_is : sent.start ≡ start
   frame_is : sent.frame ≡ frame
   sends : SendsFrom node trace first end sent
@@ -301,7 +301,7 @@ attempts_are_told {trace = trace} run node past start end frame state outcome p 
 
 -- a transmission that ends is an attempt that ends there
 ends_as : {plan : SegmentPlan} {trace : List Bit} {levels : List Bool} {events : List Event} (node on first end : ℕ)
-    (sent : Sent) → Run plan trace levels events → slice_get (firsts plan) node ≡ Some on →
+    (sent : Transmission) → Run plan trace levels events → slice_get (firsts plan) node ≡ Some on →
     SendsFrom node trace first end sent → ends_sending (outcome_at node trace end) ≡ true →
     (from : IsAttemptFrom (past_of on node trace) first sent.frame) →
     (state : ErrorState) × IsAttempt (past_of on node trace) sent.start sent.frame state end
@@ -312,7 +312,7 @@ ends_as {trace = trace} node on first end sent run on_is sends ends from =
     let begins : begun_at node trace first ≡ Some s.sent = ap (begun_at node trace) (sym from.first_is)
     ∙ s.sends.begins in
     let same : s.sent ≡ sent = same_found s.sent sent (sym begins ∙ sends.begins) in
-    let start : from.start ≡ sent.start = sym s.start_is ∙ ap (λ (x : Sent). x.start) same in
+    let start : from.start ≡ sent.start = sym s.start_is ∙ ap (λ (x : Transmission). x.start) same in
     let over : ends_sending (outcome_at node trace from.end) ≡ true =
     ap ends_sending s.outcome_is
     ∙ ends_it (attempt_end past from.start from.end sent.frame from.state from.outcome from.attempt) in
@@ -332,7 +332,7 @@ ends_as {trace = trace} node on first end sent run on_is sends ends from =
     )
 
 end_of : {plan : SegmentPlan} {trace : List Bit} {levels : List Bool} {events : List Event} (node on end : ℕ)
-    (sent : Sent) → Run plan trace levels events → slice_get (firsts plan) node ≡ Some on →
+    (sent : Transmission) → Run plan trace levels events → slice_get (firsts plan) node ≡ Some on →
     sending_at node trace end ≡ Some sent → ends_sending (outcome_at node trace end) ≡ true →
     (state : ErrorState) × IsAttempt (past_of on node trace) sent.start sent.frame state end (outcome_at node trace end)
 end_of {trace = trace} node on end sent run on_is sending ends =

@@ -13,7 +13,7 @@ use Rattle.can_segment.specs.declared.event.Told.{Told}
 use Rattle.can_segment.specs.declared.event.Told.TheVariants as told
 use Rattle.can_segment.specs.declared.member.Deed.{Deed}
 use Rattle.can_segment.specs.declared.member.Member.{Member}
-use Rattle.can_segment.specs.declared.sent.Sent.{Sent}
+use Rattle.can_segment.specs.declared.transmission.Transmission.{Transmission}
 use Rattle.can_segment.specs.Tells.{lines, told_start, told_outcome, told_reaped}
 use Rattle.can_segment.specs.Tellings.{start_of, rest_by, told_by, bit_lines}
 use Rattle.can_segment.specs.Traces.{is_failure}
@@ -133,7 +133,7 @@ start_label : (past : BusPast) (frame : FrameValue) (label : Option Label) → w
 start_label past frame None = plain_lists past
 start_label past frame (Some label) = same_past (with_lists past ((label.route, label.number, frame) ∷ []) [] []) (started past (Some (label.route, label.number, frame))) refl (append-nil past.done) (append-nil past.reaped)
 
-grown_start : (past : BusPast) (begun : Option Sent) → grown past (told_start begun) ≡ started past (item_of begun)
+grown_start : (past : BusPast) (begun : Option Transmission) → grown past (told_start begun) ≡ started past (item_of begun)
 grown_start past None = grown-nil past
 grown_start past (Some sent) = grown-one past (told.Started sent.frame sent.label) ∙ start_label past sent.frame sent.label
 
@@ -141,7 +141,7 @@ sent_label : (past : BusPast) (frame : FrameValue) (label : Option Label) → wi
 sent_label past frame None = plain_lists past
 sent_label past frame (Some label) = same_past (with_lists past [] ((label.route, label.number, frame) ∷ []) []) (completed past (Some (label.route, label.number, frame))) (append-nil past.started) refl (append-nil past.reaped)
 
-grown_sent : (past : BusPast) (sending : Option Sent) → grown past (told_outcome sending Completed) ≡ completed past (item_of sending)
+grown_sent : (past : BusPast) (sending : Option Transmission) → grown past (told_outcome sending Completed) ≡ completed past (item_of sending)
 grown_sent past None = grown-nil past
 grown_sent past (Some sent) = grown-one past (told.Completed sent.start sent.frame sent.label) ∙ sent_label past sent.frame sent.label
 
@@ -150,12 +150,12 @@ idle_failure : (past : BusPast) (item : Option Item) → failed past item None �
 idle_failure past None = refl
 idle_failure past (Some item) = same_past (failed past (Some item) None) past refl refl (append-nil past.reaped)
 
-lost_idle : (past : BusPast) (sending : Option Sent) → grown past (told_outcome sending Lost) ≡ past
+lost_idle : (past : BusPast) (sending : Option Transmission) → grown past (told_outcome sending Lost) ≡ past
 lost_idle past None = grown-nil past
 lost_idle past (Some sent) = grown-idle past (told.Lost sent.start) refl refl refl
 
 -- without a reaped request
-settles_plain : (past : BusPast) (sending : Option Sent) (outcome : Outcome) → grown past (told_outcome sending outcome) ≡ settled past (item_of sending) outcome None
+settles_plain : (past : BusPast) (sending : Option Transmission) (outcome : Outcome) → grown past (told_outcome sending outcome) ≡ settled past (item_of sending) outcome None
 settles_plain past sending Nothing = grown-nil past
 settles_plain past sending (Took start frame) = grown-idle past (told.Took start frame) refl refl refl
 settles_plain past sending Completed = grown_sent past sending
@@ -178,7 +178,7 @@ failure_alike (Errored kind) f past item reaped = refl
 failure_alike WentOff f past item reaped = refl
 failure_alike CameBack f past item reaped = absurd (cc f)
 
-settles_reaped : (past : BusPast) (sending : Option Sent) (outcome : Outcome) (label : Label) → Reaps sending outcome label →
+settles_reaped : (past : BusPast) (sending : Option Transmission) (outcome : Outcome) (label : Label) → Reaps sending outcome label →
     grown past (told_outcome sending outcome ++ told_reaped (Some label)) ≡ settled past (item_of sending) outcome (Some label)
 settles_reaped past sending outcome label r =
     let item : item_of sending ≡ Some (label.route, label.number, r.sent.frame) = ap item_of r.sends ∙ ap (item_with r.sent.frame) r.label_is in
@@ -187,19 +187,19 @@ settles_reaped past sending outcome label r =
     ∙ reaps_one past (label.route, label.number, r.sent.frame) label ∙ ap (λ i. failed past i (Some label)) (sym item)
     ∙ sym (failure_alike outcome r.fails past (item_of sending) (Some label))
 
-grown_settled : (past : BusPast) (sending : Option Sent) (outcome : Outcome) (reaped : Option Label) → IfSome reaped (λ label. Reaps sending outcome label) →
+grown_settled : (past : BusPast) (sending : Option Transmission) (outcome : Outcome) (reaped : Option Label) → IfSome reaped (λ label. Reaps sending outcome label) →
     grown past (told_outcome sending outcome ++ told_reaped reaped) ≡ settled past (item_of sending) outcome reaped
 grown_settled past sending outcome None h = ap (grown past) (append-nil (told_outcome sending outcome)) ∙ settles_plain past sending outcome
 grown_settled past sending outcome (Some label) h = settles_reaped past sending outcome label h
 
 -- what a deed brings to the bus side is what is told of it
-pub brings : (past : BusPast) (begun : Option Sent) (deed : Deed) → IfSome deed.reaped (λ label. Reaps deed.sent deed.outcome label) →
+pub brings : (past : BusPast) (begun : Option Transmission) (deed : Deed) → IfSome deed.reaped (λ label. Reaps deed.sent deed.outcome label) →
     grown past (told_start begun ++ rest_by deed) ≡ settled (started past (item_of begun)) (item_of deed.sent) deed.outcome deed.reaped
 brings past begun deed h =
     grown-append past (told_start begun) (rest_by deed) ∙ ap (λ p. grown p (rest_by deed)) (grown_start past begun)
     ∙ grown_settled (started past (item_of begun)) deed.sent deed.outcome deed.reaped h
 
-taken_start : (begun : Option Sent) → all_in taken_in (told_start begun) ≡ []
+taken_start : (begun : Option Transmission) → all_in taken_in (told_start begun) ≡ []
 taken_start None = refl
 taken_start (Some sent) = refl
 
@@ -207,7 +207,7 @@ taken_reaped : (reaped : Option Label) → all_in taken_in (told_reaped reaped) 
 taken_reaped None = refl
 taken_reaped (Some label) = refl
 
-taken_outcome : (sending : Option Sent) (outcome : Outcome) → all_in taken_in (told_outcome sending outcome) ≡ taken_by outcome
+taken_outcome : (sending : Option Transmission) (outcome : Outcome) → all_in taken_in (told_outcome sending outcome) ≡ taken_by outcome
 taken_outcome sending Nothing = refl
 taken_outcome sending (Took start frame) = refl
 taken_outcome None Completed = refl
@@ -219,7 +219,7 @@ taken_outcome sending WentOff = refl
 taken_outcome sending CameBack = refl
 
 -- and so it is with the sink
-pub takes : (begun : Option Sent) (deed : Deed) → all_in taken_in (told_start begun ++ rest_by deed) ≡ taken_by deed.outcome
+pub takes : (begun : Option Transmission) (deed : Deed) → all_in taken_in (told_start begun ++ rest_by deed) ≡ taken_by deed.outcome
 takes begun deed =
     all-append taken_in (told_start begun) (rest_by deed) ∙ ap (λ xs. xs ++ all_in taken_in (rest_by deed)) (taken_start begun)
     ∙ all-append taken_in (told_outcome deed.sent deed.outcome) (told_reaped deed.reaped)
@@ -234,11 +234,11 @@ one_taken (Errored kind) = omega arith
 one_taken WentOff = omega arith
 one_taken CameBack = omega arith
 
-start_started : (begun : Option Sent) → all_in start_in (told_start begun) ≡ option_to_list (item_of begun)
+start_started : (begun : Option Transmission) → all_in start_in (told_start begun) ≡ option_to_list (item_of begun)
 start_started None = refl
 start_started (Some sent) = append-nil (option_to_list (item_with sent.frame sent.label))
 
-start_outcome : (sending : Option Sent) (outcome : Outcome) → all_in start_in (told_outcome sending outcome) ≡ []
+start_outcome : (sending : Option Transmission) (outcome : Outcome) → all_in start_in (told_outcome sending outcome) ≡ []
 start_outcome sending Nothing = refl
 start_outcome sending (Took start frame) = refl
 start_outcome None Completed = refl
@@ -254,7 +254,7 @@ start_reaped None = refl
 start_reaped (Some label) = refl
 
 -- the line of a start names what began
-starts_told : (begun : Option Sent) (deed : Deed) → all_in start_in (told_start begun ++ rest_by deed) ≡ option_to_list (item_of begun)
+starts_told : (begun : Option Transmission) (deed : Deed) → all_in start_in (told_start begun ++ rest_by deed) ≡ option_to_list (item_of begun)
 starts_told begun deed =
     all-append start_in (told_start begun) (rest_by deed)
     ∙ ap (λ xs. all_in start_in (told_start begun) ++ xs) (all-append start_in (told_outcome deed.sent deed.outcome) (told_reaped deed.reaped)
@@ -266,7 +266,7 @@ pub starts_undone-append : (past : BusPast) (xs ys : List Told) → StartsUndone
 starts_undone-append past [] ys h k = subst (λ p. StartsUndone p ys) (grown-nil past) k
 starts_undone-append past (x ∷ xs) ys h k = (h.0, starts_undone-append (grown past (x ∷ [])) xs ys h.1 (subst (λ p. StartsUndone p ys) (grown-append past (x ∷ []) xs) k))
 
-none_started : (past : BusPast) (sending : Option Sent) (outcome : Outcome) → StartsUndone past (told_outcome sending outcome)
+none_started : (past : BusPast) (sending : Option Transmission) (outcome : Outcome) → StartsUndone past (told_outcome sending outcome)
 none_started past sending Nothing = tt
 none_started past sending (Took start frame) = (tt, tt)
 none_started past None Completed = tt
@@ -285,11 +285,11 @@ each_undone : (past : BusPast) (item : Option Item) → Undone past item → Eac
 each_undone past None h = tt
 each_undone past (Some x) h = (h, tt)
 
-one_started : (past : BusPast) (begun : Option Sent) → Undone past (item_of begun) → StartsUndone past (told_start begun)
+one_started : (past : BusPast) (begun : Option Transmission) → Undone past (item_of begun) → StartsUndone past (told_start begun)
 one_started past None h = tt
 one_started past (Some sent) h = (each_undone past (item_with sent.frame sent.label) h, tt)
 
-undone_told : (past : BusPast) (begun : Option Sent) (deed : Deed) → Undone past (item_of begun) → StartsUndone past (told_start begun ++ rest_by deed)
+undone_told : (past : BusPast) (begun : Option Transmission) (deed : Deed) → Undone past (item_of begun) → StartsUndone past (told_start begun ++ rest_by deed)
 undone_told past begun deed h =
     starts_undone-append past (told_start begun) (rest_by deed) (one_started past begun h)
     (starts_undone-append (grown past (told_start begun)) (told_outcome deed.sent deed.outcome) (told_reaped deed.reaped) (none_started (grown past (told_start begun)) deed.sent deed.outcome)

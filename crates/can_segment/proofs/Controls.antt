@@ -2,7 +2,7 @@
 use Rattle.std.proofs.Common.{◌≡◌, ℕ, ◌≤◌, Bool, true, false, IfSome, IsSome, Option, Some, None, List, length, refl, sym, ap, subst, arith, ◌∙◌}
 use Rattle.can_node.specs.Node.{StandsAfter, bit_of}
 use Rattle.can_segment.specs.declared.event.Label.{Label}
-use Rattle.can_segment.specs.declared.sent.Sent.{Sent}
+use Rattle.can_segment.specs.declared.transmission.Transmission.{Transmission}
 use Rattle.can_segment.specs.declared.member.Member.{Member}
 use Rattle.can_segment.specs.Traces.{Bit, past_of}
 use Rattle.can_segment.specs.Runs.{IsBegun}
@@ -15,8 +15,8 @@ use Rattle.can_segment.proofs.Deeds.{Done, done, begun_is, named_start, named_re
 -- a controller at a bit at which it is on
 pub record Controlled (on k : ℕ) (trace : List Bit) (level : Bool) (mid after : Member) : Type 0 where
   pub made : Done on k trace level mid after
-  pub begins : (sent : Sent) → begun_by after.deed ≡ Some sent → IsBegun (past_of on k trace) sent
-  pub labelled : (sent : Sent) → begun_by after.deed ≡ Some sent → IsSome sent.label
+  pub begins : (sent : Transmission) → begun_by after.deed ≡ Some sent → IsBegun (past_of on k trace) sent
+  pub labelled : (sent : Transmission) → begun_by after.deed ≡ Some sent → IsSome sent.label
   pub names : (label : Label) → after.deed.reaped ≡ Some label → after.deed.sent ≡ mid.station.sending
   pub reaps : (label : Label) → after.deed.reaped ≡ Some label → Reaps after.deed.sent after.deed.outcome label
 
@@ -24,7 +24,7 @@ reaped_by : (reaped : Option Label) (P : Label → Type 0) → IfSome reaped P �
 reaped_by None P h label e = absurd (cc e)
 reaped_by (Some x) P h label e = let same : x ≡ label = cc e in subst P same h
 
-no_sent : (sent : Sent) → None ≡ Some sent → ⊥
+no_sent : (sent : Transmission) → None ≡ Some sent → ⊥
 no_sent sent e = cc e
 
 controlled_by : (on k : ℕ) (trace : List Bit) (level : Bool) (old mid after : Member) (b : Bool) → StandsBehind on k trace old → on ≤ length trace → mid.on ≡ on → after.on ≡ on →
@@ -34,7 +34,7 @@ controlled_by on k trace level old mid after true h late mid_on after_on began r
     let s = samples.samples (omega (arith, mid_on, late)) in
     let t = request.begins refl in
     let start = t.2 in
-    let sent : Sent = record { start = start.start; frame = t.0; label = Some t.1 } in
+    let sent : Transmission = record { start = start.start; frame = t.0; label = Some t.1 } in
     let begun : begun_by after.deed ≡ Some sent = begun_is after.deed true (Some sent) (s.began_is ∙ began) (named_start after.deed mid.station.sending s.names (s.began_is ∙ began) ∙ start.sending_is) in
     record {
       made = done on k trace level old mid after (Some sent) h late after_on (start.stands past h.stands) start.sending_is start.completed_is start.bit_is begun s;
@@ -46,7 +46,7 @@ controlled_by on k trace level old mid after true h late mid_on after_on began r
       reaps = reaped_by after.deed.reaped (Reaps after.deed.sent after.deed.outcome) (samples.reaps (omega (arith, mid_on, late)));
     }
   where
-    some_same : (a b : Sent) → Some a ≡ Some b → a ≡ b
+    some_same : (a b : Transmission) → Some a ≡ Some b → a ≡ b
     some_same a b e = cc e
 controlled_by on k trace level old mid after false h late mid_on after_on began request samples =
     let past = past_of on k trace in

@@ -5,7 +5,7 @@ use Rattle.can_node.specs.declared.confinement.ErrorEvent.{ErrorEvent}
 use Rattle.can_node.specs.Histories.{no_past, IsHistory}
 use Rattle.can_node.specs.Node.{StandsAfter, bit_of, driven_by}
 use Rattle.can_segment.specs.declared.event.Label.{Label}
-use Rattle.can_segment.specs.declared.sent.Sent.{Sent}
+use Rattle.can_segment.specs.declared.transmission.Transmission.{Transmission}
 use Rattle.can_segment.specs.declared.member.Deed.{Deed}
 use Rattle.can_segment.specs.declared.member.Member.{Member}
 use Rattle.can_segment.specs.Traces.{Act, Bit, act_of, with_start, with_act, past_of, sending_now, sending_after, sending_behind, sending_of, completed_in, completed_of}
@@ -35,14 +35,14 @@ stays_off on k trace bit member h early none_there = record {
 }
 
 -- what a node sent is named where a start or a reaping is told
-pub named_start : (deed : Deed) (sent : Option Sent) → Names deed sent → deed.began ≡ true → deed.sent ≡ sent
+pub named_start : (deed : Deed) (sent : Option Transmission) → Names deed sent → deed.began ≡ true → deed.sent ≡ sent
 named_start deed sent names began = elim names [ inl quiet ↦ absurd (cc (began, quiet.no_start)) | inr named ↦ named ]
 
-pub named_reaping : (deed : Deed) (sent : Option Sent) (label : Label) → Names deed sent → deed.reaped ≡ Some label → deed.sent ≡ sent
+pub named_reaping : (deed : Deed) (sent : Option Transmission) (label : Label) → Names deed sent → deed.reaped ≡ Some label → deed.sent ≡ sent
 named_reaping deed sent label names reaped = elim names [ inl quiet ↦ absurd (cc (reaped, quiet.no_reaping)) | inr named ↦ named ]
 
 -- and nothing is told of an outcome where it is not
-told_named : (deed : Deed) (sent : Option Sent) → Names deed sent → told_outcome sent deed.outcome ≡ told_outcome deed.sent deed.outcome
+told_named : (deed : Deed) (sent : Option Transmission) → Names deed sent → told_outcome sent deed.outcome ≡ told_outcome deed.sent deed.outcome
 told_named deed sent names = elim names [
   | inl quiet ↦ ap (told_outcome sent) quiet.no_end ∙ sym (ap (told_outcome deed.sent) quiet.no_end)
   | inr named ↦ ap (λ s. told_outcome s deed.outcome) (sym named)
@@ -59,7 +59,7 @@ pub record Done (on k : ℕ) (trace : List Bit) (level : Bool) (mid after : Memb
       act_of k bit ≡ Some (record { begun = begun_by after.deed; driven = driven_by mid.station.node; sampled = level; event = event; outcome = after.deed.outcome; reaped = after.deed.reaped }) →
       StandsBehind on k (trace ++ bit ∷ []) after
 
-pub done : (on k : ℕ) (trace : List Bit) (level : Bool) (old mid after : Member) (begun : Option Sent) → StandsBehind on k trace old → on ≤ length trace →
+pub done : (on k : ℕ) (trace : List Bit) (level : Bool) (old mid after : Member) (begun : Option Transmission) → StandsBehind on k trace old → on ≤ length trace →
     after.on ≡ on → StandsAfter mid.station.node (with_start (past_of on k trace) begun) → mid.station.sending ≡ sending_now old.station.sending begun →
     mid.station.completed ≡ old.station.completed → bit_of mid.station.node ≡ bit_of old.station.node → begun_by after.deed ≡ begun →
     SamplesOn level mid after → Done on k trace level mid after
@@ -87,5 +87,5 @@ done on k trace level old mid after begun h late on_is stands sending completed 
     }
 
 -- what a deed began, by its two parts
-pub begun_is : (deed : Deed) (b : Bool) (sent : Option Sent) → deed.began ≡ b → deed.sent ≡ sent → begun_by deed ≡ cond b sent None
+pub begun_is : (deed : Deed) (b : Bool) (sent : Option Transmission) → deed.began ≡ b → deed.sent ≡ sent → begun_by deed ≡ cond b sent None
 begun_is deed b sent eb es = ap (λ c. cond c deed.sent None) eb ∙ ap (λ s. cond b s None) es

@@ -1,5 +1,5 @@
 -- A segment before its first bit.
-use Rattle.std.proofs.Common.{◌≡◌, ℕ, zero, suc, ◌+◌, ◌⊎◌, inl, inr, Some, None, Option, List, [], ◌∷◌, ◌++◌, length, slice_get, refl, sym, ap, subst, arith, ◌∙◌, length-append}
+use Rattle.std.proofs.Common.{◌≡◌, ℕ, ◌+◌, inl, inr, Some, None, Option, List, [], ◌∷◌, ◌++◌, length, slice_get, refl, sym, ap, subst, arith, ◌∙◌, length-append}
 use Rattle.std.proofs.lemmas.Option.{slice_get_within}
 use Rattle.can_segment.specs.declared.member.Member.{Member}
 use Rattle.can_segment.specs.declared.plan.SegmentPlan.{SegmentPlan}

@@ -12,7 +12,6 @@ pub mod Keeps
 pub mod Brought
 pub mod Shown
 pub mod Fresh
-pub mod Calm
 pub mod Quiet
 pub mod Settles
 pub mod OneLine
@@ -22,3 +21,8 @@ pub mod Attempts
 pub mod Retries
 pub mod Requests
 pub mod Copies
+pub mod FaultOrder
+pub mod AllBut
+pub mod Rests
+pub mod ComesToRest
+pub mod Wholes

@@ -9,7 +9,7 @@ use Rattle.can_node.specs.Pairs.{Pair}
 use Rattle.can_node.specs.Histories.{Past, no_past}
 use Rattle.can_node.specs.Copies.{Drives, Samples, OnOneLine}
 use Rattle.can_segment.specs.declared.event.Event.{Event}
-use Rattle.can_segment.specs.declared.sent.Sent.{Sent}
+use Rattle.can_segment.specs.declared.transmission.Transmission.{Transmission}
 use Rattle.can_segment.specs.declared.plan.Talker.{Talker}
 use Rattle.can_segment.specs.declared.plan.Controller.{Controller}
 use Rattle.can_segment.specs.declared.plan.LineFault.{LineFault}
@@ -82,7 +82,7 @@ node_acts plan on node trace bit h e =
           })))
     ]
 
-start_keeps : (past : Past) (begun : Option Sent) →
+start_keeps : (past : Past) (begun : Option Transmission) →
     ((with_start past begun).pairs ≡ past.pairs) × ((with_start past begun).first ≡ past.first)
 start_keeps past None = (refl, refl)
 start_keeps past (Some sent) = (refl, refl)

@@ -18,7 +18,7 @@ use Rattle.can_segment.specs.declared.event.Told.TheVariants as told
 use Rattle.can_segment.specs.declared.plan.Controller.{Controller}
 use Rattle.can_segment.specs.declared.plan.SegmentPlan.{SegmentPlan}
 use Rattle.can_segment.specs.declared.plan.Talker.{Talker}
-use Rattle.can_segment.specs.declared.sent.Sent.{Sent}
+use Rattle.can_segment.specs.declared.transmission.Transmission.{Transmission}
 use Rattle.can_segment.specs.Attempts.{act_at, begun_at, sending_at, reaped_at, request_at, RequestsTryFailures}
 use Rattle.can_segment.specs.Brought.{StartsUndone, told_of, sent_in, reaped_in, all_in, grown}
 use Rattle.can_segment.specs.Tells.{told_start, told_outcome, told_reaped, starts_of, rest_of, lines, lines_from, events_at}
@@ -147,7 +147,7 @@ among names node trace (suc k) bit x less has =
     ])
 
 -- the lines of a bit at which a request is begun, is sent, or is reaped
-begun_told : (node : ℕ) (trace : List Bit) (k : ℕ) (act : Act) (sent : Sent) (label : Label) (past : BusPast) →
+begun_told : (node : ℕ) (trace : List Bit) (k : ℕ) (act : Act) (sent : Transmission) (label : Label) (past : BusPast) →
     act_at node trace k ≡ Some act → act.begun ≡ Some sent → sent.label ≡ Some label →
     StartsUndone past (told_bit node trace k) → IsUndone past (label.route, label.number, sent.frame)
 unfolding told_bit
@@ -172,12 +172,12 @@ rest_told names node trace k act x act_is has =
     (has-right (all_in names (starts_of (act_at node trace k))) _ x
     (subst (λ a. Has (all_in names (rest_of (sending_of node (take k trace)) a)) x) (sym act_is) has))
 
-sending_by : (node : ℕ) (trace : List Bit) (k : ℕ) (act : Act) (sent : Sent) → act_at node trace k ≡ Some act →
+sending_by : (node : ℕ) (trace : List Bit) (k : ℕ) (act : Act) (sent : Transmission) → act_at node trace k ≡ Some act →
     sending_at node trace k ≡ Some sent → sending_now (sending_of node (take k trace)) act.begun ≡ Some sent
 sending_by node trace k act sent act_is sends =
     ap (sending_now (sending_of node (take k trace))) (sym (begun_by node trace k act act_is)) ∙ sends
 
-sent_told : (node : ℕ) (trace : List Bit) (k : ℕ) (act : Act) (sent : Sent) (label : Label) →
+sent_told : (node : ℕ) (trace : List Bit) (k : ℕ) (act : Act) (sent : Transmission) (label : Label) →
     act_at node trace k ≡ Some act → act.outcome ≡ Completed → sending_at node trace k ≡ Some sent →
     sent.label ≡ Some label →
     Has (all_in sent_in (told_bit node trace k)) (label.route, label.number, sent.frame)
@@ -200,9 +200,9 @@ reaped_told node trace k act label act_is reaped =
     (has-right (all_in reaped_in outcome) (all_in reaped_in (told_reaped act.reaped)) (label.route, label.number)
     (subst (λ r. Has (all_in reaped_in (told_reaped r)) (label.route, label.number)) (sym reaped) (inl refl))))
 
-label_of_begun : (node : ℕ) (trace : List Bit) (k : ℕ) (sent : Sent) (label : Label) →
+label_of_begun : (node : ℕ) (trace : List Bit) (k : ℕ) (sent : Transmission) (label : Label) →
     begun_at node trace k ≡ Some sent → request_at node trace k ≡ Some label → sent.label ≡ Some label
-label_of_begun node trace k sent label begun labelled = sym (ap (option_and_then (λ (s : Sent). s.label)) begun)
+label_of_begun node trace k sent label begun labelled = sym (ap (option_and_then (λ (s : Transmission). s.label)) begun)
     ∙ labelled
 
 none_or_some : (found : Option Label) → (found ≡ None) ⊎ ((label : Label) × (found ≡ Some label))
@@ -255,7 +255,7 @@ requests_try_failures {plan = plan} {trace = trace} run node undone past label s
             same_found r.sent first.sent (sym r.sends ∙ sending_by node trace end act.0 first.sent act.1 first.ends)
             in
             let its : some.0 ≡ label =
-            same_found some.0 label (sym r.is_its_label ∙ ap (λ (s : Sent). s.label) same ∙ labelled) in
+            same_found some.0 label (sym r.is_its_label ∙ ap (λ (s : Transmission). s.label) same ∙ labelled) in
             free.unreaped (among reaped_in node trace (first_bit later) end (label.route, label.number) before
             (subst (λ (l : Label). Has (all_in reaped_in (told_bit node trace end)) (l.route, l.number)) its
             (reaped_told node trace end act.0 some.0 act.1 some.1))))

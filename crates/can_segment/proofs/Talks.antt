@@ -2,7 +2,7 @@
 use Rattle.std.proofs.Common.{◌≡◌, ℕ, ◌≤◌, ◌&&◌, Bool, true, false, is_some, option_map, Option, Some, None, List, length, slice_get, refl, sym, ap, subst, arith, ◌∙◌, cond}
 use Rattle.can_frame.specs.Frames.{FrameValue}
 use Rattle.can_node.specs.Node.{StandsAfter, IsWanting, bit_of}
-use Rattle.can_segment.specs.declared.sent.Sent.{Sent}
+use Rattle.can_segment.specs.declared.transmission.Transmission.{Transmission}
 use Rattle.can_segment.specs.declared.member.Member.{Member}
 use Rattle.can_segment.specs.Traces.{Bit, past_of, completed_of}
 use Rattle.can_segment.specs.Runs.{IsBegun}
@@ -14,11 +14,11 @@ use Rattle.can_segment.proofs.Deeds.{Done, done, begun_is, named_start}
 -- a talker at a bit at which it is on
 pub record Talked (on k : ℕ) (trace : List Bit) (frames : List FrameValue) (level : Bool) (mid after : Member) : Type 0 where
   pub made : Done on k trace level mid after
-  pub begins : (sent : Sent) → begun_by after.deed ≡ Some sent → IsBegun (past_of on k trace) sent
+  pub begins : (sent : Transmission) → begun_by after.deed ≡ Some sent → IsBegun (past_of on k trace) sent
   pub wants : Bool
   pub is_wanting : IsWanting (past_of on k trace) wants
   pub rule : option_map (λ sent. sent.frame) (begun_by after.deed) ≡ cond wants (slice_get frames (completed_of k trace)) None
-  pub no_label : (sent : Sent) → begun_by after.deed ≡ Some sent → sent.label ≡ None
+  pub no_label : (sent : Transmission) → begun_by after.deed ≡ Some sent → sent.label ≡ None
 
 wants_then : (wanting : Bool) (frames : List FrameValue) (n : ℕ) (frame : FrameValue) → true ≡ wanting && is_some (slice_get frames n) → slice_get frames n ≡ Some frame → Some frame ≡ cond wanting (slice_get frames n) None
 wants_then true frames n frame e at = sym at
@@ -32,7 +32,7 @@ wants_not : (wanting : Bool) (found : Option FrameValue) → false ≡ wanting &
 wants_not true found e = no_frame found e
 wants_not false found e = refl
 
-no_sent : (sent : Sent) → None ≡ Some sent → ⊥
+no_sent : (sent : Transmission) → None ≡ Some sent → ⊥
 no_sent sent e = cc e
 
 talked_by : (on k : ℕ) (trace : List Bit) (frames : List FrameValue) (level : Bool) (old mid after : Member) (b : Bool) → StandsBehind on k trace old → on ≤ length trace → mid.on ≡ on → after.on ≡ on →
@@ -42,7 +42,7 @@ talked_by on k trace frames level old mid after true h late mid_on after_on bega
     let s = samples.samples (omega (arith, mid_on, late)) in
     let t = talk.begins refl in
     let start = t.2 in
-    let sent : Sent = record { start = start.start; frame = t.0; label = None } in
+    let sent : Transmission = record { start = start.start; frame = t.0; label = None } in
     let begun : begun_by after.deed ≡ Some sent = begun_is after.deed true (Some sent) (s.began_is ∙ began) (named_start after.deed mid.station.sending s.names (s.began_is ∙ began) ∙ start.sending_is) in
     let w = talk.wants past h.stands in
     record {
@@ -56,7 +56,7 @@ talked_by on k trace frames level old mid after true h late mid_on after_on bega
       no_label = λ other is. let same : sent ≡ other = some_same sent other (sym begun ∙ is) in ap (λ x. x.label) (sym same);
     }
   where
-    some_same : (a b : Sent) → Some a ≡ Some b → a ≡ b
+    some_same : (a b : Transmission) → Some a ≡ Some b → a ≡ b
     some_same a b e = cc e
 
     wants_true : (wanting found : Bool) → true ≡ wanting && found → wanting ≡ true

@@ -9,7 +9,7 @@ use Rattle.can_node.specs.Cuts.{IsAttempt}
 use Rattle.can_node.specs.Attempts.{first_bit}
 use Rattle.can_segment.specs.declared.event.Label.{Label}
 use Rattle.can_segment.specs.declared.plan.SegmentPlan.{SegmentPlan}
-use Rattle.can_segment.specs.declared.sent.Sent.{Sent}
+use Rattle.can_segment.specs.declared.transmission.Transmission.{Transmission}
 use Rattle.can_segment.specs.Runs.{firsts}
 use Rattle.can_segment.specs.Traces.{Act, Bit, act_of, past_of, sending_of, sending_now, ends_sending, is_failure}
 
@@ -25,11 +25,11 @@ abbrev pub act_at : ℕ → List Bit → ℕ → Option Act
 act_at node trace bit = option_and_then (act_of node) (slice_get trace bit)
 
 -- what it begins to send there
-abbrev pub begun_at : ℕ → List Bit → ℕ → Option Sent
+abbrev pub begun_at : ℕ → List Bit → ℕ → Option Transmission
 begun_at node trace bit = option_and_then (λ (act : Act). act.begun) (act_at node trace bit)
 
 -- what it sends there: what it begins at that bit, or began before
-abbrev pub sending_at : ℕ → List Bit → ℕ → Option Sent
+abbrev pub sending_at : ℕ → List Bit → ℕ → Option Transmission
 sending_at node trace bit = sending_now (sending_of node (take bit trace)) (begun_at node trace bit)
 
 -- what becomes of it there
@@ -46,14 +46,14 @@ reaped_at node trace bit = option_and_then (λ (act : Act). act.reaped) (act_at 
 
 -- the request that a node begins to send at a bit
 abbrev pub request_at : ℕ → List Bit → ℕ → Option Label
-request_at node trace bit = option_and_then (λ (sent : Sent). sent.label) (begun_at node trace bit)
+request_at node trace bit = option_and_then (λ (sent : Transmission). sent.label) (begun_at node trace bit)
 
 -- The lines tell of an attempt: its first bit has the line `started` with its frame, and the line of its last bit tells
 -- what
 -- became of it, with its start.
 pub record IsTold (node : ℕ) (trace : List Bit) (start : ℕ) (frame : FrameValue) (first end : ℕ)
     (outcome : Outcome) : Type 0 where
-  pub sent : Sent
+  pub sent : Transmission
   pub begins : begun_at node trace first ≡ Some sent
   pub start_is : sent.start ≡ start
   pub frame_is : sent.frame ≡ frame
@@ -72,7 +72,7 @@ AttemptsAreTold plan trace =
 -- attempt
 abbrev pub EndsAreOfAttempts : SegmentPlan → List Bit → Type 0
 EndsAreOfAttempts plan trace =
-    (node end : ℕ) (past : Past) (sent : Sent) → IsPastOf plan trace node past →
+    (node end : ℕ) (past : Past) (sent : Transmission) → IsPastOf plan trace node past →
     sending_at node trace end ≡ Some sent → ends_sending (outcome_at node trace end) ≡ true →
     (state : ErrorState) × IsAttempt past sent.start sent.frame state end (outcome_at node trace end)
 

@@ -1,9 +1,8 @@
 -- Faults of a line and of the nodes on it.
-use Rattle.std.specs.Prelude.{◌≡◌, ◌≢◌, ℕ, ◌≤◌, ◌==◌, ◌&&◌, Bool, Some, not, List, fold, slice_get, if◌then◌else◌}
+use Rattle.std.specs.Prelude.{ℕ, ◌==◌, ◌&&◌, Bool, not, List, fold, if◌then◌else◌}
 use Rattle.std.specs.List.{list_any}
 use Rattle.can_segment.specs.declared.plan.LineFault.{LineFault}
 use Rattle.can_segment.specs.declared.plan.NodeFault.{NodeFault}
-use Rattle.can_segment.specs.declared.plan.SegmentPlan.{SegmentPlan}
 
 -- the level of the line at a bit at which the nodes make this one: of the faults that stand there the last in
 -- the list counts
@@ -17,13 +16,3 @@ is_inverted faults node bit = list_any (λ fault. fault.node == node && fault.bi
 -- what a node samples at a bit at which the line has this level
 abbrev pub sampled_level : List NodeFault → ℕ → ℕ → Bool → Bool
 sampled_level faults node bit level = if is_inverted faults node bit then not level else level
-
--- no fault stands at this bit. Private clauses cite this and what follows.
-pub record IsCalm (plan : SegmentPlan) (bit : ℕ) : Type 0 where
-  pub line : (k : ℕ) (fault : LineFault) → slice_get plan.line_faults.items k ≡ Some fault → fault.bit ≢ bit
-  pub nodes : (k : ℕ) (fault : NodeFault) → slice_get plan.node_faults.items k ≡ Some fault → fault.bit ≢ bit
-
--- each fault from this bit on stands at that bit or behind it
-pub record CalmUntil (plan : SegmentPlan) (from until : ℕ) : Type 0 where
-  pub line : (k : ℕ) (fault : LineFault) → slice_get plan.line_faults.items k ≡ Some fault → from ≤ fault.bit → until ≤ fault.bit
-  pub nodes : (k : ℕ) (fault : NodeFault) → slice_get plan.node_faults.items k ≡ Some fault → from ≤ fault.bit → until ≤ fault.bit

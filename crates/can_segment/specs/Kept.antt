@@ -7,7 +7,7 @@ use Rattle.can_segment.specs.declared.member.Member.{Member}
 use Rattle.can_segment.specs.declared.plan.Talker.{Talker}
 use Rattle.can_segment.specs.declared.plan.Controller.{Controller}
 use Rattle.can_segment.specs.declared.plan.SegmentPlan.{SegmentPlan}
-use Rattle.can_segment.specs.declared.sent.Sent.{Sent}
+use Rattle.can_segment.specs.declared.transmission.Transmission.{Transmission}
 use Rattle.can_segment.specs.declared.event.Event.{Event}
 use Rattle.can_segment.specs.Traces.{Bit, past_of, sending_of, completed_of}
 use Rattle.can_segment.specs.Runs.{Run}
@@ -17,7 +17,7 @@ abbrev pub no_deed : Deed
 no_deed = record { began = false; sent = None; outcome = Nothing; reaped = None }
 
 -- what a node began at the bit of this deed
-abbrev pub begun_by : Deed → Option Sent
+abbrev pub begun_by : Deed → Option Transmission
 begun_by deed = if deed.began then deed.sent else None
 
 -- nothing is told of this deed
@@ -35,7 +35,7 @@ abbrev pub QuietBelow : ℕ → List Member → ℕ → Type 0
 QuietBelow bit members i = (k : ℕ) (member : Member) → k < i → slice_get members k ≡ Some member → member.on ≤ bit → IsQuiet member.deed
 
 -- a deed names what its node sent, unless nothing is told of it
-abbrev pub Names : Deed → Option Sent → Type 0
+abbrev pub Names : Deed → Option Transmission → Type 0
 Names deed sent = IsQuiet deed ⊎ (deed.sent ≡ sent)
 
 -- the node of this place, on from this bit on, stands behind the trace

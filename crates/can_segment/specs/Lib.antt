@@ -14,3 +14,5 @@ pub mod Segments
 pub mod Fresh
 pub mod Attempts
 pub mod Copies
+pub mod FaultOrder
+pub mod Rests

@@ -5,7 +5,7 @@ use Rattle.can_node.specs.declared.outcome.Outcome.{Outcome}
 use Rattle.can_node.specs.declared.outcome.Outcome.TheVariants.{Nothing, Took, Completed, Lost, Errored, WentOff, CameBack}
 use Rattle.bx_core.specs.TxBus.{Item, BusPast, BusCall, asked_ready, asked_start, IsUndone, after_start, after_complete, after_fail}
 use Rattle.can_segment.specs.declared.event.Label.{Label}
-use Rattle.can_segment.specs.declared.sent.Sent.{Sent}
+use Rattle.can_segment.specs.declared.transmission.Transmission.{Transmission}
 use Rattle.can_segment.specs.Traces.{is_failure}
 
 -- the request on the bus of a node that sends this
@@ -13,12 +13,12 @@ abbrev pub item_with : FrameValue → Option Label → Option Item
 item_with frame None = None
 item_with frame (Some label) = Some (label.route, label.number, frame)
 
-abbrev pub item_of : Option Sent → Option Item
+abbrev pub item_of : Option Transmission → Option Item
 item_of None = None
 item_of (Some sent) = item_with sent.frame sent.label
 
 -- what a station started at a bit, if it began
-abbrev pub started_item : Bool → Option Sent → Option Item
+abbrev pub started_item : Bool → Option Transmission → Option Item
 started_item began sending = if began then item_of sending else None
 
 -- this request, if there is one, is not over
@@ -83,8 +83,8 @@ taken_by WentOff = []
 taken_by CameBack = []
 
 -- a request is reaped only where its transmission failed
-pub record Reaps (sending : Option Sent) (outcome : Outcome) (label : Label) : Type 0 where
-  pub sent : Sent
+pub record Reaps (sending : Option Transmission) (outcome : Outcome) (label : Label) : Type 0 where
+  pub sent : Transmission
   pub sends : sending ≡ Some sent
   pub label_is : sent.label ≡ Some label
   pub fails : is_failure outcome ≡ true

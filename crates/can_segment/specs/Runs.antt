@@ -13,13 +13,13 @@ use Rattle.can_node.specs.Counters.{StandsAfter as CountersStandAfter}
 use Rattle.can_segment.specs.declared.event.Event.{Event}
 use Rattle.can_segment.specs.declared.event.Label.{Label}
 use Rattle.can_segment.specs.declared.record.Record.{Record}
-use Rattle.can_segment.specs.declared.sent.Sent.{Sent}
+use Rattle.can_segment.specs.declared.transmission.Transmission.{Transmission}
 use Rattle.can_segment.specs.Faults.{line_level, sampled_level}
 use Rattle.can_segment.specs.Traces.{Act, Bit, with_act, past_of, completed_of, sending_now, sending_of, is_failure}
 use Rattle.can_segment.specs.Tells.{events_at}
 
 -- a node begins to send only where it wants to start, and the start is the SOF of what it sends then
-pub record IsBegun (past : Past) (sent : Sent) : Type 0 where
+pub record IsBegun (past : Past) (sent : Transmission) : Type 0 where
   pub wants : IsWanting past true
   pub sends : IsSending (with_begin past sent.frame) (Some sent.start)
 
@@ -27,26 +27,26 @@ pub record IsBegun (past : Past) (sent : Sent) : Type 0 where
 pub record IsAct (past : Past) (level : Bool) (act : Act) : Type 0 where
   pub history : IsHistory (with_act past (Some act))
   pub samples : act.sampled ≡ level
-  pub begins : (sent : Sent) → act.begun ≡ Some sent → IsBegun past sent
+  pub begins : (sent : Transmission) → act.begun ≡ Some sent → IsBegun past sent
 
 -- a talker that wants to start and has frames left begins the first one that was not completed, and no other
 pub record IsTalking (frames : List FrameValue) (completed : ℕ) (past : Past) (act : Act) : Type 0 where
   pub wants : Bool
   pub is_wanting : IsWanting past wants
   pub begins : option_map (λ sent. sent.frame) act.begun ≡ (if wants then slice_get frames completed else None)
-  pub no_label : (sent : Sent) → act.begun ≡ Some sent → sent.label ≡ None
+  pub no_label : (sent : Transmission) → act.begun ≡ Some sent → sent.label ≡ None
   pub no_reaping : act.reaped ≡ None
 
 -- a request ends by a failure only where one was sent, and it is that one
-pub record IsReaping (sending : Option Sent) (act : Act) (label : Label) : Type 0 where
-  pub sent : Sent
+pub record IsReaping (sending : Option Transmission) (act : Act) (label : Label) : Type 0 where
+  pub sent : Transmission
   pub sends : sending_now sending act.begun ≡ Some sent
   pub is_its_label : sent.label ≡ Some label
   pub fails : is_failure act.outcome ≡ true
 
 -- a controller may begin to send requests of its mailboxes
-pub record IsControlling (sending : Option Sent) (act : Act) : Type 0 where
-  pub labelled : (sent : Sent) → act.begun ≡ Some sent → IsSome sent.label
+pub record IsControlling (sending : Option Transmission) (act : Act) : Type 0 where
+  pub labelled : (sent : Transmission) → act.begun ≡ Some sent → IsSome sent.label
   pub reaps : (label : Label) → act.reaped ≡ Some label → IsReaping sending act label
 
 -- the level that a node drives at a bit; a node that is not on drives none

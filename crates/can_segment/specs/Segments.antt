@@ -1,12 +1,11 @@
 -- A segment, as contracts see it.
-use Rattle.std.specs.Prelude.{◌≡◌, ℕ, ◌+◌, ◌<◌, ◌≤◌, Bool, false, Option, Some, None, List, [], ◌∷◌, ◌++◌, length, map, slice_get}
+use Rattle.std.specs.Prelude.{◌≡◌, ◌≢◌, ℕ, ◌+◌, ◌<◌, ◌≤◌, Bool, false, Option, Some, None, List, [], ◌∷◌, ◌++◌, length, map, slice_get}
 use Rattle.std.specs.List.{slice_index_or}
 use Rattle.can_frame.specs.Frames.{FrameValue}
 use Rattle.bx_core.specs.TxBus.{Item, BusPast, BusCall}
 use Rattle.can_node.specs.Histories.{Past}
-use Rattle.can_node.specs.Node.{StandsAfter, IsWanting}
+use Rattle.can_node.specs.Node.{IsWanting, counters_in}
 use Rattle.can_node.specs.declared.counters.Counters.{Counters}
-use Rattle.can_node.specs.Counters.{StandsAfter as CountersStandAfter}
 use Rattle.can_segment.specs.declared.event.Event.{Event}
 use Rattle.can_segment.specs.declared.member.Member.{Member}
 use Rattle.can_segment.specs.declared.plan.Controller.{Controller}
@@ -79,11 +78,16 @@ pub record IsOpening (plan : SegmentPlan) (segment : SegmentValue) : Type 0 wher
 
 -- counters show those of a node
 abbrev pub AreOf : Member → Counters → Type 0
-AreOf member counters = (past : Past) → StandsAfter member.station.node past → CountersStandAfter counters past.events
+AreOf member counters = counters ≡ counters_in member.station.node
 
 -- from this place on, the counters of these nodes
 abbrev pub AreFrom : ℕ → List Member → List Counters → Type 0
 AreFrom first members counters = (k : ℕ) (member : Member) (shown : Counters) → slice_get members k ≡ Some member → slice_get counters (first + k) ≡ Some shown → AreOf member shown
+
+-- those of these nodes but the one at this place
+abbrev pub AreFromBut : ℕ → ℕ → List Member → List Counters → Type 0
+AreFromBut place first members counters =
+    (k : ℕ) (member : Member) (shown : Counters) → k ≢ place → slice_get members k ≡ Some member → slice_get counters (first + k) ≡ Some shown → AreOf member shown
 
 -- what stands in a segment between two bits
 pub record SegmentHolds (plan : SegmentPlan) (record_of : Record) (talkers controllers : List Member) : Type 0 where

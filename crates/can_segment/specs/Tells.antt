@@ -5,17 +5,17 @@ use Rattle.can_node.specs.declared.outcome.Outcome.TheVariants.{Nothing, Took, C
 use Rattle.can_segment.specs.declared.event.Event.{Event}
 use Rattle.can_segment.specs.declared.event.Label.{Label}
 use Rattle.can_segment.specs.declared.event.Told.{Told}
-use Rattle.can_segment.specs.declared.sent.Sent.{Sent}
+use Rattle.can_segment.specs.declared.transmission.Transmission.{Transmission}
 use Rattle.can_segment.specs.declared.event.Told.TheVariants as told
 use Rattle.can_segment.specs.Traces.{Act, Bit, act_of, sending_of, sending_now}
 
 -- what is told of the beginning of a frame
-abbrev pub told_start : Option Sent → List Told
+abbrev pub told_start : Option Transmission → List Told
 told_start None = []
 told_start (Some sent) = told.Started sent.frame sent.label ∷ []
 
 -- what is told of an outcome of a node that sends this, or nothing
-abbrev pub told_outcome : Option Sent → Outcome → List Told
+abbrev pub told_outcome : Option Transmission → Outcome → List Told
 told_outcome sending Nothing = []
 told_outcome sending (Took start frame) = told.Took start frame ∷ []
 told_outcome None Completed = []
@@ -37,7 +37,7 @@ starts_of None = []
 starts_of (Some act) = told_start act.begun
 
 -- and the rest, where the node sent this before the act
-abbrev pub rest_of : Option Sent → Option Act → List Told
+abbrev pub rest_of : Option Transmission → Option Act → List Told
 rest_of before None = []
 rest_of before (Some act) = told_outcome (sending_now before act.begun) act.outcome ++ told_reaped act.reaped
 

@@ -8,12 +8,12 @@ use Rattle.can_node.specs.Histories.{Past, no_past}
 use Rattle.can_node.specs.Machine.{with_bit}
 use Rattle.can_node.specs.Node.{with_begin}
 use Rattle.can_segment.specs.declared.event.Label.{Label}
-use Rattle.can_segment.specs.declared.sent.Sent.{Sent}
+use Rattle.can_segment.specs.declared.transmission.Transmission.{Transmission}
 
 -- what a node does at a bit: what it begins to send, what it drives and samples, what it counts and tells, and
 -- the request that ended because its abort was asked
 pub record Act : Type 0 where
-  pub begun : Option Sent
+  pub begun : Option Transmission
   pub driven : Bool
   pub sampled : Bool
   pub event : Option ErrorEvent
@@ -26,7 +26,7 @@ pub record Bit : Type 0 where
   pub acts : List (Option Act)
 
 -- the past of a node that begins to send this, or nothing
-abbrev pub with_start : Past → Option Sent → Past
+abbrev pub with_start : Past → Option Transmission → Past
 with_start past None = past
 with_start past (Some sent) = with_begin past sent.frame
 
@@ -68,21 +68,21 @@ is_failure WentOff = true
 is_failure CameBack = false
 
 -- what a node sends when it has begun this
-abbrev pub sending_now : Option Sent → Option Sent → Option Sent
+abbrev pub sending_now : Option Transmission → Option Transmission → Option Transmission
 sending_now before None = before
 sending_now before (Some sent) = Some sent
 
 -- and behind an outcome
-abbrev pub sending_after : Option Sent → Outcome → Option Sent
+abbrev pub sending_after : Option Transmission → Outcome → Option Transmission
 sending_after sending outcome = if ends_sending outcome then None else sending
 
 -- and behind its act
-abbrev pub sending_behind : Option Sent → Option Act → Option Sent
+abbrev pub sending_behind : Option Transmission → Option Act → Option Transmission
 sending_behind before None = before
 sending_behind before (Some act) = sending_after (sending_now before act.begun) act.outcome
 
 -- what a node sends behind a trace
-abbrev pub sending_of : ℕ → List Bit → Option Sent
+abbrev pub sending_of : ℕ → List Bit → Option Transmission
 sending_of k trace = fold (λ before bit. sending_behind before (act_of k bit)) None trace
 
 -- how many of its frames were completed

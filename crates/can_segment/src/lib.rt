@@ -1,20 +1,24 @@
 //! A segment: nodes on one line, bit by bit, and what they did.
 #![tactic(auto)]
 
+mod all_nodes;
 mod event;
+mod fault_order;
 mod faults;
+mod few;
 mod make_bit;
 mod member;
 mod members;
 mod plan;
 mod port;
 mod record;
+mod rest;
 mod rx_sink;
 mod seg_fault;
 mod segment;
-mod sent;
 mod station;
 mod tell;
+mod transmission;
 
 pub use crate::event::{Event, Label, Told};
 pub use crate::plan::{Controller, LineFault, NodeFault, SegmentPlan, Talker};

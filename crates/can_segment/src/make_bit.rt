@@ -1,18 +1,20 @@
 //! One bit of a segment.
 
-ghost use Rattle.std.specs.Prelude.{◌≡◌, true, false, ◌+◌, ◌*◌, ◌<◌, ◌≤◌, ◌++◌, ◌∷◌, [], ℕ, Bool, Some, length, slice_get, vec_len, vec_capacity};
-ghost use Rattle.can_segment.specs.Faults.{IsCalm};
-ghost use Rattle.can_segment.specs.Ports.{item_of};
+ghost use Rattle.std.specs.Prelude.{◌≡◌, false, ◌+◌, ◌*◌, ◌<◌, ◌≤◌, ◌++◌, ◌∷◌, [], ℕ, Bool, Some, length, slice_get, vec_len, vec_capacity};
+ghost use Rattle.can_segment.specs.FaultOrder.{StandsAt};
+ghost use Rattle.can_segment.specs.Rests.{LeavesResting, RestHolds, TransmitsAll, controllers_at, talkers_at};
 ghost use Rattle.can_segment.specs.Members.{wants_at};
 ghost use Rattle.can_segment.specs.Moves.{PortMoves};
 ghost use Rattle.can_segment.specs.Kept.{SegmentKept};
 ghost use Rattle.can_segment.specs.Tellings.{bit_lines};
 ghost use Rattle.can_segment.specs.declared.member.Member.{Member};
 
+use crate::all_nodes::{Moved, move_nodes};
 use crate::event::Event;
+use crate::fault_order::FaultOrder;
 use crate::member::Member;
-use crate::members::{Moved, move_nodes};
 use crate::plan::SegmentPlan;
+use crate::rest::Rest;
 use crate::rx_sink::RxSink;
 use crate::tell::{tell_rests, tell_starts};
 
@@ -49,32 +51,51 @@ pub(crate) fn make_bit<R, P: RxSink<R>>(
     talkers: &mut [Member],
     controllers: &mut [Member],
     ports: &mut [P],
+    rest: &mut Rest,
     levels: &mut Vec<bool>,
     events: &mut Vec<Event>,
-    calm: bool,
+    faults: &FaultOrder,
 )
-    requires calm { calm ≡ true → IsCalm plan.now (length levels.old.items) }
-    requires kept { SegmentKept plan.now levels.old.items events.old.items talkers.old controllers.old }
+    requires stands { StandsAt plan.now (length levels.old.items) faults.now }
+    requires kept { SegmentKept plan.now levels.old.items events.old.items
+        (talkers_at rest.old (length levels.old.items) talkers.old)
+        (controllers_at rest.old (length levels.old.items) controllers.old) }
     requires still { length levels.old.items < plan.now.bits }
     requires ports { length ports.old ≡ length controllers.old }
     requires few { length talkers.old + length controllers.old ≤ 1000 }
-    requires port { (k : ℕ) (m : Member) (p : P) → slice_get controllers.old k ≡ Some m
-        → slice_get ports.old k ≡ Some p → P.transmitting p ≡ item_of m.station.sending }
+    requires port { TransmitsAll P.transmitting (controllers_at rest.old (length levels.old.items) controllers.old) ports.old }
+    requires rests { RestHolds rest.old (length levels.old.items) plan.now.talkers.items talkers.old controllers.old }
     requires level_room { vec_len levels.old < vec_capacity levels.old }
     requires event_room { vec_len events.old + 3 * (length talkers.old + length controllers.old)
         ≤ vec_capacity events.old }
-    ensures kept { SegmentKept plan.now levels.new.items events.new.items talkers.new controllers.new }
+    ensures kept { SegmentKept plan.now levels.new.items events.new.items
+        (talkers_at rest.new (length levels.old.items + 1) talkers.new)
+        (controllers_at rest.new (length levels.old.items + 1) controllers.new) }
     ensures level { (level : Bool) × (levels.new.items ≡ levels.old.items ++ level ∷ []) }
     ensures events { events.new.items ≡ events.old.items
-        ++ bit_lines (length levels.old.items) talkers.new controllers.new }
-    ensures port { (k : ℕ) (a m : Member) (p q : P) → slice_get controllers.old k ≡ Some a
-        → slice_get controllers.new k ≡ Some m → slice_get ports.old k ≡ Some p → slice_get ports.new k ≡ Some q
+        ++ bit_lines (length levels.old.items) (talkers_at rest.new (length levels.old.items + 1) talkers.new)
+        (controllers_at rest.new (length levels.old.items + 1) controllers.new) }
+    ensures port { (k : ℕ) (a m : Member) (p q : P)
+        → slice_get (controllers_at rest.old (length levels.old.items) controllers.old) k ≡ Some a
+        → slice_get (controllers_at rest.new (length levels.old.items + 1) controllers.new) k ≡ Some m
+        → slice_get ports.old k ≡ Some p → slice_get ports.new k ≡ Some q
         → PortMoves P.bus_after P.bus_asked P.transmitting P.sink_after P.port_stays (length levels.old.items)
         (wants_at (length levels.old.items) a) m p q }
+    ensures rests { RestHolds rest.new (length levels.old.items + 1) plan.now.talkers.items talkers.new controllers.new }
+    ensures left { LeavesResting rest.old rest.new talkers.old talkers.new controllers.old controllers.new }
     ensures size { length ports.new ≡ length ports.old }
 {
     let bit = levels.len() as u64;
-    let Moved { level, told } = move_nodes(rt, plan, talkers, controllers, ports, bit, calm);
+    let Moved { level, told } = move_nodes(
+        rt,
+        plan,
+        talkers,
+        controllers,
+        ports,
+        rest,
+        bit,
+        faults,
+    );
     tell(events, bit, talkers, controllers, told);
     keep(levels, level);
 }

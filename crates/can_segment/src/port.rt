@@ -8,11 +8,11 @@ ghost use Rattle.can_segment.specs.Ports.{item_of, failed, settled, taken_by, Re
 
 use crate::event::Label;
 use crate::rx_sink::RxSink;
-use crate::sent::Sent;
+use crate::transmission::Transmission;
 use can_node::Outcome;
 
 /// Whether a request is on the bus.
-fn sends_request(sending: &Option<Sent>) -> bool
+fn sends_request(sending: &Option<Transmission>) -> bool
     ensures { result ≡ is_some (item_of sending.now) }
 {
     match sending {
@@ -22,7 +22,7 @@ fn sends_request(sending: &Option<Sent>) -> bool
 }
 
 /// The transmission on the bus failed. Which request was reaped, if its abort was asked.
-fn fail<R, P: RxSink<R>>(rt: &R, port: &mut P, sending: Option<Sent>) -> Option<Label>
+fn fail<R, P: RxSink<R>>(rt: &R, port: &mut P, sending: Option<Transmission>) -> Option<Label>
     requires { P.transmitting port.old ≡ item_of sending }
     ensures bus { (past : BusPast) → P.bus_after port.old past
         → P.bus_after port.new (failed past (item_of sending) result) }
@@ -46,7 +46,7 @@ fn fail<R, P: RxSink<R>>(rt: &R, port: &mut P, sending: Option<Sent>) -> Option<
 pub(crate) fn settle<R, P: RxSink<R>>(
     rt: &R,
     port: &mut P,
-    sending: Option<Sent>,
+    sending: Option<Transmission>,
     outcome: Outcome,
 ) -> Option<Label>
     requires { P.transmitting port.old ≡ item_of sending }

@@ -6,7 +6,7 @@ ghost use Rattle.can_segment.specs.Tellings.{start_of, rest_by, told_by};
 
 use crate::event::{Event, Label, Told};
 use crate::member::{Deed, Member};
-use crate::sent::Sent;
+use crate::transmission::Transmission;
 use can_node::Outcome;
 
 /// One line more, for which there is room.
@@ -46,7 +46,7 @@ fn tell_outcome(
     events: &mut Vec<Event>,
     bit: u64,
     node: u32,
-    sent: &Option<Sent>,
+    sent: &Option<Transmission>,
     outcome: &Outcome,
 )
     requires { vec_len events.old < vec_capacity events.old }

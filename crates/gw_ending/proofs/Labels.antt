@@ -8,7 +8,7 @@ use Rattle.can_node.specs.declared.outcome.Outcome.TheVariants.{Nothing, Took, C
 use Rattle.can_segment.specs.declared.event.Event.{Event}
 use Rattle.can_segment.specs.declared.event.Told.{Told}
 use Rattle.can_segment.specs.declared.plan.SegmentPlan.{SegmentPlan}
-use Rattle.can_segment.specs.declared.sent.Sent.{Sent}
+use Rattle.can_segment.specs.declared.transmission.Transmission.{Transmission}
 use Rattle.can_segment.specs.Runs.{Run, IsBit}
 use Rattle.can_segment.specs.Runs.Run.{no_bit, one_more}
 use Rattle.can_segment.specs.Tells.{told_start, told_outcome, told_reaped, starts_of, rest_of, lines, lines_from, events_at}
@@ -18,20 +18,20 @@ use Rattle.can_segment.proofs.NextBits.{some_there, act_found}
 use Rattle.gw_script.specs.NamedPlaces.{label_of}
 
 -- what is sent is no request
-abbrev pub IsUnlabelled : Option Sent → Type 0
-IsUnlabelled sending = (sent : Sent) → sending ≡ Some sent → sent.label ≡ None
+abbrev pub IsUnlabelled : Option Transmission → Type 0
+IsUnlabelled sending = (sent : Transmission) → sending ≡ Some sent → sent.label ≡ None
 
 -- a line of one of the nodes, and of a talker only if it names no request
 pub record IsFair (plan : SegmentPlan) (event : Event) : Type 0 where
   pub node : event.node < length plan.talkers.items + length plan.controllers.items
   pub talker : event.node < length plan.talkers.items → label_of event.told ≡ None
 
-start-unlabelled : (begun : Option Sent) (one : Told) → IsUnlabelled begun → Has (told_start begun) one → label_of one ≡ None
+start-unlabelled : (begun : Option Transmission) (one : Told) → IsUnlabelled begun → Has (told_start begun) one → label_of one ≡ None
 start-unlabelled None one none has = absurd has
 start-unlabelled (Some sent) one none (inl is) = subst (λ t. label_of t ≡ None) is (none sent refl)
 start-unlabelled (Some sent) one none (inr has) = absurd has
 
-outcome-unlabelled : (sending : Option Sent) (outcome : Outcome) (one : Told) → IsUnlabelled sending → Has (told_outcome sending outcome) one → label_of one ≡ None
+outcome-unlabelled : (sending : Option Transmission) (outcome : Outcome) (one : Told) → IsUnlabelled sending → Has (told_outcome sending outcome) one → label_of one ≡ None
 outcome-unlabelled sending Nothing one none has = absurd has
 outcome-unlabelled sending (Took start frame) one none (inl is) = subst (λ t. label_of t ≡ None) is refl
 outcome-unlabelled sending (Took start frame) one none (inr has) = absurd has
@@ -48,11 +48,11 @@ outcome-unlabelled sending WentOff one none (inr has) = absurd has
 outcome-unlabelled sending CameBack one none (inl is) = subst (λ t. label_of t ≡ None) is refl
 outcome-unlabelled sending CameBack one none (inr has) = absurd has
 
-now-unlabelled : (before begun : Option Sent) → IsUnlabelled before → IsUnlabelled begun → IsUnlabelled (sending_now before begun)
+now-unlabelled : (before begun : Option Transmission) → IsUnlabelled before → IsUnlabelled begun → IsUnlabelled (sending_now before begun)
 now-unlabelled before None p q = p
 now-unlabelled before (Some sent) p q = q
 
-after-unlabelled : (sending : Option Sent) (b : Bool) → IsUnlabelled sending → IsUnlabelled (cond b None sending)
+after-unlabelled : (sending : Option Transmission) (b : Bool) → IsUnlabelled sending → IsUnlabelled (cond b None sending)
 after-unlabelled sending true p = λ sent e. absurd (cc e)
 after-unlabelled sending false p = p
 
@@ -62,15 +62,15 @@ has-split (y ∷ xs) ys x P p q (inl is) = p (inl is)
 has-split (y ∷ xs) ys x P p q (inr has) = has-split xs ys x P (λ h. p (inr h)) q has
 
 -- what a talker does at a bit
-pub record IsQuiet (before : Option Sent) (act : Option Act) : Type 0 where
+pub record IsQuiet (before : Option Transmission) (act : Option Act) : Type 0 where
   pub starts : (one : Told) → Has (starts_of act) one → label_of one ≡ None
   pub rest : (one : Told) → Has (rest_of before act) one → label_of one ≡ None
   pub sending : IsUnlabelled (sending_behind before act)
 
-quiet-off : (before : Option Sent) → IsUnlabelled before → IsQuiet before None
+quiet-off : (before : Option Transmission) → IsUnlabelled before → IsQuiet before None
 quiet-off before p = record { starts = λ one has. absurd has; rest = λ one has. absurd has; sending = p }
 
-quiet-on : (before : Option Sent) (act : Act) → IsUnlabelled before → IsUnlabelled act.begun → act.reaped ≡ None → IsQuiet before (Some act)
+quiet-on : (before : Option Transmission) (act : Act) → IsUnlabelled before → IsUnlabelled act.begun → act.reaped ≡ None → IsQuiet before (Some act)
 quiet-on before act p q none = record {
   starts = λ one has. start-unlabelled act.begun one q has;
   rest = λ one has. has-split (told_outcome (sending_now before act.begun) act.outcome) (told_reaped act.reaped) one (λ t. label_of t ≡ None)

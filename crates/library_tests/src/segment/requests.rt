@@ -1,12 +1,12 @@
 //! Worked cases of a controller that sends requests.
 
-ghost use Rattle.std.specs.Prelude.{◌≡◌, None, IfSome};
+ghost use Rattle.std.specs.Prelude.{◌≡◌, ◌≤◌, All, None, IfSome, length};
 ghost use Rattle.bx_core.specs.PlainMail.{core_of, sending};
 
 use super::{Port, completed, data_frame, make_bits, plan_of, started, talker, took};
 use bx_core::{NoGate, PlainMail, PlainRoute, RouteTx, Sent};
 use can_frame::{Frame, Id};
-use can_segment::{Controller, Event, Label, SegFault, Segment, SegmentPlan, Told};
+use can_segment::{Controller, Event, Label, Record, SegFault, Segment, SegmentPlan, Told};
 use std::alloc::{AllocError, Global};
 use std::test::Fail;
 
@@ -25,6 +25,23 @@ fn port_with(alloc: Global, frame: Frame) -> Option<Port>
     None
 }
 
+/// What the segment of a plan records over all its bits, whose only controller has this port.
+fn recorded(alloc: Global, plan: SegmentPlan, ports: &mut [Port]) -> Result<Record, SegFault>
+    requires one { length plan.controllers.items ≡ 1 }
+    requires few { length plan.talkers.items ≤ 15 }
+    requires port { length ports.old ≡ 1 }
+    requires idle { All (λ port. sending (core_of port.mail) ≡ None) ports.old }
+{
+    let bits = plan.bits;
+    match Segment::new(alloc, plan) {
+        Ok(mut segment) => {
+            make_bits(&(), &mut segment, ports, bits)?;
+            Ok(segment.into_record())
+        }
+        Err(fault) => Err(fault),
+    }
+}
+
 /// A talker's frame loses arbitration against a controller's request. The controller's sink is offered the
 /// talker's frame, and not its own.
 #[test]
@@ -41,49 +58,44 @@ fn a_request_is_sent_and_a_frame_is_taken(rt: HostRuntime) -> Result<(), Fail> {
         return Err(SegFault::Memory.into());
     };
     let mut ports = [port];
-    match Segment::new(rt.alloc(), plan) {
-        Ok(mut segment) => {
-            make_bits(&(), &mut segment, &mut ports, 113)?;
-            let label = Some(Label {
-                route: 0,
-                number: 1,
-            });
-            assert!(rt;
-                segment.record().events.as_slice()
-                    == [
-                        started(11, 0, second),
-                        Event {
-                            bit: 11,
-                            node: 1,
-                            told: Told::Started { frame, label }
-                        },
-                        Event {
-                            bit: 24,
-                            node: 0,
-                            told: Told::Lost { start: 11 }
-                        },
-                        took(59, 0, 11, frame),
-                        Event {
-                            bit: 60,
-                            node: 1,
-                            told: Told::Completed {
-                                start: 11,
-                                frame,
-                                label
-                            }
-                        },
-                        started(64, 0, second),
-                        took(109, 1, 64, second),
-                        completed(110, 0, 64, second),
-                    ]
-                    .as_slice()
-            );
-            assert_eq!(rt; ports[0].taken, 1);
-            assert!(rt; ports[0].mail.core().waiting(0).is_empty());
-            Ok(())
-        }
-        Err(fault) => Err(fault.into()),
-    }
+    let record = recorded(rt.alloc(), plan, &mut ports)?;
+    let label = Some(Label {
+        route: 0,
+        number: 1,
+    });
+    assert!(rt;
+        record.events.as_slice()
+            == [
+                started(11, 0, second),
+                Event {
+                    bit: 11,
+                    node: 1,
+                    told: Told::Started { frame, label }
+                },
+                Event {
+                    bit: 24,
+                    node: 0,
+                    told: Told::Lost { start: 11 }
+                },
+                took(59, 0, 11, frame),
+                Event {
+                    bit: 60,
+                    node: 1,
+                    told: Told::Completed {
+                        start: 11,
+                        frame,
+                        label
+                    }
+                },
+                started(64, 0, second),
+                took(109, 1, 64, second),
+                completed(110, 0, 64, second),
+            ]
+            .as_slice()
+    );
+    assert_eq!(rt; ports[0].taken, 1);
+    assert!(rt; ports[0].mail.core().waiting(0).is_empty());
+    Ok(())
 }
 
 /// A plan of a listener and a controller.

@@ -15,11 +15,12 @@ returns-then-is_steady c =
 pub returns-then-is_echo : goal.returns-then-is_echo
 returns-then-is_echo c =
     let next = Sending c.in-Sending.start c.saturating_add.result in
+    let reader = c.args.reader.now in
     let before = c.is_echo.ensures.before c.if-is_echo.true in
-    rw c.in-Sending.is (quiet_steps (Sending c.in-Sending.start c.in-Sending.place) next c.args.counters.now c.args.reader.now c.push-read.new.self c.args.spelling.now c.args.now c.args.level
-    (λ errors. sending_advances c.in-Sending.start c.in-Sending.place c.args.reader.now c.push-read.new.self c.args.spelling.now c.args.now errors c.args.level c.push-read.result (quiet next) c.push-read.ensures
+    rw c.in-Sending.is (quiet_steps (Sending c.in-Sending.start c.in-Sending.place) next c.args.counters.now reader reader c.args.spelling.now c.args.now c.args.level
+    (λ errors. sending_advances c.in-Sending.start c.in-Sending.place reader reader c.args.spelling.now c.args.now errors c.args.level (quiet next)
     (send_echoed c.in-Sending.start c.in-Sending.place c.saturating_add.result c.args.spelling.now errors c.args.level (λ slot. omega (arith, slot, before)) (c.is_echo.ensures.same c.if-is_echo.true)
-    (λ last. omega (arith, last, before)) c.saturating_add.ensures)))
+    (λ last. omega (arith, last, before)) c.saturating_add.ensures) (λ is. absurd (cc is)) (λ is. absurd (cc is))))
 
 pub returns-in-Idling : goal.returns-in-Idling
 returns-in-Idling c =

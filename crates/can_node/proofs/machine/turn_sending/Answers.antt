@@ -1,11 +1,24 @@
+use Rattle.std.proofs.Common.{◌++◌, ◌∷◌, [], ap, subst}
+use Rattle.can_frame.specs.Reading.{StandsAfter}
 use Rattle.can_node.proofs.Samples.{sending_advances}
 use Rattle.can_node.proofs.machine.turn_sending.Goals as goal
 
-pub returns : goal.returns
-returns c step old new now push = record {
-  turn = c.after_sending.result;
+pub returns-then-is_taking : goal.returns-then-is_taking
+returns-then-is_taking c now = record {
+  turn = c.after_sending-turn.result;
   errors = c.state-errors.result;
   shows = c.state-errors.ensures.counted;
-  advances = sending_advances c.args.start c.args.place old new c.args.spelling.now now c.state-errors.result c.args.level step c.after_sending.result push c.after_sending.ensures;
+  advances = sending_advances c.args.start c.args.place c.args.reader.now c.reader_behind.result c.args.spelling.now now c.state-errors.result c.args.level c.after_sending-turn.result c.after_sending-turn.ensures.goes
+      c.after_sending-turn.ensures.lost (λ is. subst (λ t. StandsAfter c.reader_behind.result (t ++ c.args.level ∷ [])) c.before-then-is_taking.ensures c.reader_behind.ensures);
   is_made = c.make.ensures;
+}
+
+pub returns : goal.returns
+returns c now = record {
+  turn = c.after_sending-turn.result;
+  errors = c.state-errors.result;
+  shows = c.state-errors.ensures.counted;
+  advances = sending_advances c.args.start c.args.place c.args.reader.now c.args.reader.now c.args.spelling.now now c.state-errors.result c.args.level c.after_sending-turn.result c.after_sending-turn.ensures.goes
+      c.after_sending-turn.ensures.lost (λ is. absurd (cc (is, c.is_taking.ensures, c.if-is_taking.false)));
+  is_made = c.make-2.ensures;
 }

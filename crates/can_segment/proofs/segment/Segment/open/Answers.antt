@@ -1,34 +1,43 @@
-use Rattle.std.proofs.Common.{length, arith, sym, ap, subst, refl, ◌∙◌}
+use Rattle.std.proofs.Common.{length, arith, sym, ap, subst, refl, ◌≡◌, ◌∙◌}
 use Rattle.std.proofs.lemmas.List.{length-map}
+use Rattle.can_segment.specs.declared.record.Record.{Record}
 use Rattle.can_segment.specs.Ports.{item_of}
-use Rattle.can_segment.specs.Faults.{CalmUntil}
+use Rattle.can_segment.specs.FaultOrder.{StandsAt}
 use Rattle.can_segment.specs.Fresh.{AreFresh}
+use Rattle.can_segment.specs.Rests.{controllers_at}
+use Rattle.can_segment.specs.Segments.{SegmentHolds}
 use Rattle.can_segment.proofs.Fresh.{kept_fresh, idle_fresh}
+use Rattle.can_segment.proofs.Rests.{awake_woken, none_rests}
+use Rattle.can_segment.proofs.Wholes.{holds_awake}
 use Rattle.can_segment.proofs.segment.Segment.open.Goals as goal
 
 pub invariant_of-result : goal.invariant_of-result
 invariant_of-result c =
     let talkers = c.in_ok-talkers.talkers.items in
     let controllers = c.in_ok-controllers.controllers.items in
-    let kept = kept_fresh c.args.plan talkers controllers (rw c.as_slice.ensures.value at c.in_ok-talkers.ensures) (rw c.as_slice-2.ensures.value at c.in_ok-controllers.ensures) in (
-      record {
-        kept = rw (c.new.ensures.items, c.new-2.ensures.items) kept;
-        few = omega (arith, c.requires, kept.stands.talkers_size, kept.stands.controllers_size);
-        size = rw (c.as_slice-3.ensures.value, c.as_slice-4.ensures.value) at c.show_all.ensures.size;
-        talkers_shown = rw c.as_slice-3.ensures.value at c.show_all.ensures.talkers;
-        controllers_shown = rw (c.as_slice-3.ensures.value, c.as_slice-4.ensures.value) at c.show_all.ensures.controllers;
-      },
-      subst (λ n. CalmUntil c.args.plan n c.next_fault-calm_until.result) (sym (ap length c.new.ensures.items)) c.next_fault-calm_until.ensures,
+    let kept = kept_fresh c.args.plan talkers controllers (rw c.as_slice.ensures.value at c.in_ok-talkers.ensures) (rw c.as_slice-2.ensures.value at c.in_ok-controllers.ensures) in
+    let made : Record = record { levels = c.new-2.result; events = c.new-3.result; counters = c.show_all.new.counters } in
+    let held : SegmentHolds c.args.plan made talkers controllers = record {
+      kept = rw (c.new-2.ensures.items, c.new-3.ensures.items) kept;
+      few = omega (arith, c.requires, kept.stands.talkers_size, kept.stands.controllers_size);
+      size = rw (c.as_slice-3.ensures.value, c.as_slice-4.ensures.value) at c.show_all.ensures.size;
+      talkers_shown = rw c.as_slice-3.ensures.value at c.show_all.ensures.talkers;
+      controllers_shown = rw (c.as_slice-3.ensures.value, c.as_slice-4.ensures.value) at c.show_all.ensures.controllers;
+    } in (
+      holds_awake c.args.plan made c.none.result (length made.levels.items) talkers controllers c.none.ensures held,
+      subst (λ n. StandsAt c.args.plan n c.in_ok-faults.faults) (sym (ap length c.new-2.ensures.items)) c.in_ok-faults.ensures,
+      none_rests c.none.result (length made.levels.items) c.args.plan.talkers.items talkers controllers c.none.ensures,
     )
 
 pub returns : goal.returns
 returns c =
     let controllers = c.in_ok-controllers.controllers.items in
     let fresh : AreFresh (λ controller. controller.on) c.args.plan.controllers.items controllers = rw c.as_slice-2.ensures.value at c.in_ok-controllers.ensures in
+    let same : controllers_at c.none.result (length c.new-2.result.items) controllers ≡ controllers = awake_woken c.none.result c.none.result.controller (length c.new-2.result.items) controllers c.none.ensures in
     record {
       plan_is = refl;
-      no_levels = c.new.ensures.items;
-      no_events = c.new-2.ensures.items;
-      one_each = length-map controllers (λ member. item_of member.station.sending) ∙ fresh.size;
-      idle = idle_fresh (λ controller. controller.on) c.args.plan.controllers.items controllers fresh;
+      no_levels = c.new-2.ensures.items;
+      no_events = c.new-3.ensures.items;
+      one_each = rw same (length-map controllers (λ member. item_of member.station.sending) ∙ fresh.size);
+      idle = rw same (idle_fresh (λ controller. controller.on) c.args.plan.controllers.items controllers fresh);
     }

@@ -1,0 +1,118 @@
+-- Nodes that are left alone while a listener follows the line for them.
+use Rattle.std.proofs.Common.{◌≡◌, ◌≢◌, ◌⊎◌, inl, inr, ℕ, ◌+◌, Bool, true, false, Option, None, Some, List, [], ◌∷◌, ◌++◌, refl, sym, ap, subst, ◌∙◌}
+use Rattle.std.proofs.lemmas.List.Sums.{fold-append}
+use Rattle.can_frame.specs.Reading.{IsPush, ReadsOn, StandsAs, StandsAfter as ReaderStandsAfter, IsReading}
+use Rattle.can_frame.specs.declared.step.Step.{Step}
+use Rattle.can_frame.specs.declared.step.Step.TheVariants.{More, StuffBit}
+use Rattle.can_frame.specs.declared.reader.Reader.{Reader}
+use Rattle.can_node.specs.declared.confinement.ErrorEvent.{ErrorEvent}
+use Rattle.can_node.specs.declared.confinement.ErrorEvent.TheVariants.{Received}
+use Rattle.can_node.specs.declared.confinement.ErrorState.TheVariants.{Active as ErrorActive}
+use Rattle.can_node.specs.declared.known_counts.KnownCounts.{KnownCounts}
+use Rattle.can_node.specs.declared.known_counts.KnownCounts.TheVariants.{Any, Active, Zero}
+use Rattle.can_node.specs.KnownCounts.{Knows}
+use Rattle.can_node.specs.declared.counters.Counters.{Counters}
+use Rattle.can_node.specs.declared.outcome.Outcome.TheVariants.{Nothing}
+use Rattle.can_node.specs.declared.state.State.{State}
+use Rattle.can_node.specs.declared.state.State.TheVariants.{Idling, Taking}
+use Rattle.can_node.specs.declared.state.Stage.{Stage}
+use Rattle.can_node.specs.declared.state.Stage.TheVariants.{Region}
+use Rattle.can_node.specs.declared.state.Turn.{Turn}
+use Rattle.can_node.specs.declared.spelling.Spelling.{Spelling}
+use Rattle.can_node.specs.declared.node.Node.{Node}
+use Rattle.can_node.specs.declared.listener.Listener.{Listener}
+use Rattle.can_node.specs.Confinement.{no_counts, is_off, after_event, counts_after, state_of}
+use Rattle.can_node.specs.Counters.{StandsAfter as CountersStandAfter, counts_of}
+use Rattle.can_node.specs.Machine.{Advances, Counts, Goes, GoesReading, ReaderStands, Steps, is_in_region, is_sending, is_taking, may_start}
+use Rattle.can_node.specs.Machine.LeadsTo.{stays_on}
+use Rattle.can_node.specs.Listener.{Follows, IsUnseen, StandsWith, caught_up}
+use Rattle.can_node.proofs.Samples.{counts_none, idle_advances, other_advances, quiet_steps, reading_advances, samples, steady_advances}
+
+abbrev listening : State → Reader → Listener
+listening state reader = record { state = state; reader = reader }
+
+follows_by : (known : KnownCounts) (old new : Listener) (bit : ℕ) (level : Bool) →
+    ((node : Node) → Knows known node.counters → Steps old.state node.counters old.reader node.spelling bit level Nothing new.state node.counters new.reader) → Follows known old bit level new
+follows_by known old new bit level steps node counts = samples (caught_up node old bit) (caught_up node new (bit + 1)) level Nothing (steps node counts) refl refl
+
+steady_follows : (known : KnownCounts) (start : ℕ) (old new : Reader) (bit : ℕ) (level : Bool) (step : Step) → IsPush old level step new → (step ≡ More) ⊎ (step ≡ StuffBit) →
+    Follows known (listening (Taking start false Region) old) bit level (listening (Taking start false Region) new)
+steady_follows known start old new bit level step push goes_on =
+    let here = Taking start false Region in
+    follows_by known (listening here old) (listening here new) bit level (λ node counts. quiet_steps here here node.counters old new node.spelling bit level
+    (λ errors. steady_advances start false Region old new node.spelling bit errors level step push (record { reads = refl; inside = refl; goes_on = goes_on })))
+
+-- within the stuffed region of a frame
+pub region_follows : (known : KnownCounts) (state : State) (old new : Reader) (bit : ℕ) (level : Bool) → is_in_region state ≡ true → ReadsOn old level new →
+    Follows known (listening state old) bit level (listening state new)
+region_follows known (Taking start false Region) old new bit level is (inl more) = steady_follows known start old new bit level More more (inl refl)
+region_follows known (Taking start false Region) old new bit level is (inr stuff) = steady_follows known start old new bit level StuffBit stuff (inr refl)
+region_follows known state old new bit level is on = absurd (cc is)
+
+-- on an idle bus
+pub idle_follows : (known : KnownCounts) (state : State) (reader : Reader) (bit : ℕ) (level : Bool) → state ≡ Idling → level ≡ true →
+    Follows known (listening state reader) bit level (listening state reader)
+idle_follows known state reader bit level is recessive = rw (is, recessive)
+    (follows_by known (listening Idling reader) (listening Idling reader) bit true (λ node counts. quiet_steps Idling Idling node.counters reader reader node.spelling bit true
+    (λ errors. idle_advances reader node.spelling bit errors)))
+
+-- a frame received changes no count that is 0
+counts_received : (counters : Counters) → counts_of counters ≡ no_counts → (events : List ErrorEvent) → Counts counters counters (Some Received) false events
+counts_received counters none events =
+    let after : CountersStandAfter counters events → counts_after (events ++ Received ∷ []) ≡ no_counts =
+    λ h. fold-append after_event no_counts events (Received ∷ []) ∙ ap (λ counts. after_event counts Received) (sym h ∙ none) in
+    record { stands = λ h. none ∙ sym (after h); leads = λ h. stays_on Received (ap is_off (after h)) }
+
+counts_unseen : (known : KnownCounts) (counters : Counters) (event : Option ErrorEvent) → Knows known counters → (event ≡ None) ⊎ ((known ≡ Zero) × (event ≡ Some Received)) → (events : List ErrorEvent) →
+    Counts counters counters event false events
+counts_unseen known counters event counts (inl is) events = counts_none counters event is events
+counts_unseen known counters event counts (inr is) events = rw is.1 (counts_received counters (subst (λ k. Knows k counters) is.0 counts) events)
+
+-- counts of which anything is known make a node error active
+active_by : (known : KnownCounts) (counters : Counters) → known ≢ Any → Knows known counters → state_of (counts_of counters) ≡ ErrorActive
+active_by Any counters some counts = absurd (some refl)
+active_by Active counters some counts = counts
+active_by Zero counters some counts = ap state_of counts
+
+unseen_follows : (known : KnownCounts) (old new : Listener) (bit : ℕ) (level : Bool) (turn : Turn) → known ≢ Any → IsUnseen known turn → new.state ≡ turn.state →
+    ((spelling : Spelling) → Advances old.state old.reader spelling bit ErrorActive level turn new.reader) → Follows known old bit level new
+unseen_follows known old new bit level turn some unseen state_is advances = follows_by known old new bit level (λ node counts. record {
+  turn = turn;
+  errors = ErrorActive;
+  shows = λ events h. sym (active_by known node.counters some counts) ∙ ap state_of h;
+  advances = advances node.spelling;
+  is_made = record { off = false; counts = counts_unseen known node.counters turn.event counts unseen.counts_none; ends_in = (state_is, sym unseen.tells_none) };
+})
+
+-- a level of a frame with which all read on
+pub reading_follows : (known : KnownCounts) (old : Listener) (start : ℕ) (may : Bool) (stage : Stage) (new : Reader) (bit : ℕ) (level : Bool) (step : Step) (turn : Turn) → known ≢ Any → old.state ≡ Taking start may stage →
+    IsPush old.reader level step new → ((may : Bool) → GoesReading (Taking start may stage) ErrorActive step level turn) → IsUnseen known turn → Follows known old bit level (listening turn.state new)
+reading_follows known old start may stage new bit level step turn some is push goes unseen = unseen_follows known old (listening turn.state new) bit level turn some unseen refl
+    (λ spelling. rw is (reading_advances start may stage old.reader new spelling bit ErrorActive level step turn push goes))
+
+-- a level outside of one
+pub other_follows : (known : KnownCounts) (old : Listener) (new : Reader) (bit : ℕ) (level : Bool) (turn : Turn) → known ≢ Any → is_sending old.state ≡ false → Goes old.state bit ErrorActive level turn → IsUnseen known turn →
+    (is_taking turn.state ≡ true → ReaderStandsAfter new (false ∷ [])) → (is_taking turn.state ≡ true → IsReading new) → Follows known old bit level (listening turn.state new)
+other_follows known old new bit level turn some sends_none goes unseen stands reading = unseen_follows known old (listening turn.state new) bit level turn some unseen refl
+    (λ spelling. other_advances old.state old.reader new spelling bit ErrorActive level turn sends_none goes stands reading)
+
+-- a node that has come as far as a listener
+same_reads : (state : State) (one other : Reader) (text : List Bool) → (is_taking state ≡ true → StandsAs one other) → ReaderStands state one text → ReaderStands state other text
+same_reads state one other text same reads = record {
+  stands = λ is. (same is).stands text (reads.stands is);
+  reading = λ is. (same is).reading (reads.reading is);
+}
+
+pub stands_with : (node : Node) (listener : Listener) → node.state ≡ listener.state → is_sending node.state ≡ false → (is_taking node.state ≡ true → StandsAs node.reader listener.reader) →
+    StandsWith node listener
+stands_with node listener is sends_none same = record {
+  stands = λ past h. record {
+    text = h.text;
+    in_state = rw (sym is) h.in_state;
+    reads = rw (sym is) (same_reads node.state node.reader listener.reader h.text same h.reads);
+    clock_is = h.clock_is;
+    counted = h.counted;
+  };
+  begins = ap may_start (sym is);
+  listening = ap is_sending (sym is) ∙ sends_none;
+}

@@ -1,0 +1,50 @@
+-- One that follows a line in place of nodes that listen to it and have come equally far.
+use Rattle.std.specs.Prelude.{◌≡◌, ◌⊎◌, ℕ, ◌+◌, Bool, true, false, None, Some}
+use Rattle.can_node.specs.declared.confinement.ErrorEvent.TheVariants.{Received}
+use Rattle.can_node.specs.declared.outcome.Outcome.TheVariants.{Nothing}
+use Rattle.can_node.specs.declared.state.Turn.{Turn}
+use Rattle.can_node.specs.declared.node.Node.{Node}
+use Rattle.can_node.specs.declared.listener.Listener.{Listener}
+use Rattle.can_node.specs.KnownCounts.{Knows}
+use Rattle.can_node.specs.declared.known_counts.KnownCounts.{KnownCounts}
+use Rattle.can_node.specs.declared.known_counts.KnownCounts.TheVariants.{Zero}
+use Rattle.can_node.specs.Histories.{Past}
+use Rattle.can_node.specs.Machine.{is_sending, listens}
+use Rattle.can_node.specs.Node.{StandsAfter, IsSample, bit_of, counters_in, may_begin}
+
+-- it sends no frame
+abbrev pub IsListening : Listener → Type 0
+IsListening listener = is_sending listener.state ≡ false
+
+-- it has come as far as this node
+abbrev pub listener_of : Node → Listener
+listener_of node = record { state = node.state; reader = node.reader }
+
+-- the node is one for which a listener may come to stand
+abbrev pub listens_in : Node → Bool
+listens_in node = listens node.state
+
+-- A node that was left alone while a listener followed the line for it, at the bit up to which that has followed:
+-- it holds what it held but for what all hold alike.
+abbrev pub caught_up : Node → Listener → ℕ → Node
+caught_up node listener bit = record { state = listener.state; reader = listener.reader; spelling = node.spelling; counters = node.counters; clock = bit }
+
+-- What a bit does to a listener and to each node for which it stands: caught up before, the node samples this level
+-- and tells nothing, and then it is the node caught up behind it. Its counts are such of which this is known.
+abbrev pub Follows : KnownCounts → Listener → ℕ → Bool → Listener → Type 0
+Follows known old bit level new =
+    (node : Node) → Knows known (counters_in node) → IsSample (caught_up node old bit) level Nothing (caught_up node new (bit + 1))
+
+-- A listener may come to stand for the node: caught up with it at its own next bit it stands after each past after
+-- which it stands, and it may begin to send just where it may.
+pub record StandsWith (node : Node) (listener : Listener) : Type 0 where
+  pub stands : (past : Past) → StandsAfter node past → StandsAfter (caught_up node listener (bit_of node)) past
+  pub begins : may_begin (caught_up node listener (bit_of node)) ≡ may_begin node
+  pub listening : IsListening listener
+
+-- A turn that tells nothing, and changes no count of a node of whose counts so much is known: that a frame was received
+-- changes none that is 0. A private clause cites it.
+pub record IsUnseen (known : KnownCounts) (turn : Turn) : Type 0 where
+  pub tells_none : turn.outcome ≡ Nothing
+  pub counts_none : (turn.event ≡ None) ⊎ ((known ≡ Zero) × (turn.event ≡ Some Received))
+  pub sends_none : is_sending turn.state ≡ false

@@ -1,0 +1,164 @@
+//! One that follows the line in place of the nodes that listen to it.
+
+ghost use Rattle.std.specs.Prelude.{◌≡◌, ◌≢◌, ℕ, Bool, true, false};
+ghost use Rattle.can_node.specs.declared.node.Node.{Node};
+ghost use Rattle.can_node.specs.Machine.{is_sending, is_taking};
+ghost use Rattle.can_node.specs.Node.{driven_by, may_begin};
+ghost use Rattle.can_node.specs.Listener.{IsListening, IsUnseen, Follows, caught_up};
+ghost use Rattle.can_node.specs.declared.known_counts.KnownCounts.TheVariants.{Any};
+
+use crate::confinement::{ErrorEvent, ErrorState};
+use crate::known_counts::KnownCounts;
+use crate::machine::{is_in_region, is_taking, level_of, may_start, reader_after_sof, turn_of};
+use crate::outcome::Outcome;
+use crate::state::{Stage, State, Turn};
+use crate::takes::after_taking;
+use can_frame::{Reader, Step};
+
+/// What all nodes hold alike that listen to a line and have come equally far: one follows the line for them,
+/// and they are left alone until one of them has something to do of its own. Then it catches up
+/// (`Node::catch_up`).
+#[derive(Drop)]
+pub struct Listener {
+    pub(crate) state: State,
+    // of the frame that is read; without use else
+    pub(crate) reader: Reader,
+}
+
+impl Listener {
+    /// The level that each node drives at the next bit for which it stands, true being recessive.
+    pub fn drive(&self) -> bool
+        ensures { IsListening self.now → (node : Node) (bit : ℕ) → result ≡ driven_by (caught_up node self.now bit) }
+    {
+        level_of(self.state)
+    }
+
+    /// Whether each of them may begin to send at the next bit.
+    pub fn wants_start(&self) -> bool
+        ensures { (node : Node) (bit : ℕ) → result ≡ may_begin (caught_up node self.now bit) }
+    {
+        may_start(self.state)
+    }
+
+    /// Follows the line through a bit at which all of them sample this level, and tells whether it did: then each
+    /// has told nothing and counted nothing that changes a count. Of their counts so much is `known`: where nothing
+    /// is, it follows an idle bus and the stuffed region of a frame alone; where they are error active, each bit at
+    /// which nothing is counted. Else it is as it was, and the nodes have to sample that level themselves.
+    #[inline(always)]
+    pub fn follow(&mut self, bit: u64, level: bool, known: KnownCounts) -> bool
+        ensures follows { result ≡ true → Follows known self.old bit level self.new }
+        ensures listens { IsListening self.old → IsListening self.new }
+        ensures other { result ≡ false → self.new ≡ self.old }
+    {
+        if level && is_idle(self.state) {
+            return true;
+        }
+        if is_in_region(self.state) {
+            if self.reader.reads_on(level) {
+                return true;
+            }
+        }
+        if known == KnownCounts::Any {
+            return false;
+        }
+        self.turn(bit, level, known)
+    }
+
+    /// Follows a bit that makes a turn of nodes that are error active, where that can be.
+    #[inline(never)]
+    fn turn(&mut self, bit: u64, level: bool, known: KnownCounts) -> bool
+        requires { known ≢ Any }
+        ensures follows { result ≡ true → Follows known self.old bit level self.new }
+        ensures listens { IsListening self.old → IsListening self.new }
+        ensures other { result ≡ false → self.new ≡ self.old }
+    {
+        match self.state {
+            State::Taking(start, _, stage) => self.read_on(start, stage, level, known),
+            State::Sending(_, _) => false,
+            _ => self.go_on(bit, level, known),
+        }
+    }
+
+    /// So where they read a frame.
+    fn read_on(&mut self, start: u64, stage: Stage, level: bool, known: KnownCounts) -> bool
+        requires { known ≢ Any }
+        ensures follows { result ≡ true → (bit : ℕ) (may : Bool) → self.old.state ≡ State.Taking start may stage
+            → Follows known self.old bit level self.new }
+        ensures listens { IsListening self.old → IsListening self.new }
+        ensures other { result ≡ false → self.new ≡ self.old }
+    {
+        if self.read_tail(start, stage, level, known) {
+            return true;
+        }
+        let mut reader = self.reader.copy();
+        let step = reader.push(level);
+        let turn = after_taking(start, stage, ErrorState::Active, step, level);
+        if !is_unseen(&turn, known) {
+            return false;
+        }
+        self.state = turn.state;
+        self.reader = reader;
+        true
+    }
+
+    /// So behind the stuffed region, where the reader need not be copied.
+    fn read_tail(&mut self, start: u64, stage: Stage, level: bool, known: KnownCounts) -> bool
+        requires { known ≢ Any }
+        ensures follows { result ≡ true → (bit : ℕ) (may : Bool) → self.old.state ≡ State.Taking start may stage
+            → Follows known self.old bit level self.new }
+        ensures listens { IsListening self.old → IsListening self.new }
+        ensures other { result ≡ false → self.new ≡ self.old }
+    {
+        let turn = after_taking(start, stage, ErrorState::Active, Step::Tail, level);
+        if !is_unseen(&turn, known) {
+            return false;
+        }
+        if !self.reader.reads_tail(level) {
+            return false;
+        }
+        self.state = turn.state;
+        true
+    }
+
+    /// So where they neither read nor send one.
+    fn go_on(&mut self, bit: u64, level: bool, known: KnownCounts) -> bool
+        requires { known ≢ Any }
+        ensures follows { result ≡ true → is_taking self.old.state ≡ false → is_sending self.old.state ≡ false
+            → Follows known self.old bit level self.new }
+        ensures listens { IsListening self.old → IsListening self.new }
+        ensures other { result ≡ false → self.new ≡ self.old }
+    {
+        let turn = turn_of(self.state, bit, ErrorState::Active, level);
+        if !is_unseen(&turn, known) {
+            return false;
+        }
+        if is_taking(turn.state) {
+            self.reader = reader_after_sof();
+        }
+        self.state = turn.state;
+        true
+    }
+}
+
+fn is_idle(state: State) -> bool
+    ensures { result ≡ true → state ≡ State.Idling }
+{
+    matches!(state, State::Idling)
+}
+
+/// Whether a turn tells nothing and changes no count of a node of whose counts so much is known.
+fn is_unseen(turn: &Turn, known: KnownCounts) -> bool
+    ensures { result ≡ true → IsUnseen known turn.now }
+{
+    if matches!(turn.state, State::Sending(_, _)) {
+        return false;
+    }
+    if !matches!(turn.outcome, Outcome::Nothing) {
+        return false;
+    }
+    match turn.event {
+        None => true,
+        Some(ErrorEvent::Received) => known == KnownCounts::Zero,
+        Some(_) => false,
+    }
+}

@@ -1,0 +1,112 @@
+-- What stands of the nodes of a segment stands of those for which they stand while some rest.
+use Rattle.std.proofs.Common.{◌≡◌, ◌≢◌, ℕ, zero, suc, ◌+◌, ◌≤◌, Bool, true, false, cond, List, [], ◌∷◌, ◌++◌, length, map, slice_get, refl, sym, ap, subst, arith, ◌∙◌}
+use Rattle.std.proofs.lemmas.Option.{slice_get_within}
+use Rattle.can_node.specs.declared.counters.Counters.{Counters}
+use Rattle.can_node.specs.declared.listener.Listener.{Listener}
+use Rattle.can_segment.specs.declared.event.Event.{Event}
+use Rattle.can_segment.specs.declared.event.Told.{Told}
+use Rattle.can_segment.specs.declared.member.Deed.{Deed}
+use Rattle.can_segment.specs.declared.member.Member.{Member}
+use Rattle.can_segment.specs.declared.plan.SegmentPlan.{SegmentPlan}
+use Rattle.can_segment.specs.declared.record.Record.{Record}
+use Rattle.can_segment.specs.declared.rest.Rest.{Rest}
+use Rattle.can_segment.specs.Kept.{SegmentKept, StandsBehind}
+use Rattle.can_segment.specs.Rests.{AreAlike, IsAlike, all_but, caught_up, controllers_at, talkers_at, woken}
+use Rattle.can_segment.specs.Segments.{AreFrom, AreFromBut, SegmentHolds}
+use Rattle.can_segment.specs.Tells.{lines}
+use Rattle.can_segment.specs.Tellings.{bit_lines, rest_by, start_of, told_by}
+use Rattle.can_segment.specs.Traces.{Bit}
+use Rattle.can_segment.proofs.NextBits.{some_there}
+use Rattle.can_segment.proofs.Rests.{awake_woken, real_at, whole_at, woken_length}
+
+-- what is told of nodes
+told_map : (tells : Deed → List Told) (bit node : ℕ) (listener : Listener) (at : ℕ) (members : List Member) → told_by tells bit node (map (caught_up listener at) members) ≡ told_by tells bit node members
+unfolding told_by
+told_map tells bit node listener at [] = refl
+told_map tells bit node listener at (m ∷ members) = ap (λ es. lines bit node (tells m.deed) ++ es) (told_map tells bit (node + 1) listener at members)
+
+told_but : (tells : Deed → List Told) (bit node place : ℕ) (listener : Listener) (at : ℕ) (members : List Member) → told_by tells bit node (all_but place (caught_up listener at) members) ≡ told_by tells bit node members
+unfolding told_by
+told_but tells bit node place listener at [] = refl
+told_but tells bit node zero listener at (m ∷ members) = ap (λ es. lines bit node (tells m.deed) ++ es) (told_map tells bit (node + 1) listener at members)
+told_but tells bit node (suc place) listener at (m ∷ members) = ap (λ es. lines bit node (tells m.deed) ++ es) (told_but tells bit (node + 1) place listener at members)
+
+told_whole : (tells : Deed → List Told) (bit node : ℕ) (rest : Rest) (place at : ℕ) (members : List Member) → told_by tells bit node (woken rest place at members) ≡ told_by tells bit node members
+told_whole tells bit node rest place at members = by rest.resting
+  where
+    by : (b : Bool) → told_by tells bit node (cond b (all_but place (caught_up rest.listener at) members) members) ≡ told_by tells bit node members
+    by false = refl
+    by true = told_but tells bit node place rest.listener at members
+
+pub lines_whole : (bit : ℕ) (rest : Rest) (at : ℕ) (t c : List Member) → bit_lines bit (talkers_at rest at t) (controllers_at rest at c) ≡ bit_lines bit t c
+lines_whole bit rest at t c =
+    let wt = talkers_at rest at t in
+    let wc = controllers_at rest at c in
+    ap (λ n. (told_by start_of bit 0 wt ++ told_by start_of bit n wc) ++ (told_by rest_by bit 0 wt ++ told_by rest_by bit n wc)) (woken_length rest rest.talker at t)
+    ∙ ap (λ es. (es ++ told_by start_of bit (length t) wc) ++ (told_by rest_by bit 0 wt ++ told_by rest_by bit (length t) wc)) (told_whole start_of bit 0 rest rest.talker at t)
+    ∙ ap (λ es. (told_by start_of bit 0 t ++ es) ++ (told_by rest_by bit 0 wt ++ told_by rest_by bit (length t) wc)) (told_whole start_of bit (length t) rest rest.controller at c)
+    ∙ ap (λ es. (told_by start_of bit 0 t ++ told_by start_of bit (length t) c) ++ (es ++ told_by rest_by bit (length t) wc)) (told_whole rest_by bit 0 rest rest.talker at t)
+    ∙ ap (λ es. (told_by start_of bit 0 t ++ told_by start_of bit (length t) c) ++ (told_by rest_by bit 0 t ++ es)) (told_whole rest_by bit (length t) rest rest.controller at c)
+
+-- counters that are shown
+pub from_real : (first : ℕ) (rest : Rest) (place at : ℕ) (members : List Member) (counters : List Counters) → AreFrom first members counters → AreFrom first (woken rest place at members) counters
+from_real first rest place at members counters h k x shown e f =
+    let m = real_at rest place at members k x e in
+    h k m.0 shown m.1 f ∙ sym m.2.counters_are
+
+pub from_whole : (first : ℕ) (rest : Rest) (place at : ℕ) (members : List Member) (counters : List Counters) → AreFrom first (woken rest place at members) counters → AreFrom first members counters
+from_whole first rest place at members counters h k m shown e f =
+    let x = whole_at rest place at members k m e in
+    h k x.0 shown x.1 f ∙ x.2.counters_are
+
+pub from_left : (first place : ℕ) (old new : List Member) (counters : List Counters) → AreFrom first old counters → ((k : ℕ) → k ≢ place → slice_get new k ≡ slice_get old k) → AreFromBut place first new counters
+from_left first place old new counters h left k m shown not e f = h k m shown (sym (left k not) ∙ e) f
+
+pub from_alike : (first : ℕ) (old new : List Member) (counters : List Counters) → AreAlike old new → AreFrom first old counters → AreFrom first new counters
+from_alike first old new counters alike h k m shown e f =
+    let x = some_there old k (let within = slice_get_within new k m e in omega (arith, within, alike.size)) in
+    h k x.0 shown x.1 f ∙ sym (alike.at k x.0 m x.1 e).counters_are
+
+-- nodes in place of others between two bits
+behind_alike : (on k : ℕ) (trace : List Bit) (old new : Member) → IsAlike old new → StandsBehind on k trace old → StandsBehind on k trace new
+behind_alike on k trace old new alike h = record {
+  on_is = alike.on_is ∙ h.on_is;
+  stands = alike.stands _ h.stands;
+  sending_is = alike.sending_is ∙ h.sending_is;
+  completed_is = alike.completed_is ∙ h.completed_is;
+  bit_is = alike.bit_is ∙ h.bit_is;
+  quiet = λ early. alike.quiet (h.quiet early);
+}
+
+pub kept_alike : (plan : SegmentPlan) (levels : List Bool) (events : List Event) (t0 t1 c0 c1 : List Member) → AreAlike t0 t1 → AreAlike c0 c1 → SegmentKept plan levels events t0 c0 → SegmentKept plan levels events t1 c1
+kept_alike plan levels events t0 t1 c0 c1 talkers controllers h = record {
+  trace = h.trace;
+  run = h.run;
+  stands = record {
+    talkers_size = talkers.size ∙ h.stands.talkers_size;
+    controllers_size = controllers.size ∙ h.stands.controllers_size;
+    talkers_stand = λ k talker m e f.
+        let x = some_there t0 k (let within = slice_get_within t1 k m f in omega (arith, within, talkers.size)) in
+        behind_alike talker.on k h.trace x.0 m (talkers.at k x.0 m x.1 f) (h.stands.talkers_stand k talker x.0 e x.1);
+    controllers_stand = λ k controller m e f.
+        let x = some_there c0 k (let within = slice_get_within c1 k m f in omega (arith, within, controllers.size)) in
+        behind_alike controller.on (length plan.talkers.items + k) h.trace x.0 m (controllers.at k x.0 m x.1 f) (h.stands.controllers_stand k controller x.0 e x.1);
+  };
+}
+
+-- what a segment holds behind a bit, when nodes may have come to rest
+pub holds_alike : (plan : SegmentPlan) (made : Record) (t0 t1 c0 c1 : List Member) → AreAlike t0 t1 → AreAlike c0 c1 → SegmentKept plan made.levels.items made.events.items t0 c0 → length t0 + length c0 ≤ 16 →
+    length made.counters.items ≡ length t0 + length c0 → AreFrom 0 t0 made.counters.items → AreFrom (length t0) c0 made.counters.items → SegmentHolds plan made t1 c1
+holds_alike plan made t0 t1 c0 c1 talkers controllers kept few size talkers_shown controllers_shown = record {
+  kept = kept_alike plan made.levels.items made.events.items t0 t1 c0 c1 talkers controllers kept;
+  few = omega (arith, few, talkers.size, controllers.size);
+  size = omega (arith, size, talkers.size, controllers.size);
+  talkers_shown = from_alike 0 t0 t1 made.counters.items talkers talkers_shown;
+  controllers_shown = subst (λ n. AreFrom n c1 made.counters.items) (sym talkers.size) (from_alike (length t0) c0 c1 made.counters.items controllers controllers_shown);
+}
+
+-- where none rests each stands for itself
+pub holds_awake : (plan : SegmentPlan) (made : Record) (rest : Rest) (bit : ℕ) (t c : List Member) → rest.resting ≡ false → SegmentHolds plan made t c → SegmentHolds plan made (talkers_at rest bit t) (controllers_at rest bit c)
+holds_awake plan made rest bit t c is h =
+    subst (λ ms. SegmentHolds plan made ms (controllers_at rest bit c)) (sym (awake_woken rest rest.talker bit t is))
+    (subst (λ ms. SegmentHolds plan made t ms) (sym (awake_woken rest rest.controller bit c is)) h)

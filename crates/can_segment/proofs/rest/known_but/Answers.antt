@@ -1,0 +1,23 @@
+use Rattle.std.proofs.Common.{ap, arith, inl, inr, subst, sym, slice_get, Some, ne_eqb, ◌≡◌, ◌∙◌}
+use Rattle.std.proofs.lemmas.Bool.{cases_lt}
+use Rattle.std.proofs.lemmas.Option.{slice_get-get_or, slice_get_within}
+use Rattle.can_node.specs.KnownCounts.{Knows}
+use Rattle.can_node.specs.Node.{counters_in}
+use Rattle.can_segment.proofs.Places.{same_some}
+use Rattle.can_segment.proofs.rest.known_but.Goals as goal
+
+pub loop-k-preserved : goal.loop-k-preserved
+loop-k-preserved c n m less e not =
+    let k = c.loop-k.k in
+    let members = c.args.members.now in
+    elim (cases_lt n k) [
+      | inl below ↦ c.known_with-known.ensures.others (counters_in m.station.node) (c.loop-k.invariant n m below e not)
+      | inr above ↦ (let is : n ≡ k = omega arith in
+          let here = slice_get-get_or members k c.index-members-k.result (omega (arith, c.loop-k-test.true)) ∙ ap Some (sym c.index-members-k.is) in
+          let same = same_some c.index-members-k.result m (sym here ∙ ap (slice_get members) (sym is) ∙ e) in
+          subst (λ x. Knows c.known_with-known.result (counters_in x.station.node)) same
+          (c.known_with-known.ensures.own (ne_eqb k c.args.place (λ h. not (is ∙ h)))))
+    ]
+
+pub returns : goal.returns
+returns c n m e not = c.loop-k.invariant n m (let within = slice_get_within c.args.members.now n m e in omega (arith, within, c.loop-k-test.false)) e not
