@@ -16,6 +16,7 @@ mod rewrite;
 mod sending;
 mod step;
 mod stuffing;
+mod tail;
 
 pub use crate::crc::crc15;
 pub use crate::error::FrameError;

@@ -12,7 +12,6 @@ ghost use Rattle.can_frame.specs.Reading.{
   ReadsOn,
   StandsAs,
   Next,
-  TailNext,
   Judges,
 };
 
@@ -21,6 +20,7 @@ use crate::frame::Frame;
 use crate::level_run::LevelRun;
 use crate::reading::{fields_len, frame_of, number_of};
 use crate::step::{FaultKind, Step};
+use crate::tail::tail_step;
 use arrayvec::ArrayVec;
 
 /// How far a reader has come.
@@ -384,28 +384,4 @@ fn is_right(text: &[bool]) -> bool
         return false;
     }
     u32::from(crc15(&text[..end])) == number_of(text, end, 15)
-}
-
-/// What a level behind the region is.
-fn tail_step(frame: Frame, right: bool, seen: u8, level: bool) -> Step
-    ensures { (text : List Bool) → InTail frame right seen text
-        → TailNext result frame right seen text level }
-{
-    // the ACK slot; after a wrong CRC either level goes on, since that fault is signalled later
-    if seen == 1 {
-        if right && level {
-            return Step::Fault(FaultKind::Ack);
-        }
-        return Step::Tail;
-    }
-    if !level {
-        return Step::Fault(FaultKind::Form);
-    }
-    if seen == 2 && !right {
-        return Step::Fault(FaultKind::Crc);
-    }
-    if seen == 8 {
-        return Step::Taken(frame);
-    }
-    Step::Tail
 }

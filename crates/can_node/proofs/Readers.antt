@@ -1,5 +1,5 @@
 -- A reader behind a text of which nothing is decided reads on.
-use Rattle.std.proofs.Common.{◌≡◌, ℕ, Bool, true, false, refl, List, ◌∷◌, ◌++◌, []}
+use Rattle.std.proofs.Common.{◌≡◌, ℕ, Bool, true, false, refl, ◌∙◌, List, ◌∷◌, ◌++◌, []}
 use Rattle.can_frame.specs.Answers.{IsUndecided}
 use Rattle.can_frame.specs.Reading.{StandsAfter, StandsAt, HasEnded, IsOpen, IsReading}
 use Rattle.can_frame.specs.declared.level_run.LevelRun.{LevelRun}
@@ -82,8 +82,11 @@ take_phase (in_suspend below) = refl
 take_phase (in_off rest broken below counted b short) = refl
 
 -- so none reads at the start of an error flag
-pub flag_takes_none : (errors : ErrorState) (owed : List ErrorEvent) (role : Role) (state : State) (text : List Bool) (at : ℕ) → Agrees state text at (flag_of errors owed role) [] [] → is_taking state ≡ false
+takes_none : (errors : ErrorState) (owed : List ErrorEvent) (role : Role) → takes (flag_of errors owed role) ≡ false
 unfolding takes
-flag_takes_none Active owed role state text at agrees = take_phase agrees
-flag_takes_none Passive owed role state text at agrees = take_phase agrees
-flag_takes_none Off owed role state text at agrees = take_phase agrees
+takes_none Active owed role = refl
+takes_none Passive owed role = refl
+takes_none Off owed role = refl
+
+pub flag_reads_nothing : (errors : ErrorState) (owed : List ErrorEvent) (role : Role) (flag : State) → ((text : List Bool) (later : ℕ) → Agrees flag text later (flag_of errors owed role) [] []) → is_taking flag ≡ false
+flag_reads_nothing errors owed role flag begins = take_phase (begins [] 0) ∙ takes_none errors owed role

@@ -28,7 +28,7 @@ use Rattle.can_node.specs.Phases.{Phase, flag_of}
 use Rattle.can_node.specs.Phases.Phase.{Send, Take, Intermission}
 use Rattle.can_node.specs.Episodes.{Course, ack_events}
 use Rattle.can_node.specs.Episodes.Course.{completed, lost, stuff_lost, unacknowledged, bit_differs}
-use Rattle.can_node.specs.Machine.{Agrees, Lands, GoesSending, LosesAt, Signals, is_taking, listed}
+use Rattle.can_node.specs.Machine.{Agrees, Lands, GoesSending, LosesAt, Signals, listed}
 use Rattle.can_node.specs.Machine.Agrees.{in_send, in_rest}
 use Rattle.can_node.specs.Machine.Lands.{goes_on, is_over}
 use Rattle.can_node.proofs.Moves.{turn}

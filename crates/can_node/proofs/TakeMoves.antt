@@ -15,7 +15,6 @@ use Rattle.can_node.specs.declared.confinement.Role.TheVariants.{Receiver}
 use Rattle.can_node.specs.declared.confinement.ErrorEvent.{ErrorEvent}
 use Rattle.can_node.specs.declared.confinement.ErrorEvent.TheVariants.{ReceiverError, Received}
 use Rattle.can_node.specs.declared.confinement.ErrorState.{ErrorState}
-use Rattle.can_node.specs.declared.confinement.ErrorState.TheVariants.{Active, Passive, Off}
 use Rattle.can_node.specs.declared.outcome.Outcome.TheVariants.{Took, Errored}
 use Rattle.can_node.specs.declared.state.State.{State}
 use Rattle.can_node.specs.declared.state.State.TheVariants.{Taking, Closing}
@@ -27,9 +26,10 @@ use Rattle.can_node.specs.Takes.{IsReadOn, IsBeforeSlot, Reads, acknowledged, na
 use Rattle.can_node.specs.Phases.{Phase, flag_of, wants_start}
 use Rattle.can_node.specs.Phases.Phase.{Take, LastBit}
 use Rattle.can_node.specs.Episodes.Course.{took, spoiled}
-use Rattle.can_node.specs.Machine.{Agrees, IsAt, is_own_slot, is_taking, pair_of, GoesReading}
-use Rattle.can_node.specs.Machine.Agrees.{in_sync, in_idle, in_take, in_send, in_last, in_active, in_overload, in_passive, in_wait, in_delimiter, in_rest, in_suspend, in_off}
+use Rattle.can_node.specs.Machine.{Agrees, IsAt, is_own_slot, pair_of, GoesReading}
+use Rattle.can_node.specs.Machine.Agrees.{in_take, in_last}
 use Rattle.can_node.specs.Machine.Lands.{goes_on, is_over}
+use Rattle.can_node.proofs.Readers.{flag_reads_nothing}
 use Rattle.can_node.proofs.Moves.{turn}
 use Rattle.can_node.proofs.Places.{body_tail, elsewhere, own_slot, quiet, part_no_slot, body_no_slot, front_no_slot, slot_fault, reads_more, reads_slot, region_tail, delimiter_tail, slot_dominant, later_tail}
 
@@ -136,36 +136,6 @@ fault_reads kind given levels text pairs events stage level true is e reads plac
     let counts : events ++ acknowledged level ≡ events = ap (λ l. events ++ acknowledged l) (high slot) ∙ append-nil events in
     subst (Reads given (levels ++ level ∷ []) (pairs ++ record { driven = false; sampled = level } ∷ [])) counts (reads_slot level reads (subst IsBeforeSlot e slot))
 
--- a node reads a frame just in the episode of a take
-is_take : Phase → Bool
-is_take (Take start given may_begin) = true
-is_take phase = false
-
-take_phase : {state : State} {text : List Bool} {at : ℕ} {phase : Phase} {part : List Pair} {events : List ErrorEvent} → Agrees state text at phase part events → is_taking state ≡ is_take phase
-unfolding is_take
-take_phase (in_sync broken b below) = refl
-take_phase (in_idle n) = refl
-take_phase (in_take given levels may_begin pairs events is on reads may sof place) = refl
-take_phase (in_send given frame before seen driven expected is bit place) = refl
-take_phase in_last = refl
-take_phase (in_active levels size below runs few) = refl
-take_phase (in_overload levels size below runs few) = refl
-take_phase (in_passive owed levels h) = refl
-take_phase (in_wait run n is far due) = refl
-take_phase (in_delimiter kind run n some below) = refl
-take_phase (in_rest below) = refl
-take_phase (in_suspend below) = refl
-take_phase (in_off rest broken below counted b short) = refl
-
-flag_no_take : (e : ErrorState) → is_take (flag_of e [] Receiver) ≡ false
-unfolding is_take
-flag_no_take Active = refl
-flag_no_take Passive = refl
-flag_no_take Off = refl
-
-flag_reads_nothing : (e : ErrorState) (flag : State) → ((text : List Bool) (later : ℕ) → Agrees flag text later (flag_of e [] Receiver) [] []) → is_taking flag ≡ false
-flag_reads_nothing e flag begins = take_phase (begins [] 0) ∙ flag_no_take e
-
 pub take_fault : (start : ℕ) (may : Bool) (stage : Stage) (e : ErrorState) (level : Bool) (kind : FaultKind) (flag : State) →
     ((text : List Bool) (later : ℕ) → Agrees flag text later (flag_of e [] Receiver) [] []) →
     GoesReading (Taking start may stage) e (answer.Fault kind) level (record { state = flag; event = Some ReceiverError; outcome = Errored (name_of kind) })
@@ -175,5 +145,5 @@ take_fault start may stage e level kind flag begins reader text at before phase 
       (fault_reads kind given levels text pairs counted stage level (is_own_slot stage) refl is reads place (slot_fault kind text level h.answer))
       (record { read_on = subst IsReadOn is on; fault_is = subst (λ t. FaultAnswers kind t level) is h.answer }))
       (λ later. subst (λ s. Agrees flag (text ++ level ∷ []) later (flag_of s [] Receiver) [] []) err (begins (text ++ level ∷ []) later)),
-  λ is. absurd (cc (is, flag_reads_nothing e flag begins)),
+  λ is. absurd (cc (is, flag_reads_nothing e [] Receiver flag begins)),
 )

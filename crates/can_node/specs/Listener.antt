@@ -1,5 +1,5 @@
 -- One that follows a line in place of nodes that listen to it and have come equally far.
-use Rattle.std.specs.Prelude.{◌≡◌, ◌⊎◌, ℕ, ◌+◌, Bool, true, false, None, Some}
+use Rattle.std.specs.Prelude.{◌≡◌, ◌⊎◌, ℕ, ◌+◌, Bool, false, None, Some}
 use Rattle.can_node.specs.declared.confinement.ErrorEvent.TheVariants.{Received}
 use Rattle.can_node.specs.declared.outcome.Outcome.TheVariants.{Nothing}
 use Rattle.can_node.specs.declared.state.Turn.{Turn}

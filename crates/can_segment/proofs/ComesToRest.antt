@@ -1,5 +1,5 @@
 -- Nodes that come to rest between two bits.
-use Rattle.std.proofs.Common.{◌≡◌, ◌≢◌, ℕ, inl, inr, true, Some, List, slice_get, refl, sym, ap, subst, arith, ◌∙◌}
+use Rattle.std.proofs.Common.{◌≡◌, ◌≢◌, ℕ, inl, inr, Some, List, slice_get, refl, sym, ap, subst, arith, ◌∙◌}
 use Rattle.std.proofs.lemmas.Option.{slice_get_within}
 use Rattle.can_node.specs.Listener.{caught_up as node_caught_up}
 use Rattle.can_node.specs.Node.{StandsAfter, may_begin}

@@ -1,4 +1,4 @@
-use Rattle.std.proofs.Common.{◌++◌, ◌∷◌, [], ap, subst}
+use Rattle.std.proofs.Common.{◌++◌, ◌∷◌, [], subst}
 use Rattle.can_frame.specs.Reading.{StandsAfter}
 use Rattle.can_node.proofs.Samples.{sending_advances}
 use Rattle.can_node.proofs.machine.turn_sending.Goals as goal

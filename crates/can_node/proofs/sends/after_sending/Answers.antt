@@ -1,7 +1,7 @@
 use Rattle.std.proofs.Common.{◌≡◌, [], true, false, not, ap, sym, ◌∙◌}
 use Rattle.can_node.proofs.SendMoves.{send_acknowledged, send_unacknowledged, send_echoed, send_completed, send_undriven, equal_levels, other_level}
 use Rattle.can_node.specs.declared.confinement.Role.TheVariants.{Sender}
-use Rattle.can_node.proofs.Readers.{flag_takes_none}
+use Rattle.can_node.proofs.Readers.{flag_reads_nothing}
 use Rattle.can_node.proofs.sends.after_sending.Goals as goal
 
 pub returns-then-level-clause-goes : goal.returns-then-level-clause-goes
@@ -30,4 +30,4 @@ returns-clause-goes c = let recessive : c.args.level ≡ true = other_level c.ar
     rw recessive (send_undriven c.args.start c.args.place c.args.spelling.now c.args.errors c.bit_error.result c.bit_error.ensures (sym c.level-driven.ensures ∙ c.if-driven.false) (c.is_slot.ensures.no c.if-is_slot.false))
 
 pub returns-clause-lost : goal.returns-clause-lost
-returns-clause-lost c is = let none = flag_takes_none c.args.errors [] Sender c.bit_error.result.state [] 0 (c.bit_error.ensures.flags [] 0) in absurd (cc (is, none))
+returns-clause-lost c is = let none = flag_reads_nothing c.args.errors [] Sender c.bit_error.result.state c.bit_error.ensures.flags in absurd (cc (is, none))
