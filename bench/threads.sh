@@ -1,11 +1,15 @@
 #!/usr/bin/env bash
 # Measures the whole program in threads and in one: 1, 2, 4 and 8 segments of 16 nodes that always have frames to send,
 # over 250,000 bits, with a route from each segment to the next, by one worker and with a slack of 1, of 64 and of all bits;
-# the time by the clock and the processor time of each, the best of three runs.
+# the time by the clock and the processor time of each, the best of three runs. PROGRAM in the environment is the path
+# of the program (that which ./bxgate builds).
 set -eu
 cd "$(dirname "$0")/.."
-./bxgate --help > /dev/null
-program=crates/bxgate/out/bxgate
+program=${PROGRAM:-}
+if [ -z "$program" ]; then
+  ./bxgate --help > /dev/null
+  program=crates/bxgate/out/bxgate
+fi
 work=$(mktemp -d)
 trap 'rm -rf "$work"' EXIT
 
