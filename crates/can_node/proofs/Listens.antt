@@ -1,5 +1,5 @@
 -- Nodes that are left alone while a listener follows the line for them.
-use Rattle.std.proofs.Common.{◌≡◌, ◌≢◌, ◌⊎◌, inl, inr, ℕ, ◌+◌, Bool, true, false, Option, None, Some, List, [], ◌∷◌, ◌++◌, refl, sym, ap, subst, ◌∙◌}
+use Rattle.std.proofs.Common.{◌≡◌, ◌≢◌, ◌⊎◌, inl, inr, ℕ, ◌+◌, ◌<◌, min, Bool, true, false, Option, None, Some, List, [], ◌∷◌, ◌++◌, length, refl, sym, ap, subst, arith, ◌∙◌}
 use Rattle.std.proofs.lemmas.List.Sums.{fold-append}
 use Rattle.can_frame.specs.Reading.{IsPush, ReadsOn, StandsAs, StandsAfter as ReaderStandsAfter, IsReading}
 use Rattle.can_frame.specs.declared.step.Step.{Step}
@@ -14,7 +14,7 @@ use Rattle.can_node.specs.KnownCounts.{Knows}
 use Rattle.can_node.specs.declared.counters.Counters.{Counters}
 use Rattle.can_node.specs.declared.outcome.Outcome.TheVariants.{Nothing}
 use Rattle.can_node.specs.declared.state.State.{State}
-use Rattle.can_node.specs.declared.state.State.TheVariants.{Idling, Taking}
+use Rattle.can_node.specs.declared.state.State.TheVariants.{Idling, Taking, Sending}
 use Rattle.can_node.specs.declared.state.Stage.{Stage}
 use Rattle.can_node.specs.declared.state.Stage.TheVariants.{Region}
 use Rattle.can_node.specs.declared.state.Turn.{Turn}
@@ -23,10 +23,12 @@ use Rattle.can_node.specs.declared.node.Node.{Node}
 use Rattle.can_node.specs.declared.listener.Listener.{Listener}
 use Rattle.can_node.specs.Confinement.{no_counts, is_off, after_event, counts_after, state_of}
 use Rattle.can_node.specs.Counters.{StandsAfter as CountersStandAfter, counts_of}
-use Rattle.can_node.specs.Machine.{Advances, Counts, Goes, GoesReading, ReaderStands, Steps, is_in_region, is_sending, is_taking, may_start}
+use Rattle.can_node.specs.Machine.{Advances, Counts, Goes, GoesReading, ReaderStands, Steps, is_in_region, is_sending, is_taking, level_in, may_start, quiet}
+use Rattle.can_node.specs.Sending.{level_at}
 use Rattle.can_node.specs.Machine.LeadsTo.{stays_on}
-use Rattle.can_node.specs.Listener.{Follows, IsUnseen, StandsWith, caught_up}
-use Rattle.can_node.proofs.Samples.{counts_none, idle_advances, other_advances, quiet_steps, reading_advances, samples, steady_advances}
+use Rattle.can_node.specs.Listener.{Follows, IsUnseen, SendsTo, StandsWith, caught_up}
+use Rattle.can_node.proofs.Samples.{counts_none, idle_advances, other_advances, quiet_steps, reading_advances, samples, sending_advances, stands_history, steady_advances}
+use Rattle.can_node.proofs.SendMoves.{send_echoed}
 
 abbrev listening : State → Reader → Listener
 listening state reader = record { state = state; reader = reader }
@@ -116,3 +118,40 @@ stands_with node listener is sends_none same = record {
   begins = ap may_start (sym is);
   listening = ap is_sending (sym is) ∙ sends_none;
 }
+
+-- One that reads on in the stuffed region drives recessive, and doesn't begin to send.
+region_drives : (state : State) (spelling : Spelling) → is_in_region state ≡ true → level_in state spelling ≡ true
+region_drives (Taking start false Region) spelling is = refl
+region_drives state spelling is = absurd (cc is)
+
+region_begins : (state : State) → is_in_region state ≡ true → may_start state ≡ false
+region_begins (Taking start false Region) is = refl
+region_begins state is = absurd (cc is)
+
+region_listens : (state : State) → is_in_region state ≡ true → is_sending state ≡ false
+region_listens (Taking start false Region) is = refl
+region_listens state is = absurd (cc is)
+
+-- a bit of a frame that is sent to all others
+pub sends_to : (node : Node) (start place next : ℕ) (listener : Listener) (level : Bool) (reader : Reader) → node.state ≡ Sending start place → place + 9 < length node.spelling.levels.items →
+    level ≡ level_at node.spelling place → next ≡ min (place + 1) 255 → is_in_region listener.state ≡ true → ReadsOn listener.reader level reader →
+    SendsTo node listener level (record { state = Sending start next; reader = node.reader; spelling = node.spelling; counters = node.counters; clock = node.clock + 1 }) (listening listener.state reader)
+sends_to node start place next listener level reader here before echo next_is inside reads =
+    let after : Node = record { state = Sending start next; reader = node.reader; spelling = node.spelling; counters = node.counters; clock = node.clock + 1 } in
+    let steps : Steps node.state node.counters node.reader node.spelling node.clock level Nothing (Sending start next) node.counters node.reader =
+    rw here
+    (quiet_steps (Sending start place) (Sending start next) node.counters node.reader node.reader node.spelling node.clock level
+    (λ errors. sending_advances start place node.reader node.reader node.spelling node.clock errors level (quiet (Sending start next))
+    (send_echoed start place next node.spelling errors level (λ slot. omega (arith, slot, before)) echo (λ last. omega (arith, last, before)) next_is) (λ is. absurd (cc is)) (λ is. absurd (cc is)))) in
+    record {
+      drives = echo ∙ ap (λ state. level_in state node.spelling) (sym here);
+      begins_none = ap may_start here;
+      samples = samples node after level Nothing steps refl refl;
+      history = stands_history after;
+      bit_is = refl;
+      counts_none = refl;
+      others_drive = λ other bit. region_drives listener.state other.spelling inside;
+      others_begin = λ other bit. region_begins listener.state inside;
+      follows = λ known bit. region_follows known listener.state listener.reader reader bit level inside reads;
+      listens = region_listens listener.state inside;
+    }

@@ -1,5 +1,5 @@
 -- One that follows a line in place of nodes that listen to it and have come equally far.
-use Rattle.std.specs.Prelude.{◌≡◌, ◌⊎◌, ℕ, ◌+◌, Bool, false, None, Some}
+use Rattle.std.specs.Prelude.{◌≡◌, ◌⊎◌, ℕ, ◌+◌, Bool, true, false, None, Some}
 use Rattle.can_node.specs.declared.confinement.ErrorEvent.TheVariants.{Received}
 use Rattle.can_node.specs.declared.outcome.Outcome.TheVariants.{Nothing}
 use Rattle.can_node.specs.declared.state.Turn.{Turn}
@@ -8,9 +8,9 @@ use Rattle.can_node.specs.declared.listener.Listener.{Listener}
 use Rattle.can_node.specs.KnownCounts.{Knows}
 use Rattle.can_node.specs.declared.known_counts.KnownCounts.{KnownCounts}
 use Rattle.can_node.specs.declared.known_counts.KnownCounts.TheVariants.{Zero}
-use Rattle.can_node.specs.Histories.{Past}
+use Rattle.can_node.specs.Histories.{Past, IsHistory}
 use Rattle.can_node.specs.Machine.{is_sending, listens}
-use Rattle.can_node.specs.Node.{StandsAfter, IsSample, bit_of, counters_in, may_begin}
+use Rattle.can_node.specs.Node.{StandsAfter, IsSample, bit_of, counters_in, driven_by, may_begin}
 
 -- it sends no frame
 abbrev pub IsListening : Listener → Type 0
@@ -48,3 +48,17 @@ pub record IsUnseen (known : KnownCounts) (turn : Turn) : Type 0 where
   pub tells_none : turn.outcome ≡ Nothing
   pub counts_none : (turn.event ≡ None) ⊎ ((known ≡ Zero) × (turn.event ≡ Some Received))
   pub sends_none : is_sending turn.state ≡ false
+
+-- One bit of a frame that a node sends, before its ACK slot, while all others that are there listen: the line has the
+-- level that it drives, for those drive recessive; it samples that and tells nothing, and so does each of them.
+pub record SendsTo (old : Node) (before : Listener) (level : Bool) (new : Node) (after : Listener) : Type 0 where
+  pub drives : level ≡ driven_by old
+  pub begins_none : may_begin old ≡ false
+  pub samples : IsSample old level Nothing new
+  pub history : (past : Past) → StandsAfter new past → IsHistory past
+  pub bit_is : bit_of new ≡ bit_of old + 1
+  pub counts_none : counters_in new ≡ counters_in old
+  pub others_drive : (node : Node) (bit : ℕ) → driven_by (caught_up node before bit) ≡ true
+  pub others_begin : (node : Node) (bit : ℕ) → may_begin (caught_up node before bit) ≡ false
+  pub follows : (known : KnownCounts) (bit : ℕ) → Follows known before bit level after
+  pub listens : IsListening after

@@ -1,9 +1,9 @@
 //! A node of one segment.
 
-ghost use Rattle.std.specs.Prelude.{◌≡◌, ℕ, ◌+◌, ◌<◌, true, IsSome};
+ghost use Rattle.std.specs.Prelude.{◌≡◌, ℕ, ◌+◌, ◌<◌, true, IsSome, IfSome, IfNone};
 ghost use Rattle.can_node.specs.Counters.{StandsAfter as CountersStandAfter, counts_of};
 ghost use Rattle.can_node.specs.Histories.{Past, no_past, IsHistory};
-ghost use Rattle.can_node.specs.Listener.{StandsWith, caught_up, listener_of, listens_in};
+ghost use Rattle.can_node.specs.Listener.{SendsTo, StandsWith, caught_up, listener_of, listens_in};
 ghost use Rattle.can_node.specs.KnownCounts.{Knows, known_of};
 ghost use Rattle.can_node.specs.Node.{
   StandsAfter,
@@ -21,7 +21,7 @@ ghost use Rattle.can_node.specs.Node.{
 use crate::counters::Counters;
 use crate::known_counts::KnownCounts;
 use crate::listener::Listener;
-use crate::machine::{advance, begin, level_in, listens, may_start, sof_of};
+use crate::machine::{advance, begin, is_in_region, level_in, listens, may_start, sof_of};
 use crate::outcome::Outcome;
 use crate::spelled::Spelled;
 use crate::state::State;
@@ -182,5 +182,34 @@ impl Node {
             now,
             level,
         )
+    }
+
+    /// One bit of a frame that the node sends while all others listen: what `drive` and `sample` and `Listener::follow` do
+    /// where the others read on in the stuffed region, in one step, and the level that the line has then. `None` where it
+    /// sends no frame, has come to its ACK slot, or the listener does not read on there with that level: then nothing is
+    /// changed.
+    #[inline(always)]
+    pub fn send_to(&mut self, listener: &mut Listener) -> Option<bool>
+        requires { bit_of self.old < u64.MAX }
+        ensures sends { IfSome result (λ level. SendsTo self.old listener.old level self.new listener.new) }
+        ensures none { IfNone result ((self.new ≡ self.old) × (listener.new ≡ listener.old)) }
+    {
+        let State::Sending(start, place) = self.state else {
+            return None;
+        };
+        if !is_in_region(listener.state) {
+            return None;
+        }
+        let spelling = self.spelling.spelling();
+        let level = spelling.level(place);
+        if !spelling.is_echo(place, level) {
+            return None;
+        }
+        if !listener.reader.reads_on(level) {
+            return None;
+        }
+        self.state = State::Sending(start, place.saturating_add(1));
+        self.clock += 1;
+        Some(level)
     }
 }

@@ -23,6 +23,8 @@ pub mod Requests
 pub mod Copies
 pub mod FaultOrder
 pub mod AllBut
+pub mod Unmoved
 pub mod Rests
 pub mod ComesToRest
 pub mod Wholes
+pub mod SoleSender

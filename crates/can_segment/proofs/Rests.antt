@@ -24,6 +24,7 @@ use Rattle.can_segment.specs.Ports.{Reaps, Undone, asked_at, begun_at, item_of, 
 use Rattle.can_segment.specs.Stations.{IsTalk}
 use Rattle.can_segment.specs.Rests.{ControllersRest, Drives, GoesOn, HasOther, IsQuietOne, IsResting, RestHolds, RestsThrough, StartsNone, TalkersRest, TransmitsAll, Wakes, all_but, caught_up, controllers_at, passes, talkers_at, woken}
 use Rattle.can_segment.specs.Traces.{completed_by, sending_after}
+use Rattle.can_segment.proofs.Unmoved.{unmoved_requests, unmoved_settles}
 use Rattle.can_segment.proofs.AllBut.{all_fails, but_at, but_here, but_length, but_other, but_passes, one_place, one_both}
 
 -- two lists of the same size that agree at each place
@@ -59,10 +60,6 @@ pub none_rests : (rest : Rest) (bit : ℕ) (plan : List Talker) (talkers control
 none_rests rest bit plan talkers controllers is = record { talkers_rest = λ e. absurd (cc (is, e)); controllers_rest = λ e. absurd (cc (is, e)); some_rests = λ e. absurd (cc (is, e)) }
 
 -- one that rests does not start,
-none_began : (on : Bool) (deed : Deed) → IsQuiet deed → (on && deed.began) ≡ false
-none_began true deed quiet = quiet.no_start
-none_began false deed quiet = refl
-
 and_false : (b : Bool) → (b && false) ≡ false
 and_false true = refl
 and_false false = refl
@@ -91,22 +88,7 @@ sleeper_requests : {P : Type 0} (after : P → BusPast → Type 0) (asked : P �
     ((node : Node) (next : ℕ) → may_begin (node_caught_up node rest.listener next) ≡ false) → IsResting rest bit m → transmitting p ≡ item_of m.station.sending → stays p p →
     PortStarts after asked transmitting stays bit (caught_up rest.listener bit m) (caught_up rest.listener bit m) p p
 sleeper_requests after asked transmitting stays rest bit m p wants rests sends same =
-    let none : (is_on bit m && m.deed.began) ≡ false = none_began (is_on bit m) m.deed rests.quiet in
-    let began : m.deed.began ≡ true → ⊥ = λ e. cc (e, rests.quiet.no_start) in
-    let no_wish : wants_at bit (caught_up rest.listener bit m) ≡ false = ap (λ b. is_on bit m && b) (wants m.station.node bit) ∙ and_false (is_on bit m) in
-    record {
-      member = record { off = λ early. refl; on_is = refl; requests = λ late. record { begins = λ e. absurd (began e); stays = λ e. refl; wants = λ e. absurd (began e) } };
-      bus = λ past h. subst (λ b. after p (started past (started_item b m.station.sending))) (sym none) h;
-      undone = λ past h. subst (λ b. Undone past (started_item b m.station.sending)) (sym none) tt;
-      asks = record {
-        ready = false;
-        given = None;
-        begins_is = ap (λ b. started_item b m.station.sending) none ∙ ap (λ b. begun_at b false None) (sym no_wish);
-        calls = λ past h. subst (λ b. asked p (past ++ asked_at b false None)) (sym no_wish) (subst (asked p) (sym (append-nil past)) h);
-      };
-      transmits = sends;
-      stays_on = same;
-    }
+    unmoved_requests after asked transmitting stays bit (caught_up rest.listener bit m) p (wants m.station.node bit) rests.quiet sends same
 
 -- drives what the listener does,
 driven_or : (on : Bool) (driven : Bool) → driven ≡ true → cond on driven true ≡ true
@@ -149,27 +131,8 @@ sleeper_settles : {P : Type 0} (after : P → BusPast → Type 0) (asked : P →
     RestsThrough bit level faultless old new → IsResting old bit m → transmitting p ≡ item_of m.station.sending → stays p p →
     PortSettles after asked transmitting sink stays bit level (caught_up old.listener bit m) (caught_up new.listener (bit + 1) m) p p
 sleeper_settles after asked transmitting sink stays old new bit level faultless m p through rests sends same =
-    record {
-      member = record {
-        off = λ early. absurd (omega (arith, early, rests.is_on));
-        on_is = refl;
-        samples = λ late. sleeper_samples_on old new bit level faultless m through rests;
-        reaps = λ late. subst (λ r. IfSome r (λ label. Reaps m.deed.sent m.deed.outcome label)) (sym rests.quiet.no_reaping) tt;
-      };
-      bus = λ past h. settles_none (is_on bit m) past h;
-      asks_none = λ calls h. h;
-      transmits = sends;
-      offers = λ past h. offers_none (is_on bit m) past h;
-      stays_on = same;
-    }
-  where
-    settles_none : (on : Bool) (past : BusPast) → after p past → after p (settled_at on past m.deed)
-    settles_none true past h = subst (λ o. after p (settled past (item_of m.deed.sent) o m.deed.reaped)) (sym rests.quiet.no_end) h
-    settles_none false past h = h
-
-    offers_none : (on : Bool) (past : List FrameValue) → sink p past → sink p (past ++ taken_at on m.deed)
-    offers_none true past h = subst (λ o. sink p (past ++ taken_by o)) (sym rests.quiet.no_end) (subst (sink p) (sym (append-nil past)) h)
-    offers_none false past h = subst (sink p) (sym (append-nil past)) h
+    unmoved_settles after asked transmitting sink stays bit level (caught_up old.listener bit m) (caught_up new.listener (bit + 1) m) p rests.is_on refl
+    (sleeper_samples_on old new bit level faultless m through rests) rests.quiet sends same
 
 -- where one of these two moves and the others rest
 pub talkers_start : (rest : Rest) (bit : ℕ) (plan : List Talker) (t0 t1 : List Member) → GoesOn rest → TalkersRest rest bit plan t0 → MovesOne rest.talker (TalkerStarts bit plan rest.talker) t0 t1 →

@@ -1,9 +1,9 @@
 -- Nodes that are left alone while a listener follows the line for them. Private clauses cite it.
-use Rattle.std.specs.Prelude.{◌≡◌, ◌≢◌, ◌⊎◌, ℕ, zero, suc, ◌≤◌, ◌<◌, ◌==◌, Bool, true, false, Option, None, Some, List, [], ◌∷◌, length, map, slice_get, if◌then◌else◌}
+use Rattle.std.specs.Prelude.{◌≡◌, ◌≢◌, ◌⊎◌, ℕ, zero, suc, ◌≤◌, ◌<◌, ◌==◌, ◌&&◌, Bool, true, false, Option, None, Some, List, [], ◌∷◌, length, map, slice_get, if◌then◌else◌}
 use Rattle.bx_core.specs.TxBus.{Item}
 use Rattle.can_node.specs.Histories.{Past}
 use Rattle.can_node.specs.KnownCounts.{Knows}
-use Rattle.can_node.specs.Listener.{Follows, IsListening, StandsWith, caught_up as node_caught_up}
+use Rattle.can_node.specs.Listener.{Follows, IsListening, SendsTo, StandsWith, caught_up as node_caught_up}
 use Rattle.can_node.specs.Node.{StandsAfter, bit_of, counters_in, driven_by, may_begin}
 use Rattle.can_node.specs.declared.known_counts.KnownCounts.{KnownCounts}
 use Rattle.can_node.specs.declared.listener.Listener.{Listener}
@@ -12,7 +12,8 @@ use Rattle.can_segment.specs.declared.member.Member.{Member}
 use Rattle.can_segment.specs.declared.plan.Talker.{Talker}
 use Rattle.can_segment.specs.declared.rest.Rest.{Rest}
 use Rattle.can_segment.specs.Kept.{IsQuiet, no_deed}
-use Rattle.can_segment.specs.Places.{AtPlaces}
+use Rattle.can_segment.specs.Members.{drives_at}
+use Rattle.can_segment.specs.Places.{AtPlaces, MovesOne}
 use Rattle.can_segment.specs.Ports.{item_of}
 
 -- the member for which a listener stood up to this bit
@@ -186,3 +187,30 @@ HasRoom limit bit place members = (m : Member) → slice_get members place ≡ S
 -- each port transmits what its node sends
 abbrev pub TransmitsAll : {P : Type 0} → (P → Option Item) → List Member → List P → Type 0
 TransmitsAll {P = P} transmitting members ports = (k : ℕ) (m : Member) (p : P) → slice_get members k ≡ Some m → slice_get ports k ≡ Some p → transmitting p ≡ item_of m.station.sending
+
+-- one bit of a frame that it sends while all others that are there listen, and nothing is told of it
+pub record MemberSends (bit : ℕ) (before : Listener) (level : Bool) (after : Listener) (old new : Member) : Type 0 where
+  pub is_on : old.on ≤ bit
+  pub quiet : IsQuiet old.deed
+  pub sends : SendsTo old.station.node before level new.station.node after
+  pub on_is : new.on ≡ old.on
+  pub deed_is : new.deed ≡ old.deed
+  pub sending_is : new.station.sending ≡ old.station.sending
+  pub completed_is : new.station.completed ≡ old.station.completed
+
+-- so does the one at this place, which is there
+pub record OneSends (place bit : ℕ) (before : Listener) (level : Bool) (after : Listener) (old new : List Member) : Type 0 where
+  pub from : Member
+  pub to : Member
+  pub from_is : slice_get old place ≡ Some from
+  pub step : MemberSends bit before level after from to
+  pub moves : MovesOne place (MemberSends bit before level after) old new
+
+-- A bit at which one node alone sends and all others rest: the line has the level that it drives.
+pub record SendsAlone (bit : ℕ) (level : Bool) (old new : Rest) (t0 t1 c0 c1 : List Member) : Type 0 where
+  pub goes_on : GoesOn old
+  pub through : RestsThrough bit level true old new
+  pub drives : Drives old true
+  pub talkers : MovesOne old.talker (MemberSends bit old.listener level new.listener) t0 t1
+  pub controllers : MovesOne old.controller (MemberSends bit old.listener level new.listener) c0 c1
+  pub level_is : level ≡ (passes (drives_at bit) (slice_get t0 old.talker) && passes (drives_at bit) (slice_get c0 old.controller))

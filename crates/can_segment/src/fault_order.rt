@@ -1,6 +1,6 @@
 //! The faults of a plan in the order of their bits.
 
-ghost use Rattle.std.specs.Prelude.{◌≡◌, ◌≤◌, ◌+◌, ◌==◌, ℕ, Bool, IfOk, drop, take_while};
+ghost use Rattle.std.specs.Prelude.{◌≡◌, ◌≤◌, ◌+◌, ◌==◌, ℕ, Bool, true, IfOk, drop, take_while};
 ghost use Rattle.std.specs.List.{All, prefix_len};
 ghost use Rattle.std.specs.List.Sorted.{IsNonDecreasingBy};
 ghost use Rattle.can_segment.specs.FaultOrder.{IsAhead, IsWithin, StandsAt};
@@ -131,6 +131,17 @@ impl FaultOrder {
             return &self.nodes[..0];
         }
         self.nodes_at(bit)
+    }
+
+    /// Whether no fault stands at a bit. It may say no of one at which none does.
+    #[inline]
+    pub(crate) fn none_at(&self, bit: u64) -> bool
+        ensures line { result ≡ true → (plan : SegmentPlan) → StandsAt plan bit self.now
+            → (driven : Bool) → line_level plan.line_faults.items bit driven ≡ driven }
+        ensures nodes { result ≡ true → (plan : SegmentPlan) → StandsAt plan bit self.now
+            → (node : ℕ) (level : Bool) → sampled_level plan.node_faults.items node bit level ≡ level }
+    {
+        bit < self.next_bit
     }
 
     /// The cursors pass a bit.

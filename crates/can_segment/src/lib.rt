@@ -16,6 +16,7 @@ mod rest;
 mod rx_sink;
 mod seg_fault;
 mod segment;
+mod sole_sender;
 mod station;
 mod tell;
 mod transmission;
