@@ -7,10 +7,11 @@ use Rattle.can_frame.specs.declared.step.Step.TheVariants.{More, StuffBit}
 use Rattle.can_frame.specs.declared.reader.Reader.{Reader}
 use Rattle.can_node.specs.declared.confinement.ErrorEvent.{ErrorEvent}
 use Rattle.can_node.specs.declared.confinement.ErrorEvent.TheVariants.{Received}
-use Rattle.can_node.specs.declared.confinement.ErrorState.TheVariants.{Active as ErrorActive}
+use Rattle.can_node.specs.declared.confinement.ErrorState.{ErrorState}
+use Rattle.can_node.specs.declared.confinement.ErrorState.TheVariants.{Active as ErrorActive, Passive, Off}
 use Rattle.can_node.specs.declared.known_counts.KnownCounts.{KnownCounts}
 use Rattle.can_node.specs.declared.known_counts.KnownCounts.TheVariants.{Any, Active, Zero}
-use Rattle.can_node.specs.KnownCounts.{Knows}
+use Rattle.can_node.specs.KnownCounts.{Admits, Knows}
 use Rattle.can_node.specs.declared.counters.Counters.{Counters}
 use Rattle.can_node.specs.declared.outcome.Outcome.TheVariants.{Nothing}
 use Rattle.can_node.specs.declared.state.State.{State}
@@ -70,33 +71,52 @@ counts_unseen : (known : KnownCounts) (counters : Counters) (event : Option Erro
 counts_unseen known counters event counts (inl is) events = counts_none counters event is events
 counts_unseen known counters event counts (inr is) events = rw is.1 (counts_received counters (subst (λ k. Knows k counters) is.0 counts) events)
 
--- counts of which anything is known make a node error active
-active_by : (known : KnownCounts) (counters : Counters) → known ≢ Any → Knows known counters → state_of (counts_of counters) ≡ ErrorActive
-active_by Any counters some counts = absurd (some refl)
-active_by Active counters some counts = counts
-active_by Zero counters some counts = ap state_of counts
+-- the error state of a node of whose counts so much is known
+admits_by : (known : KnownCounts) (counters : Counters) → Knows known counters → Admits known (state_of (counts_of counters))
+admits_by Any counters counts = tt
+admits_by Active counters counts = counts
+admits_by Zero counters counts = ap state_of counts
 
-unseen_follows : (known : KnownCounts) (old new : Listener) (bit : ℕ) (level : Bool) (turn : Turn) → known ≢ Any → IsUnseen known turn → new.state ≡ turn.state →
-    ((spelling : Spelling) → Advances old.state old.reader spelling bit ErrorActive level turn new.reader) → Follows known old bit level new
-unseen_follows known old new bit level turn some unseen state_is advances = follows_by known old new bit level (λ node counts. record {
+-- what goes for nodes that are error active, and for others where they may be it, goes for all
+pub admitted : (known : KnownCounts) (Goes : ErrorState → Type 0) → Goes ErrorActive → ((errors : ErrorState) → Admits known errors → errors ≢ ErrorActive → Goes errors) → (errors : ErrorState) → Admits known errors → Goes errors
+admitted known Goes active others ErrorActive may = active
+admitted known Goes active others Passive may = others Passive may (λ is. cc is)
+admitted known Goes active others Off may = others Off may (λ is. cc is)
+
+-- a turn that is made in both other error states
+pub other_errors : (Goes : ErrorState → Turn → Type 0) (turn passive off : Turn) → turn ≡ passive → turn ≡ off → Goes Passive passive → Goes Off off → (errors : ErrorState) → errors ≢ ErrorActive → Goes errors turn
+other_errors Goes turn passive off is_passive is_off at_passive at_off ErrorActive not = absurd (not refl)
+other_errors Goes turn passive off is_passive is_off at_passive at_off Passive not = subst (Goes Passive) (sym is_passive) at_passive
+other_errors Goes turn passive off is_passive is_off at_passive at_off Off not = subst (Goes Off) (sym is_off) at_off
+
+-- where something is known of the counts a node is error active
+pub known_active : (known : KnownCounts) (errors : ErrorState) → known ≢ Any → Admits known errors → errors ≡ ErrorActive
+known_active Any errors some may = absurd (some refl)
+known_active Active errors some may = may
+known_active Zero errors some may = may
+
+unseen_follows : (known : KnownCounts) (old new : Listener) (bit : ℕ) (level : Bool) (turn : Turn) → IsUnseen known turn → new.state ≡ turn.state →
+    ((spelling : Spelling) (errors : ErrorState) → Admits known errors → Advances old.state old.reader spelling bit errors level turn new.reader) → Follows known old bit level new
+unseen_follows known old new bit level turn unseen state_is advances = follows_by known old new bit level (λ node counts. record {
   turn = turn;
-  errors = ErrorActive;
-  shows = λ events h. sym (active_by known node.counters some counts) ∙ ap state_of h;
-  advances = advances node.spelling;
+  errors = state_of (counts_of node.counters);
+  shows = λ events h. ap state_of h;
+  advances = advances node.spelling (state_of (counts_of node.counters)) (admits_by known node.counters counts);
   is_made = record { off = false; counts = counts_unseen known node.counters turn.event counts unseen.counts_none; ends_in = (state_is, sym unseen.tells_none) };
 })
 
 -- a level of a frame with which all read on
-pub reading_follows : (known : KnownCounts) (old : Listener) (start : ℕ) (may : Bool) (stage : Stage) (new : Reader) (bit : ℕ) (level : Bool) (step : Step) (turn : Turn) → known ≢ Any → old.state ≡ Taking start may stage →
-    IsPush old.reader level step new → ((may : Bool) → GoesReading (Taking start may stage) ErrorActive step level turn) → IsUnseen known turn → Follows known old bit level (listening turn.state new)
-reading_follows known old start may stage new bit level step turn some is push goes unseen = unseen_follows known old (listening turn.state new) bit level turn some unseen refl
-    (λ spelling. rw is (reading_advances start may stage old.reader new spelling bit ErrorActive level step turn push goes))
+pub reading_follows : (known : KnownCounts) (old : Listener) (start : ℕ) (may : Bool) (stage : Stage) (new : Reader) (bit : ℕ) (level : Bool) (step : Step) (turn : Turn) → old.state ≡ Taking start may stage →
+    IsPush old.reader level step new → ((errors : ErrorState) → Admits known errors → (may : Bool) → GoesReading (Taking start may stage) errors step level turn) → IsUnseen known turn →
+    Follows known old bit level (listening turn.state new)
+reading_follows known old start may stage new bit level step turn is push goes unseen = unseen_follows known old (listening turn.state new) bit level turn unseen refl
+    (λ spelling errors admitted. rw is (reading_advances start may stage old.reader new spelling bit errors level step turn push (goes errors admitted)))
 
 -- a level outside of one
-pub other_follows : (known : KnownCounts) (old : Listener) (new : Reader) (bit : ℕ) (level : Bool) (turn : Turn) → known ≢ Any → is_sending old.state ≡ false → Goes old.state bit ErrorActive level turn → IsUnseen known turn →
-    (is_taking turn.state ≡ true → ReaderStandsAfter new (false ∷ [])) → (is_taking turn.state ≡ true → IsReading new) → Follows known old bit level (listening turn.state new)
-other_follows known old new bit level turn some sends_none goes unseen stands reading = unseen_follows known old (listening turn.state new) bit level turn some unseen refl
-    (λ spelling. other_advances old.state old.reader new spelling bit ErrorActive level turn sends_none goes stands reading)
+pub other_follows : (known : KnownCounts) (old : Listener) (new : Reader) (bit : ℕ) (level : Bool) (turn : Turn) → is_sending old.state ≡ false → ((errors : ErrorState) → Admits known errors → Goes old.state bit errors level turn) →
+    IsUnseen known turn → (is_taking turn.state ≡ true → ReaderStandsAfter new (false ∷ [])) → (is_taking turn.state ≡ true → IsReading new) → Follows known old bit level (listening turn.state new)
+other_follows known old new bit level turn sends_none goes unseen stands reading = unseen_follows known old (listening turn.state new) bit level turn unseen refl
+    (λ spelling errors admitted. other_advances old.state old.reader new spelling bit errors level turn sends_none (goes errors admitted) stands reading)
 
 -- a node that has come as far as a listener
 same_reads : (state : State) (one other : Reader) (text : List Bool) → (is_taking state ≡ true → StandsAs one other) → ReaderStands state one text → ReaderStands state other text

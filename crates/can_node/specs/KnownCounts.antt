@@ -23,3 +23,9 @@ known_by Off = Any
 -- the most that can be known of these counts
 abbrev pub known_of : Counts → KnownCounts
 known_of counts = if counts.tec == 0 && counts.rec == 0 then Zero else known_by (state_of counts)
+
+-- an error state that a node may be in of whose counts so much is known
+abbrev pub Admits : KnownCounts → ErrorState → Type 0
+Admits Any errors = Unit {0}
+Admits Active errors = errors ≡ ErrorActive
+Admits Zero errors = errors ≡ ErrorActive

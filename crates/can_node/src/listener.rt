@@ -1,11 +1,13 @@
 //! One that follows the line in place of the nodes that listen to it.
 
-ghost use Rattle.std.specs.Prelude.{◌≡◌, ◌≢◌, ℕ, Bool, true, false};
+ghost use Rattle.std.specs.Prelude.{◌≡◌, ◌≢◌, ℕ, Bool, true, false, IfSome};
 ghost use Rattle.can_node.specs.declared.node.Node.{Node};
-ghost use Rattle.can_node.specs.Machine.{is_sending, is_taking};
+ghost use Rattle.can_node.specs.KnownCounts.{Admits};
+ghost use Rattle.can_node.specs.Machine.{Goes, GoesReading, is_sending, is_taking, quiet};
 ghost use Rattle.can_node.specs.Node.{driven_by, may_begin};
 ghost use Rattle.can_node.specs.Listener.{IsListening, IsUnseen, Follows, caught_up};
-ghost use Rattle.can_node.specs.declared.known_counts.KnownCounts.TheVariants.{Any};
+ghost use Rattle.can_node.specs.declared.confinement.ErrorState.{ErrorState as ErrorStateValue};
+ghost use Rattle.can_node.specs.declared.confinement.ErrorState.TheVariants.{Active as ErrorActive};
 
 use crate::confinement::{ErrorEvent, ErrorState};
 use crate::known_counts::KnownCounts;
@@ -41,9 +43,8 @@ impl Listener {
     }
 
     /// Follows the line through a bit at which all of them sample this level, and tells whether it did: then each
-    /// has told nothing and counted nothing that changes a count. Of their counts so much is `known`: where nothing
-    /// is, it follows an idle bus and the stuffed region of a frame alone; where they are error active, each bit at
-    /// which nothing is counted. Else it is as it was, and the nodes have to sample that level themselves.
+    /// has told nothing and counted nothing that changes a count. Of their counts so much is `known`: where all are 0 it
+    /// follows a frame that is acknowledged too. Else it is as it was, and the nodes have to sample that level themselves.
     #[inline(always)]
     pub fn follow(&mut self, bit: u64, level: bool, known: KnownCounts) -> bool
         ensures follows { result ≡ true → Follows known self.old bit level self.new }
@@ -58,16 +59,12 @@ impl Listener {
                 return true;
             }
         }
-        if known == KnownCounts::Any {
-            return false;
-        }
         self.turn(bit, level, known)
     }
 
-    /// Follows a bit that makes a turn of nodes that are error active, where that can be.
+    /// Follows a bit that makes a turn, where that can be.
     #[inline(never)]
     fn turn(&mut self, bit: u64, level: bool, known: KnownCounts) -> bool
-        requires { known ≢ Any }
         ensures follows { result ≡ true → Follows known self.old bit level self.new }
         ensures listens { IsListening self.old → IsListening self.new }
         ensures other { result ≡ false → self.new ≡ self.old }
@@ -81,7 +78,6 @@ impl Listener {
 
     /// So where they read a frame.
     fn read_on(&mut self, start: u64, stage: Stage, level: bool, known: KnownCounts) -> bool
-        requires { known ≢ Any }
         ensures follows { result ≡ true → (bit : ℕ) (may : Bool) → self.old.state ≡ State.Taking start may stage
             → Follows known self.old bit level self.new }
         ensures listens { IsListening self.old → IsListening self.new }
@@ -92,10 +88,9 @@ impl Listener {
         }
         let mut reader = self.reader.copy();
         let step = reader.push(level);
-        let turn = after_taking(start, stage, ErrorState::Active, step, level);
-        if !is_unseen(&turn, known) {
+        let Some(turn) = reading_turn(start, stage, &step, level, known) else {
             return false;
-        }
+        };
         self.state = turn.state;
         self.reader = reader;
         true
@@ -103,16 +98,14 @@ impl Listener {
 
     /// So behind the stuffed region, where the reader need not be copied.
     fn read_tail(&mut self, start: u64, stage: Stage, level: bool, known: KnownCounts) -> bool
-        requires { known ≢ Any }
         ensures follows { result ≡ true → (bit : ℕ) (may : Bool) → self.old.state ≡ State.Taking start may stage
             → Follows known self.old bit level self.new }
         ensures listens { IsListening self.old → IsListening self.new }
         ensures other { result ≡ false → self.new ≡ self.old }
     {
-        let turn = after_taking(start, stage, ErrorState::Active, Step::Tail, level);
-        if !is_unseen(&turn, known) {
+        let Some(turn) = reading_turn(start, stage, &Step::Tail, level, known) else {
             return false;
-        }
+        };
         if !self.reader.reads_tail(level) {
             return false;
         }
@@ -122,7 +115,6 @@ impl Listener {
 
     /// So where they neither read nor send one.
     fn go_on(&mut self, bit: u64, level: bool, known: KnownCounts) -> bool
-        requires { known ≢ Any }
         ensures follows { result ≡ true → is_taking self.old.state ≡ false → is_sending self.old.state ≡ false
             → Follows known self.old bit level self.new }
         ensures listens { IsListening self.old → IsListening self.new }
@@ -132,12 +124,84 @@ impl Listener {
         if !is_unseen(&turn, known) {
             return false;
         }
+        if !goes_alike(self.state, bit, level, &turn, known) {
+            return false;
+        }
         if is_taking(turn.state) {
             self.reader = reader_after_sof();
         }
         self.state = turn.state;
         true
     }
+}
+
+/// What this answer of the reader makes of each node that reads a frame and of whose counts so much is known: `None` where
+/// that is not the same for all, or is seen of one.
+fn reading_turn(
+    start: u64,
+    stage: Stage,
+    step: &Step,
+    level: bool,
+    known: KnownCounts,
+) -> Option<Turn>
+    ensures unseen { IfSome result (λ turn. IsUnseen known turn) }
+    ensures goes { IfSome result (λ turn. (errors : ErrorStateValue) → Admits known errors → (may : Bool)
+        → GoesReading (State.Taking start may stage) errors step.now level turn) }
+{
+    let turn = after_taking(start, stage, ErrorState::Active, step, level);
+    if !is_unseen(&turn, known) {
+        return None;
+    }
+    if !reads_alike(start, stage, step, level, &turn, known) {
+        return None;
+    }
+    Some(turn)
+}
+
+/// Whether that turn is made in each other error state too that a node may be in of whose counts so much is known.
+fn reads_alike(
+    start: u64,
+    stage: Stage,
+    step: &Step,
+    level: bool,
+    turn: &Turn,
+    known: KnownCounts,
+) -> bool
+    ensures { result ≡ true → (errors : ErrorStateValue) → Admits known errors → errors ≢ ErrorActive → (may : Bool)
+        → GoesReading (State.Taking start may stage) errors step.now level turn.now }
+{
+    if known != KnownCounts::Any {
+        return true;
+    }
+    let passive = after_taking(start, stage, ErrorState::Passive, step, level);
+    let off = after_taking(start, stage, ErrorState::Off, step, level);
+    is_same(turn, &passive) && is_same(turn, &off)
+}
+
+/// So of a turn outside of frames.
+fn goes_alike(state: State, bit: u64, level: bool, turn: &Turn, known: KnownCounts) -> bool
+    ensures { result ≡ true → is_taking state ≡ false → is_sending state ≡ false
+        → (errors : ErrorStateValue) → Admits known errors → errors ≢ ErrorActive → Goes state bit errors level turn.now }
+{
+    if known != KnownCounts::Any {
+        return true;
+    }
+    let passive = turn_of(state, bit, ErrorState::Passive, level);
+    let off = turn_of(state, bit, ErrorState::Off, level);
+    is_same(turn, &passive) && is_same(turn, &off)
+}
+
+/// Whether these turns are the same; told only of such that count nothing and tell nothing.
+fn is_same(turn: &Turn, other: &Turn) -> bool
+    ensures { result ≡ true → turn.now ≡ other.now }
+{
+    counts_and_tells_nothing(turn) && counts_and_tells_nothing(other) && turn.state == other.state
+}
+
+fn counts_and_tells_nothing(turn: &Turn) -> bool
+    ensures { result ≡ true → turn.now ≡ quiet turn.now.state }
+{
+    turn.event.is_none() && matches!(turn.outcome, Outcome::Nothing)
 }
 
 fn is_idle(state: State) -> bool

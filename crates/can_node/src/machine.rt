@@ -230,7 +230,7 @@ fn turn_taking(
 {
     let errors = counters.state();
     make(
-        after_taking(start, stage, errors, step, level),
+        after_taking(start, stage, errors, &step, level),
         state,
         counters,
     )

@@ -48,12 +48,12 @@ pub(crate) fn after_taking(
     start: u64,
     stage: Stage,
     errors: ErrorState,
-    step: Step,
+    step: &Step,
     level: bool,
 ) -> Turn
-    ensures { (may_start : Bool) → GoesReading (State.Taking start may_start stage) errors step level result }
+    ensures { (may_start : Bool) → GoesReading (State.Taking start may_start stage) errors step.now level result }
 {
-    match step {
+    match *step {
         Step::More => plain(State::Taking(start, false, Stage::Region)),
         Step::StuffBit => plain(State::Taking(start, false, Stage::Region)),
         Step::Body(_, right) => plain(State::Taking(start, false, Stage::AfterRegion(right))),

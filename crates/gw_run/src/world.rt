@@ -1,6 +1,6 @@
 //! All segments and routes of a run.
 
-ghost use Rattle.std.specs.Prelude.{◌≡◌, ◌<◌, ◌≤◌, ◌+◌, ℕ, List, OnOk, Some, length, slice_get};
+ghost use Rattle.std.specs.Prelude.{◌≡◌, ◌≢◌, ◌<◌, ◌≤◌, ◌+◌, ◌%◌, ℕ, true, false, List, OnOk, Some, length, slice_get};
 ghost use Rattle.can_segment.specs.Places.{AtPlaces};
 ghost use Rattle.gw_opening.specs.declared.lane.Lane.{Lane};
 ghost use Rattle.gw_run.specs.Ports.{Site};
@@ -65,6 +65,15 @@ pub(crate) fn make_turns<R: Wait>(
     Ok(())
 }
 
+/// Whether so many bits are a multiple of this. Most runs make a turn behind each bit: then nothing is divided.
+fn is_multiple(made: u64, turn: u64) -> bool
+    requires { 0 < turn }
+    ensures yes { result ≡ true → made % turn ≡ 0 }
+    ensures no { result ≡ false → made % turn ≢ 0 }
+{
+    turn == 1 || made % turn == 0
+}
+
 /// One bit of each segment, and a turn of each route where the bits made are a multiple of this.
 fn step<R: Wait>(
     rt: &R,
@@ -88,7 +97,7 @@ fn step<R: Wait>(
     ensures keeps { OnOk result (SitesKeep lanes.old sites.old sites.new) }
 {
     make_bits(rt, sites)?;
-    if (bit + 1) % turn != 0 {
+    if !is_multiple(bit + 1, turn) {
         return Ok(());
     }
     make_turns(rt, sites, lanes)?;
