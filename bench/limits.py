@@ -64,6 +64,12 @@ def inputs():
         numbers, "[]," * ((MOST_BYTES - len(numbers) - 5) // 3) + "0]}")
     yield "16 MiB: a list of 2 million objects of one field that is ignored", "run", filled(
         numbers, '{"":0},' * ((MOST_BYTES - len(numbers) - 9) // 7) + "0]}")
+    nested = "[" * 120 + "0" + "]" * 120 + ","
+    yield "16 MiB: lists nested 120 deep, with one element each, that are ignored", "run", filled(
+        numbers, nested * ((MOST_BYTES - len(numbers) - 4) // len(nested)) + "0]}")
+    paired = "[" * 120 + "0" + ",0]" * 120 + ","
+    yield "16 MiB: the same with two elements each", "run", filled(
+        numbers, paired * ((MOST_BYTES - len(numbers) - 4) // len(paired)) + "0]}")
     yield "16 MiB of blanks", "run", filled(written(small()))
     each = [{"event": "claim", "route": 0, "mailbox": 0},
             {"event": "request", "route": 0, "mailbox": 0, "number": 1, "frame": FRAME},

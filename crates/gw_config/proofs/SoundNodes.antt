@@ -6,8 +6,8 @@ use Rattle.std.proofs.lemmas.List.Quantifiers.{all_pairs_push}
 use Rattle.std.proofs.lemmas.List.Sums.{sum_by-append}
 use Rattle.std.specs.List.{list_any, position_from}
 use Rattle.std.specs.Str.{bytes_eq}
-use Rattle.serde_json.specs.Data.{Data}
-use Rattle.serde_json.specs.Find.{get}
+use Rattle.json.specs.Json.{Json}
+use Rattle.json.specs.Find.{get}
 use Rattle.bx_core.specs.Lists.{Each}
 use Rattle.gw_config.specs.declared.version.Version.{Version}
 use Rattle.gw_config.specs.declared.node_place.NodePlace.{NodePlace}
@@ -74,7 +74,7 @@ controllers_more segments front c before here = record {
   few = nodes_more segments front c before.few here.room;
 }
 
-controller_room : (version : Version) (bits : ℕ) (segments : List SegmentValue) (front : List ControllerValue) (name : List ℕ) (segment : ℕ) (from : Data) (c : ControllerValue) →
+controller_room : (version : Version) (bits : ℕ) (segments : List SegmentValue) (front : List ControllerValue) (name : List ℕ) (segment : ℕ) (from : Json) (c : ControllerValue) →
     controller_with version bits segments front name segment from ≡ Ok c → (name ≡ c.name) × (node_count front c.segment (slice_get segments c.segment) < 16)
 unfolding controller_with
 controller_room version bits segments front name segment from c e =
@@ -86,7 +86,7 @@ controller_room version bits segments front name segment from c e =
     let P : ControllerValue → Type 0 = λ one. (name ≡ one.name) × (node_count front one.segment (slice_get segments one.segment) < 16) in
     subst P test.1 (refl, ltb-true (node_count front segment (slice_get segments segment)) 16 test.0))))
 
-controller_ok : (version : Version) (bits : ℕ) (segments : List SegmentValue) (front : List ControllerValue) (value : Data) (c : ControllerValue) → controller_of version bits segments front value ≡ Ok c → IsNewController segments front c
+controller_ok : (version : Version) (bits : ℕ) (segments : List SegmentValue) (front : List ControllerValue) (value : Json) (c : ControllerValue) → controller_of version bits segments front value ≡ Ok c → IsNewController segments front c
 unfolding controller_of
 controller_ok version bits segments front value c e =
     from_bind (object_of (codes "controllers") value) _ c e (λ from is_object e1.
@@ -105,7 +105,7 @@ few_at [] k place few = omega arith
 few_at (s ∷ ss) zero place few = omega (arith, few.0)
 few_at (s ∷ ss) (suc k) place few = few_at ss k place few.1
 
-pub controllers_ok : (version : Version) (bits : ℕ) (segments : List SegmentValue) (from : Data) (cs : List ControllerValue) → AreApart (all_talker_names segments) → Each HasFewTalkers segments →
+pub controllers_ok : (version : Version) (bits : ℕ) (segments : List SegmentValue) (from : Json) (cs : List ControllerValue) → AreApart (all_talker_names segments) → Each HasFewTalkers segments →
     controllers_of version bits segments from ≡ Ok cs → AreNewControllers segments cs
 unfolding controllers_of
 controllers_ok version bits segments from cs apart few e =
@@ -160,7 +160,7 @@ placed_ok front read r e =
       let P : RouteValue → Type 0 = λ one. routes_into one.target front < 8 in subst P h.0 (ltb-true (routes_into read.target front) 8 h.2),
     )
 
-route_ok : (version : Version) (controllers : List ControllerValue) (front : List RouteValue) (value : Data) (r : RouteValue) → route_of version controllers front value ≡ Ok r → IsNewRoute front r
+route_ok : (version : Version) (controllers : List ControllerValue) (front : List RouteValue) (value : Json) (r : RouteValue) → route_of version controllers front value ≡ Ok r → IsNewRoute front r
 unfolding route_of route_with
 route_ok version controllers front value r e =
     from_bind (object_of (codes "routes") value) _ r e (λ from is_object e1.
@@ -176,7 +176,7 @@ route_ok version controllers front value r e =
       room = h.2;
     }))))))
 
-pub routes_ok : (version : Version) (controllers : List ControllerValue) (from : Data) (rs : List RouteValue) → routes_of version controllers from ≡ Ok rs → AreNewRoutes rs
+pub routes_ok : (version : Version) (controllers : List ControllerValue) (from : Json) (rs : List RouteValue) → routes_of version controllers from ≡ Ok rs → AreNewRoutes rs
 unfolding routes_of
 routes_ok version controllers from rs e =
     from_bind (list (codes "routes") 16 from) _ rs e (λ items is_list e1.
@@ -227,7 +227,7 @@ named_ok : (segments : List SegmentValue) (controllers : List ControllerValue) (
 named_ok segments controllers node found =
     (found.segment, ap (slice_get segments) (let same : node.segment ≡ found.later = omega (arith, found.at) in same) ∙ found.is, found.below)
 
-fault_ok : (bits : ℕ) (segments : List SegmentValue) (controllers : List ControllerValue) (from : Data) (given : Option Data) (f : PlannedFault) →
+fault_ok : (bits : ℕ) (segments : List SegmentValue) (controllers : List ControllerValue) (from : Json) (given : Option Json) (f : PlannedFault) →
     fault_with bits segments controllers from given ≡ Ok f → IsFaultAtNode segments controllers f
 unfolding node_fault line_fault
 fault_ok bits segments controllers from (Some value) f e =
@@ -245,13 +245,13 @@ fault_ok bits segments controllers from None f e =
     let P : PlannedFault → Type 0 = IsFaultAtNode segments controllers in
     subst P same tt)))
 
-planned_ok : (bits : ℕ) (segments : List SegmentValue) (controllers : List ControllerValue) (value : Data) (f : PlannedFault) → planned_fault_of bits segments controllers value ≡ Ok f →
+planned_ok : (bits : ℕ) (segments : List SegmentValue) (controllers : List ControllerValue) (value : Json) (f : PlannedFault) → planned_fault_of bits segments controllers value ≡ Ok f →
     IsFaultAtNode segments controllers f
 unfolding planned_fault_of
 planned_ok bits segments controllers value f e =
     from_bind (object_of (codes "faults") value) _ f e (λ from is_object e1. fault_ok bits segments controllers from (get (codes "node") from) f e1)
 
-pub faults_ok : (bits : ℕ) (segments : List SegmentValue) (controllers : List ControllerValue) (from : Data) (fs : List PlannedFault) → planned_faults_of bits segments controllers from ≡ Ok fs →
+pub faults_ok : (bits : ℕ) (segments : List SegmentValue) (controllers : List ControllerValue) (from : Json) (fs : List PlannedFault) → planned_faults_of bits segments controllers from ≡ Ok fs →
     Each (IsFaultAtNode segments controllers) fs
 unfolding planned_faults_of
 faults_ok bits segments controllers from fs e =
@@ -297,7 +297,7 @@ each_weaker P Q goes [] h = tt
 each_weaker P Q goes (x ∷ xs) h = (goes x h.0, each_weaker P Q goes xs h.1)
 
 -- a script whose lists are read is orderly
-pub script_orderly : (version : Version) (s : ScriptValue) (bits : ℕ) (from : Data) → segments_of bits from ≡ Ok s.segments → controllers_of version bits s.segments from ≡ Ok s.controllers →
+pub script_orderly : (version : Version) (s : ScriptValue) (bits : ℕ) (from : Json) → segments_of bits from ≡ Ok s.segments → controllers_of version bits s.segments from ≡ Ok s.controllers →
     routes_of version s.controllers from ≡ Ok s.routes → planned_faults_of bits s.segments s.controllers from ≡ Ok s.faults → IsOrderly s
 script_orderly version s bits from segments controllers routes faults =
     let a = segments_ok bits from s.segments segments in

@@ -1,6 +1,6 @@
 -- A controller: a node that routes send and receive through.
 use Rattle.std.specs.Prelude.{ℕ, ◌-◌, ◌+◌, ◌==◌, nat_lt, Bool, true, List, [], ◌++◌, length, map, filter, count_by, codes, Option, Some, None, slice_get, Result, Ok, Err, if◌then◌else◌}
-use Rattle.serde_json.specs.Data.{Data}
+use Rattle.json.specs.Json.{Json}
 use Rattle.bx_rx.specs.Bank.{BankValue}
 use Rattle.gw_config.specs.declared.version.Version.{Version}
 use Rattle.gw_fields.specs.Faults.{Fault, too_many}
@@ -41,7 +41,7 @@ with_room segments front c =
     if nat_lt (node_count front c.segment (slice_get segments c.segment)) most_nodes then Ok c else Err (too_many (codes "controllers"))
 
 -- `on`, `txfp` and `banks` of a controller with this name and segment, and the room for it
-unfoldable pub controller_with : Version → ℕ → List SegmentValue → List ControllerValue → List ℕ → ℕ → Data → Result ControllerValue Fault
+unfoldable pub controller_with : Version → ℕ → List SegmentValue → List ControllerValue → List ℕ → ℕ → Json → Result ControllerValue Fault
 controller_with version bits segments front name segment from = do
   on ← whole (codes "on") 0 (bits - 1) from
   txfp ← optional_truth (codes "txfp") true from
@@ -49,7 +49,7 @@ controller_with version bits segments front name segment from = do
   with_room segments front (record { name = name; segment = segment; on = on; txfp = txfp; banks = banks })
 
 -- A controller in a run of so many bits, behind those in front of it. Its name is none of a talker either.
-unfoldable pub controller_of : Version → ℕ → List SegmentValue → List ControllerValue → Data → Result ControllerValue Fault
+unfoldable pub controller_of : Version → ℕ → List SegmentValue → List ControllerValue → Json → Result ControllerValue Fault
 controller_of version bits segments front value = do
   from ← object_of (codes "controllers") value
   name ← new_name (codes "controllers") (all_talker_names segments ++ controller_names front) from
@@ -57,7 +57,7 @@ controller_of version bits segments front value = do
   controller_with version bits segments front name segment from
 
 -- at most 16 of them
-unfoldable pub controllers_of : Version → ℕ → List SegmentValue → Data → Result (List ControllerValue) Fault
+unfoldable pub controllers_of : Version → ℕ → List SegmentValue → Json → Result (List ControllerValue) Fault
 controllers_of version bits segments from = do
   items ← list (codes "controllers") 16 from
   each_after (controller_of version bits segments) [] items

@@ -2,3 +2,5 @@ pub mod Lists
 pub mod Places
 pub mod FaultLaws
 pub mod Readings
+pub mod FiniteValues
+pub mod WholeNumbers

@@ -4,6 +4,7 @@
 mod document;
 mod fields;
 mod frames;
+mod json_value;
 mod name;
 mod reads_element;
 mod script_fault;

@@ -1,5 +1,6 @@
 //! Why an input is refused.
 
+use std::alloc::AllocError;
 use thiserror::Error;
 
 /// What is wrong with a script or an event list, with the name of the field where it is. Status 2, but
@@ -39,4 +40,26 @@ pub enum ScriptFault {
     /// Memory ran out. Status 3.
     #[error("J10 Memory")]
     Memory,
+}
+
+impl From<json::Invalid> for ScriptFault {
+    ghost use Rattle.std.specs.Prelude.{◌≡◌};
+    ghost use Rattle.gw_fields.specs.declared.script_fault.ScriptFault.TheVariants.{NotJson};
+
+    ghost from_gives = { λ _ e. e ≡ NotJson };
+
+    fn from(_invalid: json::Invalid) -> ScriptFault {
+        ScriptFault::NotJson
+    }
+}
+
+impl From<AllocError> for ScriptFault {
+    ghost use Rattle.std.specs.Prelude.{◌≡◌};
+    ghost use Rattle.gw_fields.specs.declared.script_fault.ScriptFault.TheVariants.{Memory};
+
+    ghost from_gives = { λ _ e. e ≡ Memory };
+
+    fn from(_refused: AllocError) -> ScriptFault {
+        ScriptFault::Memory
+    }
 }

@@ -3,8 +3,8 @@ use Rattle.gw_script.specs.EventLists.{list_view, event_list_of}
 use Rattle.gw_fields.proofs.FaultLaws.{text_fault_is_first, field_fault_is_first}
 use Rattle.gw_script.proofs.event_list.read_core.Goals as goal
 
-pub returns-in-Err-clause-err : goal.returns-in-Err-clause-err
-returns-in-Err-clause-err c = text_fault_is_first event_list_of _ _ c.in-Err.ensures.err
+pub returns-in_err-value-clause-err : goal.returns-in_err-value-clause-err
+returns-in_err-value-clause-err c = text_fault_is_first event_list_of c.args.bytes.now c.from_residual.result c.in_err-value.field-0.0 c.from_residual.ensures.1 c.in_err-value.ensures.err
 
-pub returns-in-Ok-clause-err : goal.returns-in-Ok-clause-err
-returns-in-Ok-clause-err c = field_fault_is_first list_view event_list_of _ _ c.in-Ok.ensures.ok _ c.event_list_of.ensures.value
+pub returns-clause-err : goal.returns-clause-err
+returns-clause-err c = field_fault_is_first list_view event_list_of _ _ c.in_ok-value.ensures.ok _ c.event_list_of.ensures.value
