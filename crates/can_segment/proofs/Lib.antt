@@ -28,3 +28,4 @@ pub mod Rests
 pub mod ComesToRest
 pub mod Wholes
 pub mod SoleSender
+pub mod QuietBits

@@ -1,11 +1,13 @@
 -- A bit at which one node alone sends, and all others rest.
 use Rattle.std.proofs.Common.{◌≡◌, ◌≢◌, ◌⊎◌, ℕ, ◌+◌, ◌≤◌, ◌&&◌, nat_le, cond, Bool, true, false, Some, None, IfSome, Option, List, [], length, slice_get, refl, sym, ap, subst, arith, inl, inr, ◌∙◌}
 use Rattle.std.specs.List.{list_all}
+use Rattle.std.proofs.lemmas.Bool.{cases_eq}
 use Rattle.std.proofs.lemmas.Bool.Decides.{leb_tells}
 use Rattle.std.proofs.lemmas.Option.{slice_get_past, slice_get_within}
 use Rattle.bx_core.specs.TxBus.{Item, BusPast, BusCall}
 use Rattle.can_frame.specs.Frames.{FrameValue}
 use Rattle.can_node.specs.Node.{IsSample, driven_by}
+use Rattle.can_node.specs.declared.counters.Counters.{Counters}
 use Rattle.can_node.specs.declared.listener.Listener.{Listener}
 use Rattle.can_segment.specs.declared.member.Member.{Member}
 use Rattle.can_segment.specs.declared.plan.Talker.{Talker}
@@ -15,6 +17,7 @@ use Rattle.can_segment.specs.Members.{PortSettles, PortStarts, Samples, SamplesO
 use Rattle.can_segment.specs.Places.{AtPlaces, AtBoth, MovesOne, MovesBoth}
 use Rattle.can_segment.specs.Ports.{item_of}
 use Rattle.can_segment.specs.Rests.{ControllersRest, Drives, GoesOn, HasOther, IsQuietOne, MemberSends, OneSends, RestHolds, RestsThrough, SendsAlone, TalkersRest, TransmitsAll, controllers_at, passes, talkers_at}
+use Rattle.can_segment.specs.Segments.{AreFrom}
 use Rattle.can_segment.specs.Traces.{completed_by, sending_after}
 use Rattle.can_segment.proofs.NextBits.{some_there}
 use Rattle.can_segment.proofs.Places.{same_some}
@@ -167,9 +170,33 @@ controller_alone rest bit after level t c0 c1 resting past h = record {
   level_is = sole_level rest.controller bit rest.listener after level c0 c1 h ∙ ap (λ b. b && passes (drives_at bit) (slice_get c0 rest.controller)) (sym (none_passes rest.talker bit t past));
 }
 
+-- all rest, and the line is recessive
+pub none_alone : (old new : Rest) (bit : ℕ) (level : Bool) (t c : List Member) → length t ≤ old.talker → length c ≤ old.controller → GoesOn old → Drives old level → level ≡ true → RestsThrough bit level true old new →
+    SendsAlone bit level old new t t c c
+none_alone old new bit level t c no_talker no_controller goes drives is through = record {
+  goes_on = goes;
+  through = through;
+  drives = subst (Drives old) is drives;
+  talkers = none_moves old.talker (MemberSends bit old.listener level new.listener) t no_talker;
+  controllers = none_moves old.controller (MemberSends bit old.listener level new.listener) c no_controller;
+  level_is = is ∙ ap (λ b. b && true) (sym (none_passes old.talker bit t no_talker)) ∙ ap (λ b. passes (drives_at bit) (slice_get t old.talker) && b) (sym (none_passes old.controller bit c no_controller));
+}
+
+-- counters that are shown of nodes stay shown
+pub shown_on : (first place bit : ℕ) (before after : Listener) (level : Bool) (old new : List Member) (counters : List Counters) → MovesOne place (MemberSends bit before level after) old new → AreFrom first old counters → AreFrom first new counters
+shown_on first place bit before after level old new counters moves h k m shown e f = elim (cases_eq k place) [
+  | inl here ↦ (let a = some_there old k (let within = slice_get_within new k m e in omega (arith, within, moves.size)) in
+      h k a.0 shown a.1 f ∙ sym (moves.at a.0 m (ap (slice_get old) (sym here) ∙ a.1) (ap (slice_get new) (sym here) ∙ e)).sends.counts_none)
+  | inr other ↦ h k m shown (sym (moves.others k other) ∙ e) f
+]
+
 pub if_some : {A : Type 0} (P Q : A → Type 0) (o : Option A) → ((x : A) → P x → Q x) → IfSome o P → IfSome o Q
 if_some P Q None h given = tt
 if_some P Q (Some x) h given = h x given
+
+pub both_if_some : {A : Type 0} (P Q R : A → Type 0) (o : Option A) → ((x : A) → P x → Q x → R x) → IfSome o P → IfSome o Q → IfSome o R
+both_if_some P Q R None h one other = tt
+both_if_some P Q R (Some x) h one other = h x one other
 
 -- what all do at such a bit
 pub talkers_start_alone : (plan : List Talker) (bit : ℕ) (level : Bool) (old new : Rest) (t0 t1 c0 c1 : List Member) → SendsAlone bit level old new t0 t1 c0 c1 → TalkersRest old bit plan t0 →

@@ -1,7 +1,8 @@
 -- The faults of a plan in the order of their bits, of which those behind the cursors are still to come.
-use Rattle.std.specs.Prelude.{◌≡◌, ℕ, ◌≤◌, ◌==◌, List, filter, length, drop}
+use Rattle.std.specs.Prelude.{◌≡◌, ℕ, ◌≤◌, ◌==◌, Bool, List, filter, length, drop}
 use Rattle.std.specs.List.{All}
 use Rattle.std.specs.List.Sorted.{IsNonDecreasingBy}
+use Rattle.can_segment.specs.Faults.{line_level, sampled_level}
 use Rattle.can_segment.specs.declared.fault_order.FaultOrder.{FaultOrder}
 use Rattle.can_segment.specs.declared.plan.SegmentPlan.{SegmentPlan}
 
@@ -31,3 +32,8 @@ pub record StandsAt (plan : SegmentPlan) (bit : ℕ) (order : FaultOrder) : Type
   pub next : IsNext order
   pub line : IsAhead (λ fault. fault.bit) plan.line_faults.items bit (drop order.next_line order.line.items)
   pub nodes : IsAhead (λ fault. fault.bit) plan.node_faults.items bit (drop order.next_node order.nodes.items)
+
+-- no fault of a plan stands at this bit
+pub record IsFaultless (plan : SegmentPlan) (bit : ℕ) : Type 0 where
+  pub line : (driven : Bool) → line_level plan.line_faults.items bit driven ≡ driven
+  pub nodes : (node : ℕ) (level : Bool) → sampled_level plan.node_faults.items node bit level ≡ level

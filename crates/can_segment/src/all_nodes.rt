@@ -37,7 +37,6 @@ use crate::members::{
 use crate::plan::{NodeFault, SegmentPlan, Talker};
 use crate::rest::Rest;
 use crate::rx_sink::RxSink;
-use crate::sole_sender::send_alone;
 
 /// Whether there is no node that does not rest.
 #[inline]
@@ -189,9 +188,8 @@ pub(crate) struct Moved {
     pub(crate) told: bool,
 }
 
-/// So at any bit, node by node where they don't rest.
-#[inline(never)]
-fn move_all<R, P: RxSink<R>>(
+/// What all nodes do at a bit: they start, and sample the line, which has this level.
+pub(crate) fn move_nodes<R, P: RxSink<R>>(
     rt: &R,
     plan: &SegmentPlan,
     talkers: &mut [Member],
@@ -238,44 +236,4 @@ fn move_all<R, P: RxSink<R>>(
         level,
     );
     Moved { level, told }
-}
-
-/// What all nodes do at a bit: they start, and sample the line, which has this level.
-pub(crate) fn move_nodes<R, P: RxSink<R>>(
-    rt: &R,
-    plan: &SegmentPlan,
-    talkers: &mut [Member],
-    controllers: &mut [Member],
-    ports: &mut [P],
-    rest: &mut Rest,
-    bit: u64,
-    faults: &FaultOrder,
-) -> Moved
-    requires stands { StandsAt plan.now bit faults.now }
-    requires talkers { length talkers.old ≡ length plan.now.talkers.items }
-    requires ports { length ports.old ≡ length controllers.old }
-    requires few { length talkers.old + length controllers.old ≤ 1000 }
-    requires talker_clocks { (k : ℕ) → HasRoom u64.MAX bit k (talkers_at rest.old bit talkers.old) }
-    requires clocks { (k : ℕ) → HasRoom u64.MAX bit k (controllers_at rest.old bit controllers.old) }
-    requires port { TransmitsAll P.transmitting (controllers_at rest.old bit controllers.old) ports.old }
-    requires rests { RestHolds rest.old bit plan.now.talkers.items talkers.old controllers.old }
-    ensures nodes { NodesMove plan.now bit result.level
-        (talkers_at rest.old bit talkers.old) (talkers_at rest.new (bit + 1) talkers.new)
-        (controllers_at rest.old bit controllers.old) (controllers_at rest.new (bit + 1) controllers.new) }
-    ensures port { (k : ℕ) (a m : Member) (p q : P) → slice_get (controllers_at rest.old bit controllers.old) k ≡ Some a
-        → slice_get (controllers_at rest.new (bit + 1) controllers.new) k ≡ Some m
-        → slice_get ports.old k ≡ Some p → slice_get ports.new k ≡ Some q
-        → PortMoves P.bus_after P.bus_asked P.transmitting P.sink_after P.port_stays bit (wants_at bit a) m p q }
-    ensures size { length ports.new ≡ length ports.old }
-    ensures quiet { result.told ≡ false → AreQuiet bit (talkers_at rest.new (bit + 1) talkers.new)
-        × AreQuiet bit (controllers_at rest.new (bit + 1) controllers.new) }
-    ensures rests { RestHolds rest.new (bit + 1) plan.now.talkers.items talkers.new controllers.new }
-    ensures left { LeavesResting rest.old rest.new talkers.old talkers.new controllers.old controllers.new }
-{
-    if faults.none_at(bit) {
-        if let Some(level) = send_alone(talkers, controllers, rest, bit) {
-            return Moved { level, told: false };
-        }
-    }
-    move_all(rt, plan, talkers, controllers, ports, rest, bit, faults)
 }

@@ -3,7 +3,7 @@
 ghost use Rattle.std.specs.Prelude.{◌≡◌, ◌≤◌, ◌+◌, ◌==◌, ℕ, Bool, true, IfOk, drop, take_while};
 ghost use Rattle.std.specs.List.{All, prefix_len};
 ghost use Rattle.std.specs.List.Sorted.{IsNonDecreasingBy};
-ghost use Rattle.can_segment.specs.FaultOrder.{IsAhead, IsWithin, StandsAt};
+ghost use Rattle.can_segment.specs.FaultOrder.{IsAhead, IsFaultless, IsWithin, StandsAt};
 ghost use Rattle.can_segment.specs.Faults.{line_level, sampled_level};
 ghost use Rattle.can_segment.specs.declared.plan.SegmentPlan.{SegmentPlan};
 
@@ -136,10 +136,7 @@ impl FaultOrder {
     /// Whether no fault stands at a bit. It may say no of one at which none does.
     #[inline]
     pub(crate) fn none_at(&self, bit: u64) -> bool
-        ensures line { result ≡ true → (plan : SegmentPlan) → StandsAt plan bit self.now
-            → (driven : Bool) → line_level plan.line_faults.items bit driven ≡ driven }
-        ensures nodes { result ≡ true → (plan : SegmentPlan) → StandsAt plan bit self.now
-            → (node : ℕ) (level : Bool) → sampled_level plan.node_faults.items node bit level ≡ level }
+        ensures { result ≡ true → (plan : SegmentPlan) → StandsAt plan bit self.now → IsFaultless plan bit }
     {
         bit < self.next_bit
     }

@@ -19,7 +19,7 @@ use crate::rx_sink::RxSink;
 use crate::tell::{tell_rests, tell_starts};
 
 /// One level more, for which there is room.
-fn keep(levels: &mut Vec<bool>, level: bool)
+pub(crate) fn keep(levels: &mut Vec<bool>, level: bool)
     requires { vec_len levels.old < vec_capacity levels.old }
     ensures { levels.new.items ≡ levels.old.items ++ level ∷ [] }
 {

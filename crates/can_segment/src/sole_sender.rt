@@ -1,8 +1,11 @@
-//! A bit at which one node alone sends, and all others rest: most bits of a busy bus are such.
+//! A bit at which all nodes rest, or all but one that sends: most bits of a bus are such.
 
-ghost use Rattle.std.specs.Prelude.{◌≡◌, IfSome, IfNone};
-ghost use Rattle.can_segment.specs.Rests.{HasRoom, OneSends, SendsAlone};
+ghost use Rattle.std.specs.Prelude.{◌≡◌, true, IfSome, IfNone};
+ghost use Rattle.can_segment.specs.FaultOrder.{IsFaultless, StandsAt};
+ghost use Rattle.can_segment.specs.declared.plan.SegmentPlan.{SegmentPlan};
+ghost use Rattle.can_segment.specs.Rests.{Drives, GoesOn, HasRoom, OneSends, RestsThrough, SendsAlone};
 
+use crate::fault_order::FaultOrder;
 use crate::member::Member;
 use crate::rest::Rest;
 use can_node::Listener;
@@ -26,10 +29,31 @@ fn one_sends(
     members[place].send_to(bit, listener)
 }
 
-/// One bit in which one node alone sends on and all others rest, which do nothing but read on: the level of the line.
-/// `None` where it is no such bit: then nothing is changed.
+/// The level of the line at a bit at which all nodes rest and drive recessive, and the listener follows for them. `None`
+/// where they don't: then nothing is changed.
 #[inline(always)]
-pub(crate) fn send_alone(
+fn none_sends(rest: &mut Rest, bit: u64) -> Option<bool>
+    requires { rest.old.resting ≡ true }
+    ensures goes { IfSome result (λ level. GoesOn rest.old × Drives rest.old level × (level ≡ true)) }
+    ensures through { IfSome result (λ level. RestsThrough bit level true rest.old rest.new) }
+    ensures none { IfNone result (rest.new ≡ rest.old) }
+{
+    if !rest.goes_on() {
+        return None;
+    }
+    if !rest.drive() {
+        return None;
+    }
+    if !rest.rests_through(bit, true, true) {
+        return None;
+    }
+    Some(true)
+}
+
+/// The level of the line at a bit at which all nodes rest, or all but one that sends on, if no fault stands there. `None`
+/// where they don't: then nothing is changed.
+#[inline(always)]
+fn level_at_rest(
     talkers: &mut [Member],
     controllers: &mut [Member],
     rest: &mut Rest,
@@ -44,11 +68,37 @@ pub(crate) fn send_alone(
     if !rest.resting {
         return None;
     }
-    if controllers.len() <= rest.controller {
-        return one_sends(talkers, rest.talker, &mut rest.listener, bit);
-    }
-    if talkers.len() <= rest.talker {
+    if rest.controller < controllers.len() {
+        if rest.talker < talkers.len() {
+            return None;
+        }
         return one_sends(controllers, rest.controller, &mut rest.listener, bit);
     }
-    None
+    if rest.talker < talkers.len() {
+        return one_sends(talkers, rest.talker, &mut rest.listener, bit);
+    }
+    none_sends(rest, bit)
+}
+
+/// The level of the line at a bit at which no fault stands, and all nodes rest or all but one that sends on. `None` where
+/// it is no such bit: then nothing is changed.
+#[inline(always)]
+pub(crate) fn quiet_level(
+    talkers: &mut [Member],
+    controllers: &mut [Member],
+    rest: &mut Rest,
+    bit: u64,
+    faults: &FaultOrder,
+) -> Option<bool>
+    requires talker_room { HasRoom u64.MAX bit rest.old.talker talkers.old }
+    requires room { HasRoom u64.MAX bit rest.old.controller controllers.old }
+    ensures sends { IfSome result (λ level. SendsAlone bit level rest.old rest.new
+        talkers.old talkers.new controllers.old controllers.new) }
+    ensures faultless { IfSome result (λ level. (plan : SegmentPlan) → StandsAt plan bit faults.now → IsFaultless plan bit) }
+    ensures none { IfNone result ((rest.new ≡ rest.old) × (talkers.new ≡ talkers.old) × (controllers.new ≡ controllers.old)) }
+{
+    if !faults.none_at(bit) {
+        return None;
+    }
+    level_at_rest(talkers, controllers, rest, bit)
 }

@@ -1,0 +1,114 @@
+use Rattle.std.proofs.Common.{rules, ◌≡◌, ◌+◌, ◌∷◌, [], length, arith, sym, ap, subst, ◌∙◌, length-append}
+use Rattle.std.proofs.lemmas.Option.{slice_get_within}
+use Rattle.can_segment.specs.Brought.{IsBrought, told_of}
+use Rattle.can_segment.specs.Kept.{SegmentKept}
+use Rattle.can_segment.specs.Members.{wants_at}
+use Rattle.can_segment.specs.Ports.{item_of}
+use Rattle.can_segment.specs.Rests.{AreAlike, controllers_at, talkers_at}
+use Rattle.can_segment.specs.Segments.{AreFrom}
+use Rattle.can_segment.specs.Tellings.{bit_lines}
+use Rattle.can_segment.proofs.Brought.{of_controller, port_brought}
+use Rattle.can_segment.proofs.Keeps.{run_length}
+use Rattle.can_segment.proofs.NextBits.{some_there}
+use Rattle.can_segment.proofs.Rests.{woken_length}
+use Rattle.can_segment.proofs.Wholes.{from_left, from_real, from_whole, holds_alike}
+use Rattle.can_segment.proofs.segment.grow_any.Goals as goal
+
+pub make_bit-requires-clause-few : goal.make_bit-requires-clause-few
+make_bit-requires-clause-few g c =
+    let rest = c.args.rest.now in
+    let bit = length c.args.made.now.levels.items in
+    omega (arith, c.requires.holds.few, woken_length rest rest.talker bit c.args.talkers.now, woken_length rest rest.controller bit c.args.controllers.now)
+
+pub show_moved-requires-clause-size : goal.show_moved-requires-clause-size
+show_moved-requires-clause-size g c =
+    let bit = length c.args.made.now.levels.items in
+    let new = c.make_bit.new.rest in
+    let before = c.requires.holds.kept.stands in
+    let behind = c.make_bit.ensures.kept.stands in
+    omega (
+      arith,
+      c.requires.holds.size,
+      before.talkers_size,
+      before.controllers_size,
+      behind.talkers_size,
+      behind.controllers_size,
+      woken_length new new.talker (bit + 1) c.make_bit.new.talkers,
+      woken_length new new.controller (bit + 1) c.make_bit.new.controllers,
+    )
+
+pub show_moved-requires-clause-talkers : goal.show_moved-requires-clause-talkers
+show_moved-requires-clause-talkers g c resting =
+    let old = c.args.rest.now in
+    let bit = length c.args.made.now.levels.items in
+    let counters = c.args.made.now.counters.items in
+    from_left 0 c.make_bit.new.rest.talker c.args.talkers.now c.make_bit.new.talkers counters (from_whole 0 old old.talker bit c.args.talkers.now counters c.requires.holds.talkers_shown) (c.make_bit.ensures.left.talkers resting)
+
+pub show_moved-requires-clause-controllers : goal.show_moved-requires-clause-controllers
+show_moved-requires-clause-controllers g c resting =
+    let old = c.args.rest.now in
+    let new = c.make_bit.new.rest in
+    let bit = length c.args.made.now.levels.items in
+    let counters = c.args.made.now.counters.items in
+    let size : length (talkers_at old bit c.args.talkers.now) ≡ length c.make_bit.new.talkers =
+    omega (arith, c.requires.holds.kept.stands.talkers_size, c.make_bit.ensures.kept.stands.talkers_size, woken_length new new.talker (bit + 1) c.make_bit.new.talkers) in
+    from_left (length c.make_bit.new.talkers) new.controller c.args.controllers.now c.make_bit.new.controllers counters
+    (subst (λ first. AreFrom first c.args.controllers.now counters) size (from_whole _ old old.controller bit c.args.controllers.now counters c.requires.holds.controllers_shown)) (c.make_bit.ensures.left.controllers resting)
+
+pub returns-clause-holds : goal.returns-clause-holds
+returns-clause-holds g c =
+    let made = c.make_bit.ensures in
+    let old = c.args.rest.now in
+    let mid = c.make_bit.new.rest in
+    let new = c.come_to_rest.new.self in
+    let bit = length c.args.made.now.levels.items in
+    let next = length c.make_bit.new.levels.items in
+    let longer : bit + 1 ≡ next = sym (ap length made.level.1 ∙ length-append c.args.made.now.levels.items (made.level.0 ∷ [])) in
+    let here : c.len.result ≡ next = search rules in
+    let t1 = c.make_bit.new.talkers in
+    let c1 = c.make_bit.new.controllers in
+    let kept = subst (λ n. SegmentKept c.args.plan.now c.make_bit.new.levels.items c.make_bit.new.events.items (talkers_at mid n t1) (controllers_at mid n c1)) longer made.kept in
+    let talkers_size = woken_length mid mid.talker next t1 in
+    let controllers_size = woken_length mid mid.controller next c1 in
+    let before = c.requires.holds.kept.stands in
+    holds_alike c.args.plan.now (record { levels = c.make_bit.new.levels; events = c.make_bit.new.events; counters = c.show_moved.new.counters }) (talkers_at mid next t1) (talkers_at new next c.come_to_rest.new.talkers)
+    (controllers_at mid next c1) (controllers_at new next c.come_to_rest.new.controllers)
+    (subst (λ n. AreAlike (talkers_at mid n t1) (talkers_at new n c.come_to_rest.new.talkers)) here c.come_to_rest.ensures.talkers)
+    (subst (λ n. AreAlike (controllers_at mid n c1) (controllers_at new n c.come_to_rest.new.controllers)) here c.come_to_rest.ensures.controllers) kept
+    (omega (arith, c.requires.holds.few, before.talkers_size, before.controllers_size, kept.stands.talkers_size, kept.stands.controllers_size)) (omega (arith, c.show_moved.ensures.size, talkers_size, controllers_size))
+    (from_real 0 mid mid.talker next t1 c.show_moved.new.counters.items c.show_moved.ensures.talkers)
+    (from_real (length (talkers_at mid next t1)) mid mid.controller next c1 c.show_moved.new.counters.items (subst (λ first. AreFrom first c1 c.show_moved.new.counters.items) (sym talkers_size) c.show_moved.ensures.controllers))
+
+pub returns-clause-bit : goal.returns-clause-bit
+returns-clause-bit g c =
+    let made = c.make_bit.ensures in
+    let mid = c.make_bit.new.rest in
+    let new = c.come_to_rest.new.self in
+    let bit = length c.args.made.now.levels.items in
+    let next = length c.make_bit.new.levels.items in
+    let longer : bit + 1 ≡ next = sym (ap length made.level.1 ∙ length-append c.args.made.now.levels.items (made.level.0 ∷ [])) in
+    let here : c.len.result ≡ next = search rules in
+    let talkers = talkers_at mid (bit + 1) c.make_bit.new.talkers in
+    let controllers = controllers_at mid (bit + 1) c.make_bit.new.controllers in
+    let lines = bit_lines bit talkers controllers in
+    let stands = made.kept.stands in
+    let alike = subst (λ n. AreAlike (controllers_at mid n c.make_bit.new.controllers) (controllers_at new next c.come_to_rest.new.controllers)) (sym longer)
+    (subst (λ n. AreAlike (controllers_at mid n c.make_bit.new.controllers) (controllers_at new n c.come_to_rest.new.controllers)) here c.come_to_rest.ensures.controllers) in
+    record {
+      level = made.level.0;
+      lines = lines;
+      levels_is = made.level.1;
+      events_is = made.events;
+      ports = λ k a m p q d e f h.
+          let within = slice_get_within (controllers_at new next c.come_to_rest.new.controllers) k m e in
+          let x = some_there controllers k (omega (arith, within, alike.size)) in
+          let planned = some_there c.args.plan.now.controllers.items k (omega (arith, within, alike.size, stands.controllers_size)) in
+          let stood = stands.controllers_stand k planned.0 x.0 planned.1 x.1 in
+          let behind : length made.kept.trace ≡ bit + 1 = sym (run_length made.kept.run) ∙ sym longer in
+          subst (λ sends. IsBrought g.P.TxBus.bus_after g.P.TxBus.bus_asked g.P.TxBus.transmitting g.P.RxSink.sink_after g.P.RxSink.port_stays (told_of (length c.args.plan.now.talkers.items + k) lines) (wants_at bit a) (item_of sends) p q)
+          (sym (alike.at k x.0 m x.1 e).sending_is)
+          (port_brought g.P.TxBus.bus_after g.P.TxBus.bus_asked g.P.TxBus.transmitting g.P.RxSink.sink_after g.P.RxSink.port_stays bit (wants_at bit a) _ x.0 p q
+          (ap (λ n. told_of (n + k) lines) (sym stands.talkers_size) ∙ of_controller bit talkers controllers k x.0 x.1)
+          (λ early. stood.quiet (omega (arith, behind, early, stood.on_is))) (made.port k a x.0 p q d x.1 f h));
+      size = made.size;
+    }
