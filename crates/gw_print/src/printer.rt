@@ -11,9 +11,9 @@ use gw_script::{Report, Script, print_routes};
 use std::alloc::Global;
 use std::thread::Threads;
 
-/// The text of a report, as `print` of `gw_script` gives it, in pieces: one a segment, and one for the routes. A segment's
-/// is made in a thread of its own, or in the caller's where none can be started, and all of these are joined before this
-/// returns. `Memory` only where a growth was refused.
+/// The text of a report, as `print` of `gw_script` gives it, in pieces: one a segment, and one for the routes. A
+/// segment's is made in a thread of its own, or in the caller's where none can be started, and all of these are joined
+/// before this returns. `Memory` only where a growth was refused.
 pub fn print_in_threads<R: Threads + Sync>(
     rt: &R,
     alloc: Global,

@@ -128,8 +128,8 @@ fn push_rest(
     text.extend_from_slice(b"\n")
 }
 
-/// Adds the line of an event of the segment with this name. The beginning and the end are those of the line before, where
-/// they are the same.
+/// Adds the line of an event of the segment with this name. The beginning and the end are those of the line before,
+/// where they are the same.
 fn push_event(
     text: &mut Vec<u8>,
     script: &Script,
