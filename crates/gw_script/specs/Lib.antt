@@ -1,5 +1,6 @@
 pub mod EventLists
 pub mod Lines
 pub mod FrameTexts
+pub mod LineParts
 pub mod NamedPlaces
 pub mod ReportTexts

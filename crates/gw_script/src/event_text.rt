@@ -1,21 +1,24 @@
 //! The lines of a segment's events.
 
-ghost use Rattle.std.specs.Prelude.{◌≡◌, ◌<◌, ◌++◌, length, codes, IfSome, OnOk};
+ghost use Rattle.std.specs.Prelude.{◌≡◌, ◌<◌, ◌++◌, length, map, codes, IfSome, OnOk};
 ghost use Rattle.std.specs.List.{flat_map};
 ghost use Rattle.std.specs.Fmt.{decimal};
 ghost use Rattle.bx_core.specs.Lists.{Each};
+ghost use Rattle.gw_config.specs.Nodes.{names_of_nodes};
 ghost use Rattle.gw_script.specs.FrameTexts.{frame_text};
+ghost use Rattle.gw_script.specs.LineParts.{rest_text, IsFront, AreEnds};
 ghost use Rattle.gw_script.specs.NamedPlaces.{label_of, NamesRequest, NamesEvent};
 ghost use Rattle.gw_script.specs.ReportTexts.{kind_text, told_text, label_text, segment_name, node_name, event_line};
 
 use crate::digits::{push_decimal, push_decimal_and_space};
 use crate::frame_text::{FrameText, write_frame};
-use crate::report_names::{node_name, route_name, route_of, segment_name};
+use crate::repeats::{Ends, Front};
+use crate::report_names::{name_at, names_of_nodes, route_name, route_of, segment_name};
 use can_frame::Frame;
 use can_node::ErrorKind;
 use can_segment::{Event, Label, Told};
 use gw_config::Script;
-use std::alloc::AllocError;
+use std::alloc::{AllocError, Global};
 
 fn kind_text(kind: ErrorKind) -> &'static str
     ensures { result.now ≡ kind_text kind }
@@ -39,7 +42,7 @@ fn push_frame(text: &mut Vec<u8>, frame: &Frame) -> Result<(), AllocError>
 }
 
 /// Adds a space and what happened at a node.
-fn push_told(text: &mut Vec<u8>, told: &Told) -> Result<(), AllocError>
+pub(crate) fn push_told(text: &mut Vec<u8>, told: &Told) -> Result<(), AllocError>
     ensures { OnOk result (text.new.items ≡ text.old.items ++ (codes " " ++ told_text told.now)) }
 {
     let frame = match told {
@@ -108,47 +111,57 @@ fn push_label(
     }
 }
 
-/// Adds where and when an event was: the segment, which has this name, the bit and the node.
-fn push_place(
+/// Adds the rest of a line behind the node's name: what happened, the request that it names, if any, and a line feed.
+fn push_rest(
     text: &mut Vec<u8>,
     script: &Script,
     segment: usize,
-    name: &str,
     event: &Event,
 ) -> Result<(), AllocError>
     requires { NamesEvent script.now segment event.now }
     ensures { OnOk result
-        (text.new.items ≡ text.old.items ++ (name.now ++ (codes " " ++ (decimal event.now.bit
-        ++ (codes " " ++ node_name script.now segment event.now.node))))) }
+        (text.new.items ≡ text.old.items ++ rest_text script.now segment event.now) }
 {
-    text.extend_from_slice(name.as_bytes())?;
-    text.extend_from_slice(b" ")?;
-    push_decimal_and_space(text, event.bit)?;
-    text.extend_from_slice(node_name(script, segment, event.node as usize).as_bytes())
-}
-
-/// Adds the line of an event of the segment with this name.
-fn push_event(
-    text: &mut Vec<u8>,
-    script: &Script,
-    segment: usize,
-    name: &str,
-    event: &Event,
-) -> Result<(), AllocError>
-    requires name { name.now ≡ segment_name script.now segment }
-    requires event { NamesEvent script.now segment event.now }
-    ensures { OnOk result
-        (text.new.items ≡ text.old.items ++ event_line script.now segment event.now) }
-{
-    push_place(text, script, segment, name, event)?;
     push_told(text, &event.told)?;
     let label = label_of(&event.told);
     push_label(text, script, segment, event.node as usize, label)?;
     text.extend_from_slice(b"\n")
 }
 
+/// Adds the line of an event of the segment with this name. The beginning and the end are those of the line before,
+/// where they are the same.
+fn push_event(
+    text: &mut Vec<u8>,
+    script: &Script,
+    segment: usize,
+    name: &str,
+    names: &[&str],
+    front: &mut Front,
+    ends: &mut Ends,
+    event: &Event,
+) -> Result<(), AllocError>
+    requires name { name.now ≡ segment_name script.now segment }
+    requires names { map (λ name. name.now) names.now ≡ names_of_nodes script.now segment }
+    requires event { NamesEvent script.now segment event.now }
+    requires front { IsFront name.now front.old }
+    requires ends { AreEnds (length (names_of_nodes script.now segment)) ends.old }
+    ensures front { OnOk result (IsFront name.now front.new) }
+    ensures ends { OnOk result (AreEnds (length (names_of_nodes script.now segment)) ends.new) }
+    ensures text { OnOk result
+        (text.new.items ≡ text.old.items ++ event_line script.now segment event.now) }
+{
+    front.push(text, name, event.bit)?;
+    let node = event.node as usize;
+    text.extend_from_slice(name_at(names, node).as_bytes())?;
+    match label_of(&event.told) {
+        None => ends.push(text, node, &event.told),
+        Some(_) => push_rest(text, script, segment, event),
+    }
+}
+
 /// Adds the lines of events.
 pub fn push_events(
+    alloc: Global,
     text: &mut Vec<u8>,
     script: &Script,
     segment: usize,
@@ -160,8 +173,14 @@ pub fn push_events(
         (text.new.items ≡ text.old.items ++ flat_map (event_line script.now segment) events.now) }
 {
     let name = segment_name(script, segment);
+    let names = names_of_nodes(alloc, script, segment)?;
+    let names = names.as_slice();
+    let mut front = Front::new(alloc, name)?;
+    let mut ends = Ends::new(alloc, names.len())?;
     for event in events {
-        push_event(text, script, segment, name, event)?;
+        push_event(
+            text, script, segment, name, names, &mut front, &mut ends, event,
+        )?;
     }
     Ok(())
 }

@@ -6,6 +6,7 @@ mod event_list;
 mod event_text;
 mod frame_text;
 mod printer;
+mod repeats;
 mod report;
 mod report_names;
 mod report_text;
@@ -14,7 +15,7 @@ mod standing;
 
 pub use crate::event_list::{EventList, read_core};
 pub use crate::frame_text::push_frame;
-pub use crate::printer::print;
+pub use crate::printer::{print, print_routes, print_segment};
 pub use crate::report::Report;
 pub use crate::route_report::RouteReport;
 pub use crate::standing::names_stand;

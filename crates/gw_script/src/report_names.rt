@@ -1,12 +1,13 @@
 //! The names of what a report names by place.
 
-ghost use Rattle.std.specs.Prelude.{◌≡◌, ◌<◌, length};
+ghost use Rattle.std.specs.Prelude.{◌≡◌, ◌<◌, length, map, IfOk};
 ghost use Rattle.gw_config.specs.Nodes.{names_of_nodes};
 ghost use Rattle.gw_script.specs.NamedPlaces.{NamesRequest};
-ghost use Rattle.gw_script.specs.ReportTexts.{segment_name, node_name, route_name, route_of};
+ghost use Rattle.gw_script.specs.ReportTexts.{name_at, segment_name, node_name, route_name, route_of};
 
 use can_segment::Label;
 use gw_config::Script;
+use std::alloc::{AllocError, Global};
 
 /// The name of a segment.
 pub fn segment_name(script: &Script, segment: usize) -> &str
@@ -25,6 +26,29 @@ pub fn node_name(script: &Script, segment: usize, node: usize) -> &str
         Some(name) => name,
         None => unreachable!(),
     }
+}
+
+/// The names of a segment's nodes, in their order.
+pub fn names_of_nodes<'s>(
+    alloc: Global,
+    script: &'s Script,
+    segment: usize,
+) -> Result<Vec<&'s str>, AllocError>
+    ensures { IfOk result (λ names. map (λ name. name.now) names.items ≡ names_of_nodes script.now segment) }
+{
+    let mut names = Vec::new(alloc);
+    for node in 0..script.node_count(segment) {
+        names.push(node_name(script, segment, node))?;
+    }
+    Ok(names)
+}
+
+/// The name at a place among these.
+pub fn name_at<'n>(names: &[&'n str], place: usize) -> &'n str
+    requires { place < length names.now }
+    ensures { result.now ≡ name_at (map (λ name. name.now) names.now) place }
+{
+    names[place]
 }
 
 /// The name of a route.

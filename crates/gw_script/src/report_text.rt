@@ -101,7 +101,8 @@ fn push_end(text: &mut Vec<u8>, script: &Script, segment: usize) -> Result<(), A
 }
 
 /// Adds what is told of a segment.
-fn push_segment(
+pub fn push_segment(
+    alloc: Global,
     text: &mut Vec<u8>,
     script: &Script,
     segment: usize,
@@ -112,19 +113,24 @@ fn push_segment(
     ensures { OnOk result
         (text.new.items ≡ text.old.items ++ segment_text script.now segment kept.now) }
 {
-    push_events(text, script, segment, kept.events.as_slice())?;
+    push_events(alloc, text, script, segment, kept.events.as_slice())?;
     push_nodes(text, script, segment, kept.counters.as_slice())?;
     push_end(text, script, segment)
 }
 
 /// Adds what is told of the segments.
-fn push_segments(text: &mut Vec<u8>, script: &Script, report: &Report) -> Result<(), AllocError>
+fn push_segments(
+    alloc: Global,
+    text: &mut Vec<u8>,
+    script: &Script,
+    report: &Report,
+) -> Result<(), AllocError>
     requires { Names script.now report.now }
     ensures { OnOk result
         (text.new.items ≡ text.old.items ++ lines_from (segment_text script.now) 0 report.now.segments.items) }
 {
     for (segment, kept) in report.segments.iter().enumerate() {
-        push_segment(text, script, segment, kept)?;
+        push_segment(alloc, text, script, segment, kept)?;
     }
     Ok(())
 }
@@ -171,7 +177,7 @@ fn push_route(
 }
 
 /// Adds the lines of the routes.
-fn push_routes(
+pub fn push_routes(
     text: &mut Vec<u8>,
     script: &Script,
     routes: &[RouteReport],
@@ -192,7 +198,7 @@ pub fn text_of(alloc: Global, script: &Script, report: &Report) -> Result<Vec<u8
     ensures { IfOk result (λ text. text.items ≡ report_text script.now report.now) }
 {
     let mut text = Vec::new(alloc);
-    push_segments(&mut text, script, report)?;
+    push_segments(alloc, &mut text, script, report)?;
     push_routes(&mut text, script, report.routes.as_slice())?;
     Ok(text)
 }

@@ -1,7 +1,9 @@
 -- A text that is written piece by piece.
-use Rattle.std.proofs.Common.{◌≡◌, ◌∙◌, sym, ap, subst, ℕ, ◌+◌, ◌-◌, ◌≤◌, Option, Some, None, List, [], ◌++◌, take, drop, length, append_assoc, arith}
-use Rattle.std.proofs.lemmas.List.{append-nil, take_all, length-drop}
-use Rattle.std.proofs.Math.Seq.{take-add}
+use Rattle.std.proofs.Common.{◌≡◌, ◌∙◌, sym, ap, subst, ℕ, suc, ◌+◌, ◌-◌, ◌<◌, ◌≤◌, Option, Some, None, List, [], ◌∷◌, ◌++◌, take, drop, drop-cons, add-one, get_or, length, append_assoc, arith}
+use Rattle.std.specs.List.{flat_map}
+use Rattle.std.proofs.lemmas.List.{append-nil, take_all, take-append-drop, length-drop}
+use Rattle.std.proofs.lemmas.Grind.{flat_map-append}
+use Rattle.std.proofs.Math.Seq.{take-add, take-append-add, take-append_seam}
 use Rattle.std.specs.Io.KnownBytes.{Appends, Keeps}
 
 -- nothing yet
@@ -9,7 +11,7 @@ pub appends_none : (known : Option (List ℕ)) → Appends known known []
 appends_none None = tt
 appends_none (Some xs) = sym (append-nil xs)
 
-appends_on : (a b c : Option (List ℕ)) (xs ys : List ℕ) → Appends a b xs → Appends b c ys → Appends a c (xs ++ ys)
+pub appends_on : (a b c : Option (List ℕ)) (xs ys : List ℕ) → Appends a b xs → Appends b c ys → Appends a c (xs ++ ys)
 appends_on None b c xs ys p q = tt
 appends_on (Some xs0) None c xs ys p q = absurd p
 appends_on (Some xs0) (Some bs) None xs ys p q = absurd q
@@ -34,3 +36,21 @@ rest_is written text = take_all (length text - written) (drop written text) (ome
 
 pub piece_within : (written count : ℕ) (text : List ℕ) → written ≤ length text → count ≤ length (take (length text - written) (drop written text)) → written + count ≤ length text
 piece_within written count text before bound = omega (arith, before, bound, ap length (rest_is written text), length-drop written text)
+
+-- what is said of the first elements, and a front of what is said of the next, is a front of what is said of all
+pub front_more : {A : Type 0} (said : A → List ℕ) (xs : List A) (i : ℕ) (x : A) (n : ℕ) → i < length xs → x ≡ get_or xs i x →
+    flat_map said (take i xs) ++ take n (said x) ≡ take (length (flat_map said (take i xs)) + length (take n (said x))) (flat_map said xs)
+front_more said xs i x n lt is =
+    let front = flat_map said (take i xs) in
+    let begun = take n (said x) in
+    let rest = drop n (said x) ++ flat_map said (drop (i + 1) xs) in
+    let next : drop i xs ≡ x ∷ drop (i + 1) xs = drop-cons xs i x lt ∙ ap (λ y. y ∷ drop (suc i) xs) (sym is) ∙ ap (λ k. x ∷ drop k xs) (sym (add-one i)) in
+    let all : flat_map said xs ≡ front ++ (begun ++ rest) =
+    ap (flat_map said) (sym (take-append-drop i xs))
+    ∙ flat_map-append said (take i xs) (drop i xs)
+    ∙ ap (λ ys. front ++ flat_map said ys) next
+    ∙ ap (λ ys. front ++ (ys ++ flat_map said (drop (i + 1) xs))) (sym (take-append-drop n (said x)))
+    ∙ ap (λ ys. front ++ ys) (append_assoc begun (drop n (said x)) (flat_map said (drop (i + 1) xs))) in
+    sym (ap (take (length front + length begun)) all
+    ∙ take-append-add front (begun ++ rest) (length begun)
+    ∙ ap (λ ys. front ++ ys) (take-append_seam begun rest))

@@ -6,6 +6,7 @@ ghost use Rattle.std.specs.Io.KnownBytes.{Keeps};
 ghost use Rattle.std.specs.IoError.{error_kind};
 ghost use Rattle.std.specs.declared.io.ErrorKind.TheVariants.{OutOfMemory};
 ghost use Rattle.clap.specs.Words.{kind_of};
+ghost use Rattle.gw_print.specs.Pieces.{whole_of};
 ghost use Rattle.gw_tool.specs.Outcomes.{IsAnswer, IsFailureOn, Ends, EndsWith, input_of};
 ghost use Rattle.gw_tool.specs.Words.{IsTurn, IsThreads, HasRanges, IsFileName, asked_of};
 
@@ -16,7 +17,7 @@ use crate::files::Files;
 use crate::input::{InputFault, read_input};
 use crate::no_files::NoFiles;
 use crate::order::Order;
-use crate::output::{WriteFault, write_output};
+use crate::output::{WriteFault, write_pieces};
 use crate::run_command::run_text;
 use crate::task::Task;
 use crate::threads_command::threaded_text;
@@ -30,20 +31,38 @@ use std::io::{Read, Write};
 use std::sync::Wait;
 use std::thread::Threads;
 
-/// The answer to the bytes of the input.
+/// A text in one piece.
+fn in_one_piece(alloc: Global, text: Vec<u8>) -> Result<Vec<Vec<u8>>, Failure>
+    ensures ok { IfOk result (λ pieces. whole_of pieces.items ≡ text.items) }
+    ensures err { IfErr result (λ failure. failure ≡ Failure.Run RunFault.Memory) }
+{
+    let mut pieces = Vec::new(alloc);
+    match pieces.push(text) {
+        Ok(()) => Ok(pieces),
+        Err(_) => Err(Failure::Run(RunFault::Memory)),
+    }
+}
+
+/// The answer to the bytes of the input, in pieces.
 fn text_of<H: Threads + Wait + Copy + Send + Sync + 'static>(
     rt: &H,
     alloc: Global,
     task: Task,
     bytes: &[u8],
-) -> Result<Vec<u8>, Failure>
+) -> Result<Vec<Vec<u8>>, Failure>
     requires { HasRanges task }
-    ensures ok { IfOk result (λ text. IsAnswer task bytes.now text.items) }
+    ensures ok { IfOk result (λ pieces. IsAnswer task bytes.now (whole_of pieces.items)) }
     ensures err { IfErr result (IsFailureOn task bytes.now) }
 {
     match task {
-        Task::Core => core_text(alloc, bytes),
-        Task::Run { turn } => run_text(rt, alloc, bytes, turn),
+        Task::Core => match core_text(alloc, bytes) {
+            Ok(text) => in_one_piece(alloc, text),
+            Err(failure) => Err(failure),
+        },
+        Task::Run { turn } => match run_text(rt, alloc, bytes, turn) {
+            Ok(text) => in_one_piece(alloc, text),
+            Err(failure) => Err(failure),
+        },
         Task::RunThreads { threads, slack } => threaded_text(rt, alloc, bytes, threads, slack),
     }
 }
@@ -69,7 +88,7 @@ fn carry_out<H: Threads + Wait + Copy + Send + Sync + 'static, R: Read, W: Write
         Ok(text) => text,
         Err(failure) => return Err(failure),
     };
-    match write_output(output, text.as_slice()) {
+    match write_pieces(output, text.as_slice()) {
         Ok(()) => Ok(()),
         Err(WriteFault) => Err(Failure::Write),
     }

@@ -2,14 +2,16 @@
 
 ghost use Rattle.std.specs.Prelude.{◌≡◌, IfOk, IfErr, length};
 ghost use Rattle.gw_config.specs.SoundScripts.{IsSound};
+ghost use Rattle.gw_print.specs.Pieces.{whole_of};
 ghost use Rattle.gw_tool.specs.Outcomes.{IsAnswer, IsFailureOn, IsRunOf};
 ghost use Rattle.gw_tool.specs.Words.{IsSlack, IsThreads};
 ghost use Rattle.gw_tool.specs.declared.task.Task.TheVariants.{RunThreads};
 
 use crate::failure::Failure;
 use bx_core::NoGate;
+use gw_print::print_in_threads;
 use gw_run::{RunFault, run_threads};
-use gw_script::{Report, Script, print, read};
+use gw_script::{Report, Script, read};
 use std::alloc::{AllocError, Global};
 use std::sync::Wait;
 use std::thread::Threads;
@@ -40,7 +42,7 @@ fn threaded_report<H: Threads + Wait + Copy + Send + Sync + 'static>(
     }
 }
 
-/// The report on a run in threads of the script that the bytes are: the routes by so many threads, and no segment more
+/// The report on a run in threads of the script that the bytes are, in pieces: the routes by so many threads, and no segment more
 /// than so many bits ahead of another.
 pub fn threaded_text<H: Threads + Wait + Copy + Send + Sync + 'static>(
     rt: &H,
@@ -48,10 +50,10 @@ pub fn threaded_text<H: Threads + Wait + Copy + Send + Sync + 'static>(
     bytes: &[u8],
     threads: u32,
     slack: u32,
-) -> Result<Vec<u8>, Failure>
+) -> Result<Vec<Vec<u8>>, Failure>
     requires threads { IsThreads threads }
     requires slack { IsSlack slack }
-    ensures ok { IfOk result (λ text. IsAnswer (RunThreads threads slack) bytes.now text.items) }
+    ensures ok { IfOk result (λ pieces. IsAnswer (RunThreads threads slack) bytes.now (whole_of pieces.items)) }
     ensures err { IfErr result (IsFailureOn (RunThreads threads slack) bytes.now) }
 {
     let script = match read(alloc, bytes) {
@@ -62,8 +64,8 @@ pub fn threaded_text<H: Threads + Wait + Copy + Send + Sync + 'static>(
         Ok(report) => report,
         Err(fault) => return Err(Failure::Run(fault)),
     };
-    match print(alloc, &script, &report) {
-        Ok(text) => Ok(text),
+    match print_in_threads(rt, alloc, &script, &report) {
+        Ok(pieces) => Ok(pieces),
         Err(_) => Err(Failure::Run(RunFault::Memory)),
     }
 }

@@ -5,18 +5,6 @@ use Rattle.gw_tool.proofs.program.text_of.Goals as goal
 pub run_text-requires : goal.run_text-requires
 run_text-requires g c = search rules
 
-pub returns-in-Core-clause-ok : goal.returns-in-Core-clause-ok
-returns-in-Core-clause-ok g c = search rules
-
-pub returns-in-Run-clause-ok : goal.returns-in-Run-clause-ok
-returns-in-Run-clause-ok g c = search rules
-
-pub returns-in-Core-clause-err : goal.returns-in-Core-clause-err
-returns-in-Core-clause-err g c = search rules
-
-pub returns-in-Run-clause-err : goal.returns-in-Run-clause-err
-returns-in-Run-clause-err g c = search rules
-
 pub returns-in-RunThreads-clause-ok : goal.returns-in-RunThreads-clause-ok
 returns-in-RunThreads-clause-ok g c = search rules
 

@@ -13,11 +13,11 @@ returns-in-Err-threaded_report-clause-err g c = wants_either c.args.threads c.ar
 pub returns-clause-err : goal.returns-clause-err
 returns-clause-err g c = wants_memory (RunThreads c.args.threads c.args.slack)
 
-pub returns-in-Ok-print-clause-ok : goal.returns-in-Ok-print-clause-ok
-returns-in-Ok-print-clause-ok g c = record {
+pub returns-in-Ok-print_in_threads-clause-ok : goal.returns-in-Ok-print_in_threads-clause-ok
+returns-in-Ok-print_in_threads-clause-ok g c = record {
   script = c.in-Ok.script;
   reads = c.in-Ok.ensures.ok;
   report = c.in-Ok-threaded_report.report;
   run = c.in-Ok-threaded_report.ensures;
-  text_is = c.in-Ok-print.ensures.text;
+  text_is = c.in-Ok-print_in_threads.ensures.text;
 }

@@ -1,0 +1,35 @@
+-- Parts of the line of an event.
+use Rattle.std.specs.Prelude.{◌≡◌, ℕ, List, [], ◌∷◌, ◌++◌, All, vec_len, codes}
+use Rattle.std.specs.Fmt.{decimal}
+use Rattle.can_segment.specs.declared.event.Event.{Event}
+use Rattle.can_segment.specs.declared.event.Told.{Told}
+use Rattle.gw_config.specs.Scripts.{ScriptValue}
+use Rattle.gw_script.specs.NamedPlaces.{label_of}
+use Rattle.gw_script.specs.declared.repeats.Front.{Front}
+use Rattle.gw_script.specs.declared.repeats.End.{End}
+use Rattle.gw_script.specs.declared.repeats.Ends.{Ends}
+use Rattle.gw_script.specs.ReportTexts.{told_text, label_text}
+
+-- the beginning of the lines at a bit of the segment with this name
+abbrev pub front_text : List ℕ → ℕ → List ℕ
+front_text name bit = name ++ (codes " " ++ (decimal bit ++ codes " "))
+
+-- the end of a line that names no request
+abbrev pub end_text : Told → List ℕ
+end_text told = codes " " ++ (told_text told ++ (10 ∷ []))
+
+-- what stands behind the node's name in the line of an event of the segment at this place
+abbrev pub rest_text : ScriptValue → ℕ → Event → List ℕ
+rest_text s segment e = codes " " ++ (told_text e.told ++ (label_text s segment e.node (label_of e.told) ++ (10 ∷ [])))
+
+-- it has the text of its bit
+abbrev pub IsFront : List ℕ → Front → Type 0
+IsFront name front = front.text.items ≡ front_text name front.bit
+
+-- it has the text of what it tells
+abbrev pub IsEnd : End → Type 0
+IsEnd end = end.text.items ≡ end_text end.told
+
+-- those of so many nodes
+abbrev pub AreEnds : ℕ → Ends → Type 0
+AreEnds nodes ends = (vec_len ends.started ≡ nodes) × All IsEnd ends.started.items × IsEnd ends.last

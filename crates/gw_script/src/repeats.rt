@@ -1,0 +1,183 @@
+//! Parts of lines that stay the same in lines in a row.
+
+ghost use Rattle.std.specs.Prelude.{◌≡◌, ◌<◌, ◌++◌, true, None, vec_len, IfOk, OnOk};
+ghost use Rattle.can_segment.specs.declared.event.Told.TheVariants.{Started, Took, Lost};
+ghost use Rattle.gw_script.specs.LineParts.{front_text, end_text, IsFront, IsEnd, AreEnds};
+
+use crate::digits::push_decimal_and_space;
+use crate::event_text::push_told;
+use can_frame::Frame;
+use can_segment::Told;
+use std::alloc::{AllocError, Global};
+
+/// The beginning of the lines at a bit: the segment's name and the bit, with a space behind each.
+#[derive(Drop)]
+pub(crate) struct Front {
+    bit: u64,
+    text: Vec<u8>,
+}
+
+/// Writes the beginning of the lines at a bit in place of what is there.
+fn write_front(text: &mut Vec<u8>, name: &str, bit: u64) -> Result<(), AllocError>
+    ensures { OnOk result (text.new.items ≡ front_text name.now bit) }
+{
+    text.clear();
+    text.extend_from_slice(name.as_bytes())?;
+    text.extend_from_slice(b" ")?;
+    push_decimal_and_space(text, bit)
+}
+
+impl Front {
+    /// That of bit 0 of the segment with this name.
+    pub(crate) fn new(alloc: Global, name: &str) -> Result<Front, AllocError>
+        ensures { IfOk result (IsFront name.now) }
+    {
+        let mut text = Vec::new(alloc);
+        write_front(&mut text, name, 0)?;
+        Ok(Front { bit: 0, text })
+    }
+
+    /// Adds that of this bit. It is written anew only where the bit is another one than before.
+    pub(crate) fn push(
+        &mut self,
+        text: &mut Vec<u8>,
+        name: &str,
+        bit: u64,
+    ) -> Result<(), AllocError>
+        requires { IsFront name.now self.old }
+        ensures front { OnOk result (IsFront name.now self.new) }
+        ensures text { OnOk result (text.new.items ≡ text.old.items ++ front_text name.now bit) }
+    {
+        if self.bit != bit {
+            write_front(&mut self.text, name, bit)?;
+            self.bit = bit;
+        }
+        text.extend_from_slice(self.text.as_slice())
+    }
+}
+
+/// The end of a line that names no request: what happened, behind a space, and a line feed.
+#[derive(Drop)]
+pub(crate) struct End {
+    told: Told,
+    text: Vec<u8>,
+}
+
+/// Writes the end of a line in place of what is there.
+fn write_end(text: &mut Vec<u8>, told: &Told) -> Result<(), AllocError>
+    ensures { OnOk result (text.new.items ≡ end_text told.now) }
+{
+    text.clear();
+    push_told(text, told)?;
+    text.extend_from_slice(b"\n")
+}
+
+fn is_took(told: &Told, start: u64, frame: &Frame) -> bool
+    ensures { result ≡ true → told.now ≡ Took start frame.now }
+{
+    match told {
+        Told::Took {
+            start: since,
+            frame: taken,
+        } => *since == start && taken.is_same(frame),
+        _ => false,
+    }
+}
+
+fn is_lost(told: &Told, start: u64) -> bool
+    ensures { result ≡ true → told.now ≡ Lost start }
+{
+    match told {
+        Told::Lost { start: since } => *since == start,
+        _ => false,
+    }
+}
+
+fn is_started(told: &Told, frame: &Frame) -> bool
+    ensures { result ≡ true → told.now ≡ Started frame.now None }
+{
+    match told {
+        Told::Started {
+            frame: begun,
+            label: None,
+        } => begun.is_same(frame),
+        _ => false,
+    }
+}
+
+/// Whether the same was told of a node that started or took a frame or lost arbitration.
+fn is_told_again(told: &Told, last: &Told) -> bool
+    ensures { result ≡ true → last.now ≡ told.now }
+{
+    match told {
+        Told::Took { start, frame } => is_took(last, *start, frame),
+        Told::Lost { start } => is_lost(last, *start),
+        Told::Started { frame, label: None } => is_started(last, frame),
+        _ => false,
+    }
+}
+
+impl End {
+    /// That of a line which tells that a node is back.
+    pub(crate) fn new(alloc: Global) -> Result<End, AllocError>
+        ensures { IfOk result IsEnd }
+    {
+        let told = Told::Back;
+        let mut text = Vec::new(alloc);
+        write_end(&mut text, &told)?;
+        Ok(End { told, text })
+    }
+
+    /// Adds that of a line which tells this. It is written anew only where another thing was told before.
+    pub(crate) fn push(&mut self, text: &mut Vec<u8>, told: &Told) -> Result<(), AllocError>
+        requires { IsEnd self.old }
+        ensures end { OnOk result (IsEnd self.new) }
+        ensures text { OnOk result (text.new.items ≡ text.old.items ++ end_text told.now) }
+    {
+        if !is_told_again(told, &self.told) {
+            write_end(&mut self.text, told)?;
+            self.told = *told;
+        }
+        text.extend_from_slice(self.text.as_slice())
+    }
+}
+
+/// The ends of lines that may come again: of each node that of a frame which it started, since who loses arbitration
+/// starts the same frame once more; and the last one of all others.
+#[derive(Drop)]
+pub(crate) struct Ends {
+    started: Vec<End>,
+    last: End,
+}
+
+impl Ends {
+    /// Those of so many nodes.
+    pub(crate) fn new(alloc: Global, nodes: usize) -> Result<Ends, AllocError>
+        ensures { IfOk result (AreEnds nodes) }
+    {
+        let mut started = Vec::new(alloc);
+        for _node in 0..nodes {
+            started.push(End::new(alloc)?)?;
+        }
+        let last = End::new(alloc)?;
+        Ok(Ends { started, last })
+    }
+
+    /// Adds that of a line which tells this of a node and names no request.
+    pub(crate) fn push(
+        &mut self,
+        text: &mut Vec<u8>,
+        node: usize,
+        told: &Told,
+    ) -> Result<(), AllocError>
+        requires ends { AreEnds (vec_len self.old.started) self.old }
+        requires node { node < vec_len self.old.started }
+        ensures ends { OnOk result (AreEnds (vec_len self.old.started) self.new) }
+        ensures text { OnOk result (text.new.items ≡ text.old.items ++ end_text told.now) }
+    {
+        match told {
+            Told::Started { .. } => self.started[node].push(text, told),
+            _ => self.last.push(text, told),
+        }
+    }
+}
