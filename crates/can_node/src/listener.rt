@@ -43,8 +43,9 @@ impl Listener {
     }
 
     /// Follows the line through a bit at which all of them sample this level, and tells whether it did: then each
-    /// has told nothing and counted nothing that changes a count. Of their counts so much is `known`: where all are 0 it
-    /// follows a frame that is acknowledged too. Else it is as it was, and the nodes have to sample that level themselves.
+    /// has told nothing and counted nothing that changes a count. Of their counts so much is `known`: where all are 0
+    /// it follows a frame that is acknowledged too. Else it is as it was, and the nodes have to sample that level
+    /// themselves.
     #[inline(always)]
     pub fn follow(&mut self, bit: u64, level: bool, known: KnownCounts) -> bool
         ensures follows { result ≡ true → Follows known self.old bit level self.new }
@@ -135,8 +136,8 @@ impl Listener {
     }
 }
 
-/// What this answer of the reader makes of each node that reads a frame and of whose counts so much is known: `None` where
-/// that is not the same for all, or is seen of one.
+/// What this answer of the reader makes of each node that reads a frame and of whose counts so much is known: `None`
+/// where that is not the same for all, or is seen of one.
 fn reading_turn(
     start: u64,
     stage: Stage,

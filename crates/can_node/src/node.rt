@@ -184,10 +184,10 @@ impl Node {
         )
     }
 
-    /// One bit of a frame that the node sends while all others listen: what `drive` and `sample` and `Listener::follow` do
-    /// where the others read on in the stuffed region, in one step, and the level that the line has then. `None` where it
-    /// sends no frame, has come to its ACK slot, or the listener does not read on there with that level: then nothing is
-    /// changed.
+    /// One bit of a frame that the node sends while all others listen: what `drive`, `sample` and `Listener::follow`
+    /// do where the others read on in the stuffed region, in one step, and the level that the line has then. `None`
+    /// where it sends no frame, has come to its ACK slot, or the listener does not read on there with that level: then
+    /// nothing is changed.
     #[inline(always)]
     pub fn send_to(&mut self, listener: &mut Listener) -> Option<bool>
         requires { bit_of self.old < u64.MAX }

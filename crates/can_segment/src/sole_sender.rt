@@ -29,8 +29,8 @@ fn one_sends(
     members[place].send_to(bit, listener)
 }
 
-/// The level of the line at a bit at which all nodes rest and drive recessive, and the listener follows for them. `None`
-/// where they don't: then nothing is changed.
+/// The level of the line at a bit at which all nodes rest and drive recessive, and the listener follows for them.
+/// `None` where they don't: then nothing is changed.
 #[inline(always)]
 fn none_sends(rest: &mut Rest, bit: u64) -> Option<bool>
     requires { rest.old.resting ≡ true }
@@ -50,8 +50,8 @@ fn none_sends(rest: &mut Rest, bit: u64) -> Option<bool>
     Some(true)
 }
 
-/// The level of the line at a bit at which all nodes rest, or all but one that sends on, if no fault stands there. `None`
-/// where they don't: then nothing is changed.
+/// The level of the line at a bit at which all nodes rest, or all but one that sends on, if no fault stands there.
+/// `None` where they don't: then nothing is changed.
 #[inline(always)]
 fn level_at_rest(
     talkers: &mut [Member],
@@ -80,8 +80,8 @@ fn level_at_rest(
     none_sends(rest, bit)
 }
 
-/// The level of the line at a bit at which no fault stands, and all nodes rest or all but one that sends on. `None` where
-/// it is no such bit: then nothing is changed.
+/// The level of the line at a bit at which no fault stands, and all nodes rest or all but one that sends on. `None`
+/// where it is no such bit: then nothing is changed.
 #[inline(always)]
 pub(crate) fn quiet_level(
     talkers: &mut [Member],

@@ -42,8 +42,8 @@ fn threaded_report<H: Threads + Wait + Copy + Send + Sync + 'static>(
     }
 }
 
-/// The report on a run in threads of the script that the bytes are, in pieces: the routes by so many threads, and no segment more
-/// than so many bits ahead of another.
+/// The report on a run in threads of the script that the bytes are, in pieces: the routes by so many threads, and no
+/// segment more than so many bits ahead of another.
 pub fn threaded_text<H: Threads + Wait + Copy + Send + Sync + 'static>(
     rt: &H,
     alloc: Global,
