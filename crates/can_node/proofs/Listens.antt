@@ -89,12 +89,6 @@ other_errors Goes turn passive off is_passive is_off at_passive at_off ErrorActi
 other_errors Goes turn passive off is_passive is_off at_passive at_off Passive not = subst (Goes Passive) (sym is_passive) at_passive
 other_errors Goes turn passive off is_passive is_off at_passive at_off Off not = subst (Goes Off) (sym is_off) at_off
 
--- where something is known of the counts a node is error active
-pub known_active : (known : KnownCounts) (errors : ErrorState) → known ≢ Any → Admits known errors → errors ≡ ErrorActive
-known_active Any errors some may = absurd (some refl)
-known_active Active errors some may = may
-known_active Zero errors some may = may
-
 unseen_follows : (known : KnownCounts) (old new : Listener) (bit : ℕ) (level : Bool) (turn : Turn) → IsUnseen known turn → new.state ≡ turn.state →
     ((spelling : Spelling) (errors : ErrorState) → Admits known errors → Advances old.state old.reader spelling bit errors level turn new.reader) → Follows known old bit level new
 unseen_follows known old new bit level turn unseen state_is advances = follows_by known old new bit level (λ node counts. record {

@@ -206,7 +206,7 @@ pub record OneSends (place bit : ℕ) (before : Listener) (level : Bool) (after 
   pub step : MemberSends bit before level after from to
   pub moves : MovesOne place (MemberSends bit before level after) old new
 
--- A bit at which one node alone sends and all others rest: the line has the level that it drives.
+-- A bit at which all nodes rest, or all but one that sends: the line has the level that it drives, or else is recessive.
 pub record SendsAlone (bit : ℕ) (level : Bool) (old new : Rest) (t0 t1 c0 c1 : List Member) : Type 0 where
   pub goes_on : GoesOn old
   pub through : RestsThrough bit level true old new
