@@ -194,21 +194,18 @@ impl Node {
         ensures sends { IfSome result (λ level. SendsTo self.old listener.old level self.new listener.new) }
         ensures none { IfNone result ((self.new ≡ self.old) × (listener.new ≡ listener.old)) }
     {
-        let State::Sending(start, place) = self.state else {
+        // in place, since most bits of a bus are such
+        let State::Sending(_start, place) = &mut self.state else {
             return None;
         };
         if !is_in_region(listener.state) {
             return None;
         }
-        let spelling = self.spelling.spelling();
-        let level = spelling.level(place);
-        if !spelling.is_echo(place, level) {
-            return None;
-        }
+        let level = self.spelling.spelling().level_before_slot(*place)?;
         if !listener.reader.reads_on(level) {
             return None;
         }
-        self.state = State::Sending(start, place.saturating_add(1));
+        *place = place.saturating_add(1);
         self.clock += 1;
         Some(level)
     }

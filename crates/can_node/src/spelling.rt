@@ -1,6 +1,6 @@
 //! A frame as its sender drives it.
 
-ghost use Rattle.std.specs.Prelude.{◌≡◌, ◌≤◌, ◌<◌, ◌+◌, ◌∷◌, List, Bool, true, false, length, reverse, min, take};
+ghost use Rattle.std.specs.Prelude.{◌≡◌, ◌≤◌, ◌<◌, ◌+◌, ◌∷◌, List, Bool, true, false, IfSome, length, reverse, min, take};
 ghost use Rattle.can_node.specs.Sends.{rtr_place};
 ghost use Rattle.can_node.specs.Sending.{IsSpelling, IsBitAt, level_at, Tallies, SaysBit};
 
@@ -91,6 +91,16 @@ impl Spelling {
             return false;
         }
         level == self.level(place)
+    }
+
+    /// The level in this place, if that stands before the ACK slot.
+    pub(crate) fn level_before_slot(&self, place: u8) -> Option<bool>
+        ensures { IfSome result (λ level. (place + 9 < length self.now.levels.items) × (level ≡ level_at self.now place)) }
+    {
+        if usize::from(place) + 9 >= self.levels.len() {
+            return None;
+        }
+        Some(self.level(place))
     }
 
     /// What the bit in this place is.

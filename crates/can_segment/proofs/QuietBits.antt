@@ -1,19 +1,22 @@
 -- A segment behind a bit at which all nodes rested, or all but one that sent on.
-use Rattle.std.proofs.Common.{◌≡◌, ℕ, ◌+◌, ◌<◌, ◌++◌, ◌∷◌, [], Bool, Some, List, length, slice_get, refl, sym, ap, subst, arith, ◌∙◌, length-append}
+use Rattle.std.proofs.Common.{◌≡◌, ℕ, ◌+◌, ◌<◌, ◌≤◌, ◌++◌, ◌∷◌, [], Bool, Some, List, length, slice_get, refl, sym, ap, subst, arith, ◌∙◌, length-append}
 use Rattle.std.proofs.lemmas.List.{append-nil}
 use Rattle.can_segment.specs.declared.event.Event.{Event}
 use Rattle.can_segment.specs.declared.member.Member.{Member}
 use Rattle.can_segment.specs.declared.plan.SegmentPlan.{SegmentPlan}
 use Rattle.can_segment.specs.declared.record.Record.{Record}
 use Rattle.can_segment.specs.declared.rest.Rest.{Rest}
-use Rattle.can_segment.specs.FaultOrder.{IsFaultless}
+use Rattle.can_segment.specs.declared.fault_order.FaultOrder.{FaultOrder}
+use Rattle.can_segment.specs.FaultOrder.{IsFaultless, StandsAt}
 use Rattle.can_segment.specs.Kept.{SegmentKept}
 use Rattle.can_segment.specs.Members.{Samples, SamplesAndSettles}
 use Rattle.can_segment.specs.Moves.{NodesMove}
 use Rattle.can_segment.specs.Ports.{item_of}
 use Rattle.can_segment.specs.Rests.{RestHolds, SendsAlone, TransmitsAll, controllers_at, talkers_at}
-use Rattle.can_segment.specs.Segments.{AreFrom, SegmentHolds, sending_of_all}
+use Rattle.can_segment.specs.Segments.{AreFrom, SegmentHolds, SegmentValue, sending_of_all}
 use Rattle.can_segment.specs.Tellings.{bit_lines}
+use Rattle.can_segment.specs.QuietBits.{GrowsQuietly, MakesQuietBit, MakeQuietBits}
+use Rattle.can_segment.specs.QuietBits.MakeQuietBits.{no_bit, one_more}
 use Rattle.can_segment.proofs.Keeps.{kept_on}
 use Rattle.can_segment.proofs.Places.{same_some}
 use Rattle.can_segment.proofs.Quiet.{quiet_lines}
@@ -93,3 +96,62 @@ holds_quietly plan made next level old new t0 t1 c0 c1 held quiet h levels_is ev
           (shown_on (length talkers) old.controller bit old.listener new.listener level c0 c1 made.counters.items h.controllers
           (subst (λ n. AreFrom n c0 made.counters.items) size (from_whole (length (talkers_at old bit t0)) old old.controller bit c0 made.counters.items held.controllers_shown))));
     })
+
+-- so the record that grew quietly is that of a run, behind which all stands,
+pub grown_kept : (plan : SegmentPlan) (faults : FaultOrder) (made next : Record) (old new : Rest) (t0 t1 c0 c1 : List Member) (h : GrowsQuietly faults made next old new t0 t1 c0 c1) →
+    SegmentHolds plan made (talkers_at old (length made.levels.items) t0) (controllers_at old (length made.levels.items) c0) → length made.levels.items < plan.bits → StandsAt plan (length made.levels.items) faults →
+    RestHolds old (length made.levels.items) plan.talkers.items t0 c0 → KeptQuietly plan made.levels.items made.events.items h.level new t1 c1
+grown_kept plan faults made next old new t0 t1 c0 c1 h holds still stands rests =
+    kept_quietly plan made.levels.items made.events.items h.level old new t0 t1 c0 c1 holds.kept still h.sends rests (h.faultless plan stands)
+
+pub grown_holds : (plan : SegmentPlan) (faults : FaultOrder) (made next : Record) (old new : Rest) (t0 t1 c0 c1 : List Member) → GrowsQuietly faults made next old new t0 t1 c0 c1 →
+    SegmentHolds plan made (talkers_at old (length made.levels.items) t0) (controllers_at old (length made.levels.items) c0) → length made.levels.items < plan.bits → StandsAt plan (length made.levels.items) faults →
+    RestHolds old (length made.levels.items) plan.talkers.items t0 c0 →
+    SegmentHolds plan next (talkers_at new (length next.levels.items) t1) (controllers_at new (length next.levels.items) c1)
+grown_holds plan faults made next old new t0 t1 c0 c1 h holds still stands rests =
+    holds_quietly plan made next h.level old new t0 t1 c0 c1 holds (grown_kept plan faults made next old new t0 t1 c0 c1 h holds still stands rests) h.sends h.levels_is (ap (λ v. v.items) h.events_is) (ap (λ v. v.items) h.counters_is)
+
+-- and its nodes rest on
+pub grown_rests : (plan : SegmentPlan) (faults : FaultOrder) (made next : Record) (old new : Rest) (t0 t1 c0 c1 : List Member) → GrowsQuietly faults made next old new t0 t1 c0 c1 →
+    RestHolds old (length made.levels.items) plan.talkers.items t0 c0 → RestHolds new (length next.levels.items) plan.talkers.items t1 c1
+grown_rests plan faults made next old new t0 t1 c0 c1 h rests =
+    subst (λ n. RestHolds new n plan.talkers.items t1 c1) (sym (ap length h.levels_is ∙ length-append made.levels.items (h.level ∷ [])))
+    (rests_alone plan.talkers.items (length made.levels.items) h.level old new t0 t1 c0 c1 h.sends rests)
+
+-- quiet bits so far, so many levels in all
+pub record QuietSoFar (old new : SegmentValue) (made : ℕ) : Type 0 where
+  pub bits : MakeQuietBits old new
+  pub plan_is : new.plan ≡ old.plan
+  pub here : length new.levels ≡ made
+  pub still : length old.levels ≤ old.plan.bits → length new.levels ≤ new.plan.bits
+
+pub quiet_start : (segment : SegmentValue) (made : ℕ) → length segment.levels ≡ made → QuietSoFar segment segment made
+quiet_start segment made here = record { bits = no_bit; plan_is = refl; here = here; still = λ h. h }
+
+pub quiet_more : (old mid new : SegmentValue) (made : ℕ) → MakesQuietBit mid new → length mid.levels < mid.plan.bits → QuietSoFar old mid made → QuietSoFar old new (made + 1)
+quiet_more old mid new made bit less h =
+    let longer : length new.levels ≡ length mid.levels + 1 = ap length bit.levels_is ∙ length-append mid.levels (bit.level ∷ []) in
+    record {
+      bits = one_more h.bits bit;
+      plan_is = bit.plan_is ∙ h.plan_is;
+      here = omega (arith, longer, h.here);
+      still = λ within. omega (arith, longer, less, ap (λ (p : SegmentPlan). p.bits) bit.plan_is);
+    }
+
+-- what quiet bits leave of a segment, whatever its ports are
+pub record LeftQuietly (old new : SegmentValue) : Type 0 where
+  pub plan_is : new.plan ≡ old.plan
+  pub events_is : new.events ≡ old.events
+  pub sending_is : new.sending ≡ old.sending
+  pub longer : length old.levels ≤ length new.levels
+
+pub left_quietly : {old new : SegmentValue} → MakeQuietBits old new → LeftQuietly old new
+left_quietly no_bit = record { plan_is = refl; events_is = refl; sending_is = refl; longer = omega arith }
+left_quietly (one_more {mid = mid} bits bit) =
+    let before = left_quietly bits in
+    record {
+      plan_is = bit.plan_is ∙ before.plan_is;
+      events_is = bit.events_is ∙ before.events_is;
+      sending_is = bit.sending_is ∙ before.sending_is;
+      longer = omega (arith, before.longer, ap length bit.levels_is, length-append mid.levels (bit.level ∷ []));
+    }

@@ -1,8 +1,7 @@
 -- Nodes that are left alone while a listener follows the line for them.
-use Rattle.std.proofs.Common.{◌≡◌, ◌≢◌, ◌⊎◌, ℕ, zero, suc, ◌+◌, ◌≤◌, ◌==◌, ◌&&◌, nat_le, inl, inr, cond, Bool, true, false, Option, None, Some, IfSome, is_some, List, [], ◌∷◌, ◌++◌, length, slice_get, refl, sym, ap, subst, arith, ◌∙◌}
+use Rattle.std.proofs.Common.{◌≡◌, ◌≢◌, ◌⊎◌, ℕ, zero, suc, ◌+◌, ◌≤◌, ◌==◌, ◌&&◌, nat_le, inl, inr, cond, Bool, true, false, Option, None, Some, is_some, List, [], ◌∷◌, length, slice_get, refl, sym, ap, subst, arith, ◌∙◌}
 use Rattle.std.specs.List.{list_all}
 use Rattle.std.proofs.lemmas.Bool.Decides.{eqb_tells, leb_tells}
-use Rattle.std.proofs.lemmas.List.{append-nil}
 use Rattle.std.proofs.lemmas.Option.{slice_get_within}
 use Rattle.can_frame.specs.Frames.{FrameValue}
 use Rattle.bx_core.specs.TxBus.{Item, BusPast, BusCall}
@@ -13,14 +12,13 @@ use Rattle.can_node.specs.Node.{IsSample, IsWanting, StandsAfter, counters_in, d
 use Rattle.can_node.specs.declared.node.Node.{Node}
 use Rattle.can_node.specs.declared.listener.Listener.{Listener}
 use Rattle.can_node.proofs.Samples.{stands_history, wanting}
-use Rattle.can_segment.specs.declared.member.Deed.{Deed}
 use Rattle.can_segment.specs.declared.member.Member.{Member}
 use Rattle.can_segment.specs.declared.plan.Talker.{Talker}
 use Rattle.can_segment.specs.declared.rest.Rest.{Rest}
 use Rattle.can_segment.specs.Kept.{AreQuiet, IsQuiet}
-use Rattle.can_segment.specs.Members.{PortSettles, PortStarts, Samples, SamplesOn, TalkerStarts, drives_at, is_on, settled_at, taken_at, wants_at}
+use Rattle.can_segment.specs.Members.{PortSettles, PortStarts, Samples, SamplesOn, TalkerStarts, drives_at, is_on}
 use Rattle.can_segment.specs.Places.{AtPlaces, AtBoth, MovesOne, MovesBoth}
-use Rattle.can_segment.specs.Ports.{Reaps, Undone, asked_at, begun_at, item_of, settled, started, started_item, taken_by}
+use Rattle.can_segment.specs.Ports.{item_of}
 use Rattle.can_segment.specs.Stations.{IsTalk}
 use Rattle.can_segment.specs.Rests.{ControllersRest, Drives, GoesOn, HasOther, IsQuietOne, IsResting, RestHolds, RestsThrough, StartsNone, TalkersRest, TransmitsAll, Wakes, all_but, caught_up, controllers_at, passes, talkers_at, woken}
 use Rattle.can_segment.specs.Traces.{completed_by, sending_after}
@@ -28,7 +26,7 @@ use Rattle.can_segment.proofs.Unmoved.{unmoved_requests, unmoved_settles}
 use Rattle.can_segment.proofs.AllBut.{all_fails, but_at, but_here, but_length, but_other, but_passes, one_place, one_both}
 
 -- two lists of the same size that agree at each place
-same_list : {X : Type 0} (xs ys : List X) → length ys ≡ length xs → ((k : ℕ) (x y : X) → slice_get xs k ≡ Some x → slice_get ys k ≡ Some y → y ≡ x) → ys ≡ xs
+pub same_list : {X : Type 0} (xs ys : List X) → length ys ≡ length xs → ((k : ℕ) (x y : X) → slice_get xs k ≡ Some x → slice_get ys k ≡ Some y → y ≡ x) → ys ≡ xs
 same_list [] [] e h = refl
 same_list [] (y ∷ ys) e h = absurd (omega (arith, e))
 same_list (x ∷ xs) [] e h = absurd (omega (arith, e))
@@ -149,7 +147,7 @@ talkers_rested rest bit plan t0 t1 Step rests moves = record {
 }
 
 -- no controller wants to start where it rests
-wishes_none : (rest : Rest) (bit : ℕ) (controllers : List Member) → GoesOn rest → ControllersRest rest bit controllers → (k : ℕ) (m : Member) → slice_get controllers k ≡ Some m →
+pub wishes_none : (rest : Rest) (bit : ℕ) (controllers : List Member) → GoesOn rest → ControllersRest rest bit controllers → (k : ℕ) (m : Member) → slice_get controllers k ≡ Some m →
     (node : Node) (next : ℕ) → may_begin (node_caught_up node rest.listener next) ≡ false
 wishes_none rest bit controllers goes rests k m e = elim goes.starts_none [
   | inl spent ↦ (λ node next. absurd (let none = rests.spent spent in let within = slice_get_within controllers k m e in omega (arith, within, none)))

@@ -1,27 +1,30 @@
 -- A bit at which one node alone sends, and all others rest.
-use Rattle.std.proofs.Common.{◌≡◌, ◌≢◌, ◌⊎◌, ℕ, ◌+◌, ◌≤◌, ◌&&◌, nat_le, cond, Bool, true, false, Some, None, IfSome, Option, List, [], length, slice_get, refl, sym, ap, subst, arith, inl, inr, ◌∙◌}
+use Rattle.std.proofs.Common.{◌≡◌, ◌⊎◌, ℕ, ◌+◌, ◌≤◌, ◌&&◌, nat_le, cond, Bool, true, false, Some, None, IfSome, Option, List, [], length, slice_get, refl, sym, ap, subst, arith, inl, inr, ◌∙◌}
 use Rattle.std.specs.List.{list_all}
 use Rattle.std.proofs.lemmas.Bool.{cases_eq}
 use Rattle.std.proofs.lemmas.Bool.Decides.{leb_tells}
+use Rattle.std.proofs.lemmas.List.{length-map}
 use Rattle.std.proofs.lemmas.Option.{slice_get_past, slice_get_within}
 use Rattle.bx_core.specs.TxBus.{Item, BusPast, BusCall}
 use Rattle.can_frame.specs.Frames.{FrameValue}
-use Rattle.can_node.specs.Node.{IsSample, driven_by}
+use Rattle.can_node.specs.Node.{IsSample, driven_by, may_begin}
 use Rattle.can_node.specs.declared.counters.Counters.{Counters}
 use Rattle.can_node.specs.declared.listener.Listener.{Listener}
 use Rattle.can_segment.specs.declared.member.Member.{Member}
 use Rattle.can_segment.specs.declared.plan.Talker.{Talker}
 use Rattle.can_segment.specs.declared.rest.Rest.{Rest}
 use Rattle.can_segment.specs.Kept.{AreQuiet, IsQuiet}
-use Rattle.can_segment.specs.Members.{PortSettles, PortStarts, Samples, SamplesOn, TalkerStarts, drives_at}
+use Rattle.can_segment.specs.Members.{PortSettles, PortStarts, Samples, SamplesOn, TalkerStarts, drives_at, is_on, wants_at}
 use Rattle.can_segment.specs.Places.{AtPlaces, AtBoth, MovesOne, MovesBoth}
 use Rattle.can_segment.specs.Ports.{item_of}
-use Rattle.can_segment.specs.Rests.{ControllersRest, Drives, GoesOn, HasOther, IsQuietOne, MemberSends, OneSends, RestHolds, RestsThrough, SendsAlone, TalkersRest, TransmitsAll, controllers_at, passes, talkers_at}
-use Rattle.can_segment.specs.Segments.{AreFrom}
+use Rattle.can_segment.specs.Rests.{ControllersRest, Drives, GoesOn, HasOther, IsQuietOne, MemberSends, OneSends, RestHolds, RestsThrough, SendsAlone, TalkersRest, TransmitsAll, caught_up, controllers_at, passes, talkers_at}
+use Rattle.can_segment.specs.Segments.{AreFrom, sending_of_all}
 use Rattle.can_segment.specs.Traces.{completed_by, sending_after}
 use Rattle.can_segment.proofs.NextBits.{some_there}
+use Rattle.can_segment.proofs.AllBut.{but_at}
 use Rattle.can_segment.proofs.Places.{same_some}
-use Rattle.can_segment.proofs.Rests.{controllers_rest_on, controllers_sample, controllers_start, few_drive, one_quiet, some_stays, talkers_rest_on, talkers_sample, talkers_start, transmits_real}
+use Rattle.can_segment.proofs.Shown.{map_at, map_there}
+use Rattle.can_segment.proofs.Rests.{controllers_rest_on, controllers_sample, controllers_start, few_drive, one_quiet, resting_woken, same_list, some_stays, talkers_rest_on, talkers_sample, talkers_start, transmits_real, wishes_none}
 use Rattle.can_segment.proofs.Unmoved.{unmoved_requests, unmoved_settles, unmoved_talks}
 
 still_quiet : (bit : ℕ) (before after : Listener) (level : Bool) (old new : Member) → MemberSends bit before level after old new → IsQuiet new.deed
@@ -265,3 +268,35 @@ rests_alone plan bit level old new t0 t1 c0 c1 h rests =
           (subst (λ place. HasOther place t0 ⊎ HasOther new.controller c0) (sym through.talker_is)
           (subst (λ place. HasOther old.talker t0 ⊎ HasOther place c0) (sym through.controller_is) (rests.some_rests rested)));
     }
+
+and_false : (b : Bool) → (b && false) ≡ false
+and_false true = refl
+and_false false = refl
+
+-- no controller wants to start,
+pub wishes_alone : (bit : ℕ) (level : Bool) (old new : Rest) (t0 t1 c0 c1 : List Member) → SendsAlone bit level old new t0 t1 c0 c1 → ControllersRest old bit c0 → (k : ℕ) (m : Member) → slice_get (controllers_at old bit c0) k ≡ Some m →
+    wants_at bit m ≡ false
+wishes_alone bit level old new t0 t1 c0 c1 h rests k m e =
+    elim (but_at old.controller (caught_up old.listener bit) c0 k m (ap (λ ms. slice_get ms k) (sym (resting_woken old old.controller bit c0 h.through.rested)) ∙ e)) [
+      | inl here ↦ none_at m (sends_there old.controller bit old.listener new.listener level c0 c1 m h.controllers (ap (slice_get c0) (sym here.0) ∙ here.1)).2.sends.begins_none
+      | inr other ↦ none_at m (ap (λ x. may_begin x.station.node) (sym other.3) ∙ wishes_none old bit c0 h.goes_on rests k other.0 other.2 other.0.station.node bit)
+    ]
+  where
+    none_at : (x : Member) → may_begin x.station.node ≡ false → wants_at bit x ≡ false
+    none_at x is = ap (λ b. is_on bit x && b) is ∙ and_false (is_on bit x)
+
+-- and each has on the bus what it had
+pub sending_alone : (bit : ℕ) (level : Bool) (old new : Rest) (t0 t1 c0 c1 : List Member) → SendsAlone bit level old new t0 t1 c0 c1 → ControllersRest old bit c0 →
+    sending_of_all (controllers_at new (bit + 1) c1) ≡ sending_of_all (controllers_at old bit c0)
+sending_alone bit level old new t0 t1 c0 c1 h rests =
+    let whole = controllers_at old bit c0 in
+    let behind = controllers_at new (bit + 1) c1 in
+    let item : Member → Option Item = λ member. item_of member.station.sending in
+    let ports = sending_of_all whole in
+    let sends : TransmitsAll (λ p. p) whole ports = λ k m p e f. same_some p (item m) (sym f ∙ map_there item whole k m e) in
+    let settles = controllers_settle_alone (λ p past. Unit {0}) (λ p calls. Unit {0}) (λ p. p) (λ p past. Unit {0}) (λ p q. Unit {0}) bit level old new t0 t1 c0 c1 ports (λ p. tt) h rests sends in
+    same_list ports (sending_of_all behind) (length-map behind item ∙ settles.size ∙ sym (length-map whole item))
+    (λ k x y e f.
+    let m = map_at item behind k y f in
+    let a = map_at item whole k x e in
+    sym m.2 ∙ sym ((settles.at k a.0 m.0 x x a.1 m.1 e e).transmits))

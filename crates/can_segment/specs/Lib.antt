@@ -16,3 +16,4 @@ pub mod Attempts
 pub mod Copies
 pub mod FaultOrder
 pub mod Rests
+pub mod QuietBits

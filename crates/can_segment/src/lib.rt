@@ -2,6 +2,7 @@
 #![tactic(auto)]
 
 mod all_nodes;
+mod counts_shown;
 mod event;
 mod fault_order;
 mod faults;

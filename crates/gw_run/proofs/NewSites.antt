@@ -1,12 +1,9 @@
 -- Segments before the first bit, with new mailboxes at each controller.
-use Rattle.std.proofs.Common.{◌≡◌, ℕ, ◌≤◌, Some, List, length, slice_get, sym, ap, subst, arith, ◌∙◌}
+use Rattle.std.proofs.Common.{◌≡◌, ℕ, ◌≤◌, List, length, arith}
 use Rattle.std.proofs.lemmas.Option.{slice_get_within}
 use Rattle.can_segment.proofs.NextBits.{some_there}
-use Rattle.can_segment.proofs.Places.{same_some}
-use Rattle.gw_config.specs.Controllers.{ControllerValue}
-use Rattle.gw_config.specs.Nodes.{controller_places}
 use Rattle.gw_config.specs.Scripts.{ScriptValue}
-use Rattle.gw_site.proofs.Pairs.{PairsBelow, pair_at}
+use Rattle.gw_site.proofs.Pairs.{PairsBelow}
 use Rattle.gw_opening.specs.Openings.{IsNewSite, AreNewSites, HaveMails}
 use Rattle.gw_run.specs.Ports.{Site, IsNewMail}
 use Rattle.gw_run.specs.Sites.{StartsSite}

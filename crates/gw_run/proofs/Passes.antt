@@ -1,5 +1,5 @@
 -- What the passes over segments and routes make of the bits made.
-use Rattle.std.proofs.Common.{◌≡◌, ℕ, ◌+◌, inl, inr, Some, List, length, set, slice_get, refl, sym, ap, subst, arith, ◌∙◌}
+use Rattle.std.proofs.Common.{◌≡◌, ℕ, inl, inr, Some, List, length, set, slice_get, refl, sym, ap, subst, arith, ◌∙◌}
 use Rattle.std.proofs.lemmas.List.{length-set}
 use Rattle.std.proofs.lemmas.Option.{slice_get_within}
 use Rattle.can_segment.specs.Places.{AtPlaces}
@@ -7,8 +7,8 @@ use Rattle.can_segment.proofs.Places.{same_some}
 use Rattle.can_segment.proofs.NextBits.{some_there}
 use Rattle.gw_opening.specs.declared.lane.Lane.{Lane}
 use Rattle.gw_run.specs.Ports.{Site}
-use Rattle.gw_run.specs.Sites.{SiteMoves}
-use Rattle.gw_run.specs.Worlds.{LaneKeeps, LanesKeep, LaneTurns, SameSegments, HaveMade}
+use Rattle.gw_run.specs.Sites.{SiteMakes, SiteMoves}
+use Rattle.gw_run.specs.Worlds.{LaneKeeps, LanesKeep, LaneTurns, SameSegments, AreOfBits, HaveMade}
 use Rattle.gw_run.proofs.WorldTurns.{lane_cases}
 use Rattle.gw_opening.proofs.Changes.{place_cases}
 
@@ -27,20 +27,33 @@ segments_turn first old new lane after t s = record {
   size = t.at.sites_size ∙ s.size;
 }
 
-pub made_turns : (bits made : ℕ) (old new : List Site) → SameSegments old new → HaveMade bits made old → HaveMade bits made new
-made_turns bits made old new s h = record {
+of_bits_turns : (bits : ℕ) (old new : List Site) → SameSegments old new → AreOfBits bits old → AreOfBits bits new
+of_bits_turns bits old new s h = record {
   plans = λ i site e. (let before = some_there old i (let within = slice_get_within new i site e in omega (arith, within, s.size)) in
       ap (λ v. v.plan.bits) (s.at i before.0 site before.1 e) ∙ h.plans i before.0 before.1);
-  levels = λ i site e. (let before = some_there old i (let within = slice_get_within new i site e in omega (arith, within, s.size)) in
-      ap (λ v. length v.levels) (s.at i before.0 site before.1 e) ∙ h.levels i before.0 before.1);
+  at_most = λ i site e. (let before = some_there old i (let within = slice_get_within new i site e in omega (arith, within, s.size)) in
+      omega (arith, ap (λ v. length v.levels) (s.at i before.0 site before.1 e), h.at_most i before.0 before.1));
 }
 
-pub made_bits : (bits made : ℕ) (old new : List Site) → AtPlaces (λ i. SiteMoves) old new → HaveMade bits made old → HaveMade bits (made + 1) new
-made_bits bits made old new m h = record {
-  plans = λ i site e. (let before = some_there old i (let within = slice_get_within new i site e in omega (arith, within, m.size)) in
-      ap (λ p. p.bits) (m.at i before.0 site before.1 e).plan_is ∙ h.plans i before.0 before.1);
-  levels = λ i site e. (let before = some_there old i (let within = slice_get_within new i site e in omega (arith, within, m.size)) in
-      omega (arith, (m.at i before.0 site before.1 e).longer, h.levels i before.0 before.1));
+pub made_turns : (bits made : ℕ) (old new : List Site) → SameSegments old new → HaveMade bits made old → HaveMade bits made new
+made_turns bits made old new s h = record {
+  of_bits = of_bits_turns bits old new s h.of_bits;
+  at_least = λ i site e. (let before = some_there old i (let within = slice_get_within new i site e in omega (arith, within, s.size)) in
+      omega (arith, ap (λ v. length v.levels) (s.at i before.0 site before.1 e), h.at_least i before.0 before.1));
+}
+
+-- bits of all segments
+pub moves_of : (made bits : ℕ) (old new : List Site) → AtPlaces (λ i. SiteMakes made bits) old new → AtPlaces (λ i. SiteMoves) old new
+moves_of made bits old new m = record { at = λ i a b p q. (m.at i a b p q).moves; size = m.size }
+
+pub made_bits : (bits next : ℕ) (old new : List Site) → AtPlaces (λ i. SiteMakes next bits) old new → AreOfBits bits old → HaveMade bits next new
+made_bits bits next old new m h = record {
+  of_bits = record {
+    plans = λ i site e. (let before = some_there old i (let within = slice_get_within new i site e in omega (arith, within, m.size)) in
+        ap (λ p. p.bits) (m.at i before.0 site before.1 e).moves.plan_is ∙ h.plans i before.0 before.1);
+    at_most = λ i site e. (let before = some_there old i (let within = slice_get_within new i site e in omega (arith, within, m.size)) in (m.at i before.0 site before.1 e).at_most);
+  };
+  at_least = λ i site e. (let before = some_there old i (let within = slice_get_within new i site e in omega (arith, within, m.size)) in (m.at i before.0 site before.1 e).at_least);
 }
 
 keeps_self : (lane : Lane) → LaneKeeps lane lane

@@ -1,21 +1,25 @@
 //! A segment of a run in one thread, bit by bit.
 
-ghost use Rattle.std.specs.Prelude.{◌<◌, OnOk, length};
-ghost use Rattle.gw_run.specs.Sites.{SiteHolds, SiteMoves};
+ghost use Rattle.std.specs.Prelude.{◌≡◌, ◌≤◌, OnOk, length};
+ghost use Rattle.gw_run.specs.Sites.{SiteHolds, SiteMakes};
 
 use crate::port::Site;
 use can_frame::Memory;
-use gw_site::make_bit;
+use gw_site::make_bits;
 use std::sync::Wait;
 
-/// One more bit of a segment with its controllers. `Memory` where the record could not grow.
-pub(crate) fn bit_of<R: Wait>(rt: &R, site: &mut Site) -> Result<(), Memory>
+/// A segment with its controllers makes bits until there are so many, of all that it has to make, unless there are already;
+/// and behind them such as need no port, which are the same whenever they are made. `Memory` where the record could not
+/// grow.
+pub(crate) fn bits_of<R: Wait>(rt: &R, site: &mut Site, until: u64, bits: u64) -> Result<(), Memory>
     requires holds { SiteHolds site.old.segment site.old.ports.items }
-    requires still { length site.old.segment.levels < site.old.segment.plan.bits }
-    ensures { OnOk result (SiteMoves site.old site.new) }
+    requires plan { site.old.segment.plan.bits ≡ bits }
+    requires until { until ≤ bits }
+    requires at_most { length site.old.segment.levels ≤ bits }
+    ensures { OnOk result (SiteMakes until bits site.old site.new) }
 {
-    match make_bit(rt, &mut site.segment, site.ports.as_mut_slice()) {
-        Ok(()) => Ok(()),
-        Err(memory) => Err(memory),
+    while (site.segment.record().levels.len() as u64) < until {
+        make_bits(rt, &mut site.segment, site.ports.as_mut_slice(), bits)?;
     }
+    Ok(())
 }

@@ -5,26 +5,33 @@ ghost use Rattle.can_segment.specs.Places.{AtPlaces};
 ghost use Rattle.gw_opening.specs.declared.lane.Lane.{Lane};
 ghost use Rattle.gw_run.specs.Ports.{Site};
 ghost use Rattle.gw_run.specs.Sites.{SiteHolds, SiteMoves};
-ghost use Rattle.gw_run.specs.Worlds.{Leads, LaneTurns, LanesKeep, SitesKeep, WorldHolds, SameSegments, HaveMade, CountsTurn, HaveTurned, NoneShort};
+ghost use Rattle.gw_run.specs.Worlds.{Leads, LaneTurns, LanesKeep, SitesKeep, WorldHolds, SameSegments, AreOfBits, HaveMade, CountsTurn, HaveTurned, NoneShort};
 
 use crate::lane::turn_on;
 use crate::port::Site;
-use crate::site::bit_of;
+use crate::site::bits_of;
 use can_frame::Memory;
 use gw_opening::Lane;
 use std::sync::Wait;
 
-/// One more bit of each segment, in their order.
-pub(crate) fn make_bits<R: Wait>(rt: &R, sites: &mut [Site]) -> Result<(), Memory>
+/// The bits of each segment, in their order, until each has made so many of all that it has to make. Some may be ahead by
+/// bits at which no port is needed, before and behind it.
+pub(crate) fn make_bits<R: Wait>(
+    rt: &R,
+    sites: &mut [Site],
+    until: u64,
+    bits: u64,
+) -> Result<(), Memory>
     requires holds { (i : ℕ) (site : Site) → slice_get sites.old i ≡ Some site → SiteHolds site.segment site.ports.items }
-    requires still { (i : ℕ) (site : Site) → slice_get sites.old i ≡ Some site
-        → length site.segment.levels < site.segment.plan.bits }
+    requires plans { AreOfBits bits sites.old }
+    requires until { until ≤ bits }
+    ensures made { OnOk result (HaveMade bits until sites.new) }
     ensures moves { OnOk result (AtPlaces (λ i. SiteMoves) sites.old sites.new) }
     ensures world { OnOk result ((lanes : List Lane) → WorldHolds sites.old lanes → WorldHolds sites.new lanes) }
     ensures keeps { OnOk result ((lanes : List Lane) → SitesKeep lanes sites.old sites.new) }
 {
     for place in 0..sites.len() {
-        bit_of(rt, &mut sites[place])?;
+        bits_of(rt, &mut sites[place], until, bits)?;
     }
     Ok(())
 }
@@ -74,7 +81,7 @@ fn is_multiple(made: u64, turn: u64) -> bool
     turn == 1 || made % turn == 0
 }
 
-/// One bit of each segment, and a turn of each route where the bits made are a multiple of this.
+/// This bit of each segment, and a turn of each route where the bits made are a multiple of this.
 fn step<R: Wait>(
     rt: &R,
     sites: &mut [Site],
@@ -96,7 +103,7 @@ fn step<R: Wait>(
     ensures lanes { OnOk result (LanesKeep lanes.old lanes.new) }
     ensures keeps { OnOk result (SitesKeep lanes.old sites.old sites.new) }
 {
-    make_bits(rt, sites)?;
+    make_bits(rt, sites, bit + 1, bits)?;
     if !is_multiple(bit + 1, turn) {
         return Ok(());
     }
@@ -124,6 +131,10 @@ pub(crate) fn make_all<R: Wait>(
     ensures lanes { OnOk result (LanesKeep lanes.old lanes.new) }
     ensures keeps { OnOk result (SitesKeep lanes.old sites.old sites.new) }
 {
+    if lanes.is_empty() {
+        // then no segment knows of another
+        return make_bits(rt, sites, bits, bits);
+    }
     for bit in 0..bits {
         step(rt, sites, lanes, bits, bit, turn)?;
     }

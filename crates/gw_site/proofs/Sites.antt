@@ -1,14 +1,16 @@
 -- A bit of a segment keeps what its controllers did as the record tells it, whatever their ports are.
-use Rattle.std.proofs.Common.{◌≡◌, ℕ, ◌+◌, Bool, Option, List, [], ◌∷◌, ◌++◌, length, refl, sym, ap, subst, arith, ◌∙◌, length-append}
+use Rattle.std.proofs.Common.{◌≡◌, ℕ, ◌+◌, Bool, Option, slice_get, List, [], ◌∷◌, ◌++◌, length, refl, sym, ap, subst, arith, ◌∙◌, length-append}
 use Rattle.std.proofs.lemmas.Option.{slice_get_within}
 use Rattle.can_frame.specs.Frames.{FrameValue}
 use Rattle.bx_core.specs.TxBus.{Item, BusPast, BusCall, no_bus_past}
 use Rattle.can_segment.specs.declared.event.Event.{Event}
+use Rattle.can_segment.specs.declared.plan.SegmentPlan.{SegmentPlan}
 use Rattle.can_segment.specs.Brought.{told_of, all_in, taken_in, grown, StartsUndone, IsBrought}
 use Rattle.can_segment.specs.Segments.{SegmentValue, Fit, MakesBit}
 use Rattle.can_segment.proofs.Brought.{of-append, all-append, grown-append, starts_undone-append}
 use Rattle.can_segment.proofs.NextBits.{some_there}
 use Rattle.can_segment.proofs.Places.{same_some}
+use Rattle.can_segment.proofs.QuietBits.{LeftQuietly}
 use Rattle.gw_site.specs.Sites.{PortHolds, SiteHolds, PortsLeave}
 
 module _ {P : Type 0} (after : P → BusPast → Type 0) (asked : P → List BusCall → Type 0) (transmitting : P → Option Item) (sink : P → List FrameValue → Type 0) (stays : P → P → Type 0) where
@@ -45,6 +47,25 @@ module _ {P : Type 0} (after : P → BusPast → Type 0) (asked : P → List Bus
         (m.ports k sends.0 p q sends.1 e f).stays_on);
     size = m.size;
   }
+
+-- so do bits at which no port is needed
+pub site_quietly : {P : Type 0} (after : P → BusPast → Type 0) (transmitting : P → Option Item) (sink : P → List FrameValue → Type 0) (old new : SegmentValue) (ports : List P) → LeftQuietly old new →
+    SiteHolds after transmitting sink old ports → SiteHolds after transmitting sink new ports
+site_quietly after transmitting sink old new ports left h = record {
+  fit = record {
+    size = h.fit.size ∙ ap length (sym left.sending_is);
+    transmits = λ k sends p e f. h.fit.transmits k sends p (ap (λ all. slice_get all k) (sym left.sending_is) ∙ e) f;
+  };
+  each = λ k port e.
+      let was = h.each k port e in
+      let same : told_of (length new.plan.talkers.items + k) new.events ≡ told_of (length old.plan.talkers.items + k) old.events = ap (λ (plan : SegmentPlan). told_of (length plan.talkers.items + k) new.events) left.plan_is ∙ ap (told_of (length old.plan.talkers.items + k)) left.events_is in
+      record {
+        bus = subst (λ told. after port (grown no_bus_past told)) (sym same) was.bus;
+        taken = subst (λ told. sink port (all_in taken_in told)) (sym same) was.taken;
+        once = subst (StartsUndone no_bus_past) (sym same) was.once;
+        few = omega (arith, was.few, left.longer, ap (λ told. length (all_in taken_in told)) same);
+      };
+}
 
 -- over no call, and over two calls
 pub leave-self : {P : Type 0} (stays : P → P → Type 0) (xs : List P) → ((x : P) → stays x x) → PortsLeave stays xs xs

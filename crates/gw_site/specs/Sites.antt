@@ -1,6 +1,6 @@
 -- A segment of a run and the controllers on it, whatever their ports are: what a port may have done, what is on the bus,
 -- what its sink may have been offered, and what no call of a segment changes are given by these words.
-use Rattle.std.specs.Prelude.{◌≡◌, ℕ, ◌+◌, ◌≤◌, Option, Some, None, List, [], length, slice_get}
+use Rattle.std.specs.Prelude.{◌≡◌, ℕ, ◌+◌, ◌≤◌, Option, Some, List, [], length, slice_get}
 use Rattle.can_frame.specs.Frames.{FrameValue}
 use Rattle.bx_core.specs.TxBus.{Item, BusPast, no_bus_past}
 use Rattle.can_segment.specs.Brought.{told_of, all_in, taken_in, grown, StartsUndone}

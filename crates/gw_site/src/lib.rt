@@ -3,4 +3,4 @@
 
 mod site;
 
-pub use crate::site::{Site, make_bit};
+pub use crate::site::{Site, make_bit, make_bits};

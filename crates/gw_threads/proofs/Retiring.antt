@@ -1,9 +1,9 @@
 -- Workers' seats that come back to a pool.
-use Rattle.std.proofs.Common.{◌≡◌, ℕ, suc, ◌+◌, ◌-◌, ◌<◌, ◌≤◌, List, [], ◌∷◌, ◌++◌, length, slice_get, refl, sym, ap, subst, ◌∙◌, arith, length-append}
+use Rattle.std.proofs.Common.{◌≡◌, ℕ, suc, ◌+◌, ◌-◌, ◌≤◌, List, [], ◌∷◌, ◌++◌, refl, ap, arith}
 use Rattle.bx_core.specs.Lists.{Each}
 use Rattle.gw_site.specs.Pairs.{Pairs}
 use Rattle.gw_pool.specs.declared.account.Account.{Account}
-use Rattle.gw_pool.specs.Pool.{PoolPlace, account, weigh, places, IsEven, IsOwed, IsWorkerSeat}
+use Rattle.gw_pool.specs.Pool.{PoolPlace, account, weigh, places, IsEven, IsOwed}
 use Rattle.gw_pool.proofs.Fair.{weigh-append}
 use Rattle.gw_threads.specs.Retired.{AreRetired}
 

@@ -1,13 +1,13 @@
 //! The bits of a segment in its thread.
 
-ghost use Rattle.std.specs.Prelude.{◌≡◌, ◌<◌, OnOk, IfOk};
+ghost use Rattle.std.specs.Prelude.{◌≡◌, ◌<◌, ◌≤◌, ℕ, OnOk, IfOk};
 ghost use Rattle.gw_site.specs.Sites.{SegmentRuns, SiteRuns, IsNewSegment, IsNewSite};
 ghost use Rattle.gw_threads.specs.Clocks.{TicksAt, MayGo, SameClocks};
 
 use crate::clock_seat::ClockSeat;
 use crate::thread_fault::ThreadFault;
 use can_segment::{RxSink, Segment};
-use gw_site::{Site, make_bit};
+use gw_site::{Site, make_bits};
 use std::hint::spin_loop;
 use std::sync::Wait;
 use std::thread;
@@ -52,16 +52,24 @@ fn wait_for_others<R: Wait>(
     unreachable!()
 }
 
-/// Whether a stop is called, as far as a segment looks: before some bits alone, since a stop is rare.
-fn is_told_to_stop(clock: &mut ClockSeat, bit: u32) -> bool
-    ensures { clock.new ≡ clock.old }
+/// The clock goes on from `made` to `now`, tick by tick.
+fn tick_up(clock: &mut ClockSeat, made: u64, now: u64)
+    requires order { made ≤ now }
+    requires ticks { TicksAt clock.old.pace.bits made clock.old }
+    requires go { MayGo now clock.old }
+    ensures same { clock.new.pace ≡ clock.old.pace }
+    ensures ticks { TicksAt clock.old.pace.bits now clock.new }
+    ensures go { (limit : ℕ) → MayGo limit clock.old → MayGo limit clock.new }
 {
-    bit % 256 == 0 && clock.is_stopped()
+    for _ in made..now {
+        clock.tick();
+    }
 }
 
-/// All bits of a segment with its controllers, each followed by a tick of its clock, unless a stop is called. The others
-/// are looked at only where the clock has come as far as it may go.
-fn make_bits<R: Wait, P: RxSink<R>>(
+/// All bits of a segment with its controllers, each followed by a tick of its clock, unless a stop is called. Bits that need
+/// no port are made one after another, as far as the clock may go, before it ticks for them. The others are looked at only
+/// where it has come as far as it may go.
+fn make_all_bits<R: Wait, P: RxSink<R>>(
     rt: &R,
     segment: &mut Segment,
     ports: &mut [P],
@@ -73,16 +81,18 @@ fn make_bits<R: Wait, P: RxSink<R>>(
     ensures runs { OnOk result (SegmentRuns P.bus_after P.transmitting P.sink_after P.port_stays segment.old segment.new ports.old ports.new) }
     ensures clock { OnOk result (TicksAt bits bits clock.new) }
 {
+    let mut made = 0u64;
     let mut limit = 0u64;
-    for bit in 0..bits {
-        if is_told_to_stop(clock, bit) {
+    while made < u64::from(bits) {
+        if clock.is_stopped() {
             return Err(ThreadFault::Memory);
         }
-        limit = wait_for_others(rt, clock, u64::from(bit), limit)?;
-        match make_bit(rt, segment, ports) {
-            Ok(()) => clock.tick(),
-            Err(_) => return Err(ThreadFault::Memory),
-        }
+        limit = wait_for_others(rt, clock, made, limit)?;
+        let Ok(now) = make_bits(rt, segment, ports, limit) else {
+            return Err(ThreadFault::Memory);
+        };
+        tick_up(clock, made, now);
+        made = now;
     }
     Ok(())
 }
@@ -98,7 +108,7 @@ pub(crate) fn run_site<R: Wait, P: RxSink<R> + Drop>(
     requires clock { TicksAt bits 0 clock }
     ensures { IfOk result (SiteRuns P.bus_after P.transmitting P.sink_after P.port_stays site) }
 {
-    let made = make_bits(
+    let made = make_all_bits(
         rt,
         &mut site.segment,
         site.ports.as_mut_slice(),

@@ -10,80 +10,58 @@ use Rattle.can_segment.proofs.Brought.{of_controller, port_brought}
 use Rattle.can_segment.proofs.Keeps.{controller_clocks, run_length, talker_clocks}
 use Rattle.can_segment.proofs.Moves.{port_moves}
 use Rattle.can_segment.proofs.NextBits.{some_there}
-use Rattle.can_segment.proofs.QuietBits.{holds_quietly, kept_quietly}
+use Rattle.can_segment.proofs.QuietBits.{grown_holds, grown_kept, grown_rests}
 use Rattle.can_segment.proofs.Rests.{one_at}
 use Rattle.can_segment.proofs.SoleSender.{controllers_settle_alone, controllers_start_alone, rests_alone}
 use Rattle.can_segment.proofs.segment.grow.Goals as goal
 
-pub quiet_level-requires-clause-talker_room : goal.quiet_level-requires-clause-talker_room
-quiet_level-requires-clause-talker_room g c m e on =
+pub grow_quietly-requires-clause-talker_room : goal.grow_quietly-requires-clause-talker_room
+grow_quietly-requires-clause-talker_room g c m e on =
     let rest = c.args.rest.now in
     let levels = c.args.made.now.levels.items in
     let bit = length levels in
-    let here : c.len-bit.result ≡ bit = search rules in
     talker_clocks c.args.plan.now levels c.args.made.now.events.items (talkers_at rest bit c.args.talkers.now) (controllers_at rest bit c.args.controllers.now) bit _ c.requires.holds.kept refl (search rules) rest.talker m
-    (one_at rest rest.talker bit c.args.talkers.now m e) (omega (arith, on, here))
+    (one_at rest rest.talker bit c.args.talkers.now m e) on
 
-pub quiet_level-requires-clause-room : goal.quiet_level-requires-clause-room
-quiet_level-requires-clause-room g c m e on =
+pub grow_quietly-requires-clause-room : goal.grow_quietly-requires-clause-room
+grow_quietly-requires-clause-room g c m e on =
     let rest = c.args.rest.now in
     let levels = c.args.made.now.levels.items in
     let bit = length levels in
-    let here : c.len-bit.result ≡ bit = search rules in
     controller_clocks c.args.plan.now levels c.args.made.now.events.items (talkers_at rest bit c.args.talkers.now) (controllers_at rest bit c.args.controllers.now) bit _ c.requires.holds.kept refl (search rules) rest.controller m
-    (one_at rest rest.controller bit c.args.controllers.now m e) (omega (arith, on, here))
+    (one_at rest rest.controller bit c.args.controllers.now m e) on
 
-pub returns-in-Some-clause-holds : goal.returns-in-Some-clause-holds
-returns-in-Some-clause-holds g c =
+pub returns-then-grow_quietly-clause-holds : goal.returns-then-grow_quietly-clause-holds
+returns-then-grow_quietly-clause-holds g c =
+    grown_holds c.args.plan.now c.args.faults.now c.args.made.now c.grow_quietly.new.made c.args.rest.now c.grow_quietly.new.rest c.args.talkers.now c.grow_quietly.new.talkers c.args.controllers.now c.grow_quietly.new.controllers
+    (c.grow_quietly.ensures.quiet c.if-grow_quietly.true) c.requires.holds c.requires.still c.requires.stands c.requires.rests
+
+pub returns-then-grow_quietly-clause-rests : goal.returns-then-grow_quietly-clause-rests
+returns-then-grow_quietly-clause-rests g c =
+    grown_rests c.args.plan.now c.args.faults.now c.args.made.now c.grow_quietly.new.made c.args.rest.now c.grow_quietly.new.rest c.args.talkers.now c.grow_quietly.new.talkers c.args.controllers.now c.grow_quietly.new.controllers
+    (c.grow_quietly.ensures.quiet c.if-grow_quietly.true) c.requires.rests
+
+pub returns-then-grow_quietly-clause-bit : goal.returns-then-grow_quietly-clause-bit
+returns-then-grow_quietly-clause-bit g c =
     let made = c.args.made.now in
     let plan = c.args.plan.now in
-    let level = c.in-Some.level in
     let old = c.args.rest.now in
-    let new = c.quiet_level.new.rest in
+    let new = c.grow_quietly.new.rest in
     let t0 = c.args.talkers.now in
-    let t1 = c.quiet_level.new.talkers in
+    let t1 = c.grow_quietly.new.talkers in
     let c0 = c.args.controllers.now in
-    let c1 = c.quiet_level.new.controllers in
-    let here : c.len-bit.result ≡ length made.levels.items = search rules in
-    let h = subst (λ n. SendsAlone n level old new t0 t1 c0 c1) here c.in-Some.ensures.sends in
-    let faultless = subst (IsFaultless plan) here (c.in-Some.ensures.faultless plan (subst (λ n. StandsAt plan n c.args.faults.now) (sym here) c.requires.stands)) in
-    let quiet = kept_quietly plan made.levels.items made.events.items level old new t0 t1 c0 c1 c.requires.holds.kept c.requires.still h c.requires.rests faultless in
-    holds_quietly plan made (record { levels = c.keep.new.levels; events = made.events; counters = made.counters }) level old new t0 t1 c0 c1 c.requires.holds quiet h c.keep.ensures refl refl
-
-pub returns-in-Some-clause-rests : goal.returns-in-Some-clause-rests
-returns-in-Some-clause-rests g c =
-    let made = c.args.made.now in
-    let plan = c.args.plan.now in
-    let level = c.in-Some.level in
-    let old = c.args.rest.now in
-    let new = c.quiet_level.new.rest in
-    let here : c.len-bit.result ≡ length made.levels.items = search rules in
-    let h = subst (λ n. SendsAlone n level old new c.args.talkers.now c.quiet_level.new.talkers c.args.controllers.now c.quiet_level.new.controllers) here c.in-Some.ensures.sends in
-    subst (λ n. RestHolds new n plan.talkers.items c.quiet_level.new.talkers c.quiet_level.new.controllers) (sym (ap length c.keep.ensures ∙ length-append made.levels.items (level ∷ [])))
-    (rests_alone plan.talkers.items (length made.levels.items) level old new c.args.talkers.now c.quiet_level.new.talkers c.args.controllers.now c.quiet_level.new.controllers h c.requires.rests)
-
-pub returns-in-Some-clause-bit : goal.returns-in-Some-clause-bit
-returns-in-Some-clause-bit g c =
-    let made = c.args.made.now in
-    let plan = c.args.plan.now in
-    let level = c.in-Some.level in
-    let old = c.args.rest.now in
-    let new = c.quiet_level.new.rest in
-    let t0 = c.args.talkers.now in
-    let t1 = c.quiet_level.new.talkers in
-    let c0 = c.args.controllers.now in
-    let c1 = c.quiet_level.new.controllers in
+    let c1 = c.grow_quietly.new.controllers in
     let ports = c.args.ports.now in
     let bit = length made.levels.items in
-    let here : c.len-bit.result ≡ bit = search rules in
-    let h = subst (λ n. SendsAlone n level old new t0 t1 c0 c1) here c.in-Some.ensures.sends in
-    let faultless = subst (IsFaultless plan) here (c.in-Some.ensures.faultless plan (subst (λ n. StandsAt plan n c.args.faults.now) (sym here) c.requires.stands)) in
-    let quiet = kept_quietly plan made.levels.items made.events.items level old new t0 t1 c0 c1 c.requires.holds.kept c.requires.still h c.requires.rests faultless in
+    let grown = c.grow_quietly.ensures.quiet c.if-grow_quietly.true in
+    let level = grown.level in
+    let h = grown.sends in
+    let quiet = grown_kept plan c.args.faults.now made c.grow_quietly.new.made old new t0 t1 c0 c1 grown c.requires.holds c.requires.still c.requires.stands c.requires.rests in
     let talkers = talkers_at new (bit + 1) t1 in
     let controllers = controllers_at new (bit + 1) c1 in
     let lines = bit_lines bit talkers controllers in
     let stands = quiet.kept.stands in
-    let longer : length c.keep.new.levels.items ≡ bit + 1 = ap length c.keep.ensures ∙ length-append made.levels.items (level ∷ []) in
+    let longer : length c.grow_quietly.new.made.levels.items ≡ bit + 1 = ap length grown.levels_is ∙ length-append made.levels.items (level ∷ []) in
     let rested = c.requires.rests.controllers_rest h.through.rested in
     let starts = controllers_start_alone g.P.TxBus.bus_after g.P.TxBus.bus_asked g.P.TxBus.transmitting g.P.TxBus.bus_stays bit level old new t0 t1 c0 c1 ports g.met.P.TxBus.bus_stays_self h rested c.requires.transmits in
     let settles = controllers_settle_alone g.P.TxBus.bus_after g.P.TxBus.bus_asked g.P.TxBus.transmitting g.P.RxSink.sink_after g.P.RxSink.port_stays bit level old new t0 t1 c0 c1 ports
@@ -91,8 +69,8 @@ returns-in-Some-clause-bit g c =
     record {
       level = level;
       lines = lines;
-      levels_is = c.keep.ensures;
-      events_is = sym (ap (λ ls. made.events.items ++ ls) quiet.no_lines ∙ append-nil made.events.items);
+      levels_is = grown.levels_is;
+      events_is = ap (λ v. v.items) grown.events_is ∙ sym (ap (λ ls. made.events.items ++ ls) quiet.no_lines ∙ append-nil made.events.items);
       ports = λ k a m p q d e f l.
           let there : slice_get controllers k ≡ Some m = ap (λ n. slice_get (controllers_at new n c1) k) (sym longer) ∙ e in
           let within = slice_get_within controllers k m there in

@@ -1,5 +1,4 @@
 use Rattle.std.proofs.Common.{ℕ, ◌+◌, length, ap, arith, subst, sym}
-use Rattle.std.specs.Prelude.{IfOk}
 use Rattle.can_segment.proofs.NextBits.{some_there}
 use Rattle.gw_config.specs.Segments.{SegmentValue}
 use Rattle.gw_site.proofs.Pairs.{PairsBelow, pairs_step}

@@ -1,16 +1,16 @@
 use Rattle.std.proofs.Common.{◌+◌, arith}
-use Rattle.gw_run.proofs.Passes.{made_bits, made_turns}
+use Rattle.gw_run.proofs.Passes.{made_turns}
 use Rattle.gw_run.proofs.Counted.{turned_not, turned_once, short_bits}
 use Rattle.gw_run.proofs.Keeps.{sites-on}
 use Rattle.gw_run.proofs.world.step.Goals as goal
 
 pub returns-then-not-is_multiple-clause-made : goal.returns-then-not-is_multiple-clause-made
-returns-then-not-is_multiple-clause-made g c = made_bits c.args.bits c.args.bit c.args.sites.now c.make_bits.new.sites c.in_ok-make_bits.ensures.moves c.requires.made
+returns-then-not-is_multiple-clause-made g c = c.in_ok-make_bits.ensures.made
 
 pub returns-clause-made : goal.returns-clause-made
 returns-clause-made g c =
     made_turns c.args.bits (c.args.bit + 1) c.make_bits.new.sites c.make_turns.new.sites c.in_ok-make_turns.ensures.segments
-    (made_bits c.args.bits c.args.bit c.args.sites.now c.make_bits.new.sites c.in_ok-make_bits.ensures.moves c.requires.made)
+    c.in_ok-make_bits.ensures.made
 
 pub returns-then-not-is_multiple-clause-keeps : goal.returns-then-not-is_multiple-clause-keeps
 returns-then-not-is_multiple-clause-keeps g c = c.in_ok-make_bits.ensures.keeps c.args.lanes.now

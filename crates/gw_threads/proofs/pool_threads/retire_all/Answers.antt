@@ -1,5 +1,5 @@
 -- Each seat comes back with its part.
-use Rattle.std.proofs.Common.{◌≡◌, ◌+◌, ◌++◌, ◌∷◌, [], length, length-append, refl, sym, subst, ◌∙◌}
+use Rattle.std.proofs.Common.{◌∷◌, [], length, length-append, sym, subst, ◌∙◌}
 use Rattle.std.specs.Vec.Iter.{into_iter_items}
 use Rattle.gw_pool.specs.Pool.{IsWorkerSeat}
 use Rattle.gw_pool.proofs.Joins.{walked, each_walked}

@@ -1,5 +1,5 @@
 use Rattle.can_segment.proofs.Shown.{ShownBelow}
-use Rattle.can_segment.proofs.segment.show.Given as goal
+use Rattle.can_segment.proofs.counts_shown.show.Given as goal
 
 abbrev pub invariant-loop-place : goal.invariant-loop-place
 invariant-loop-place l = ShownBelow l.first l.members l.initial.counters.items l.counters.items l.place

@@ -1,0 +1,35 @@
+-- Bits at which no port is needed: nothing is told of any node, and no controller wants to start.
+use Rattle.std.specs.Prelude.{◌≡◌, ℕ, Bool, false, List, [], ◌∷◌, ◌++◌, length}
+use Rattle.can_segment.specs.declared.fault_order.FaultOrder.{FaultOrder}
+use Rattle.can_segment.specs.declared.member.Member.{Member}
+use Rattle.can_segment.specs.declared.plan.SegmentPlan.{SegmentPlan}
+use Rattle.can_segment.specs.declared.record.Record.{Record}
+use Rattle.can_segment.specs.declared.rest.Rest.{Rest}
+use Rattle.can_segment.specs.FaultOrder.{IsFaultless, StandsAt}
+use Rattle.can_segment.specs.Rests.{SendsAlone}
+use Rattle.can_segment.specs.Segments.{SegmentValue, wants_next}
+
+-- A segment makes one more such bit: its record grows by a level alone, and each controller has on the bus what it had.
+pub record MakesQuietBit (old new : SegmentValue) : Type 0 where
+  pub level : Bool
+  pub plan_is : new.plan ≡ old.plan
+  pub levels_is : new.levels ≡ old.levels ++ level ∷ []
+  pub events_is : new.events ≡ old.events
+  pub counters_is : new.counters ≡ old.counters
+  pub sending_is : new.sending ≡ old.sending
+  pub none_wants : (k : ℕ) → wants_next old k ≡ false
+
+-- it makes such bits, or none
+pub data MakeQuietBits : SegmentValue → SegmentValue → Type 0 where
+  no_bit : {segment : SegmentValue} → MakeQuietBits segment segment
+  one_more : {old mid new : SegmentValue} → MakeQuietBits old mid → MakesQuietBit mid new → MakeQuietBits old new
+
+-- A record grows by the level of a bit at which all nodes rest, or all but one that sends, and by nothing else. No fault
+-- stands at it.
+pub record GrowsQuietly (faults : FaultOrder) (old new : Record) (rest after : Rest) (t0 t1 c0 c1 : List Member) : Type 0 where
+  pub level : Bool
+  pub sends : SendsAlone (length old.levels.items) level rest after t0 t1 c0 c1
+  pub faultless : (plan : SegmentPlan) → StandsAt plan (length old.levels.items) faults → IsFaultless plan (length old.levels.items)
+  pub levels_is : new.levels.items ≡ old.levels.items ++ level ∷ []
+  pub events_is : new.events ≡ old.events
+  pub counters_is : new.counters ≡ old.counters
