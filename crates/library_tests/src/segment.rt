@@ -140,6 +140,14 @@ fn make_bits<R, P: RxSink<R>>(
     Ok(())
 }
 
+/// Makes bits at which no port is needed, up to so many in all.
+fn make_quiet_bits<R, P: RxSink<R>>(_rt: &R, segment: &mut Segment, ports: &[P], limit: u64)
+    requires { Fit P.transmitting segment.old ports.now }
+    ensures { Fit P.transmitting segment.new ports.now }
+{
+    segment.quiet_bits(limit);
+}
+
 /// A segment of talkers, which has no port.
 fn segment_of(alloc: Global, plan: SegmentPlan) -> Result<Segment, Fail>
     ensures { IfOk result (λ segment. length segment.sending ≡ 0) }

@@ -1,8 +1,8 @@
 //! Worked cases of talkers on a line, with its faults.
 
 use super::{
-    Port, completed, data_frame, errored, make_bits, plan_of, record_of, segment_of,
-    sender_and_listener, started, talker, took,
+    Port, completed, data_frame, errored, make_bits, make_quiet_bits, plan_of, record_of,
+    segment_of, sender_and_listener, started, talker, took,
 };
 use can_frame::{Frame, Id};
 use can_node::{ErrorKind, ErrorState};
@@ -41,6 +41,41 @@ fn a_frame_goes_from_one_node_to_another(rt: HostRuntime) -> Result<(), Fail> {
         );
     }
     Ok(())
+}
+
+#[test]
+fn quiet_bits_are_made_at_once(rt: HostRuntime) -> Result<(), Fail> {
+    let frame = data_frame()?;
+    match segment_of(rt.alloc(), sender_and_listener(rt.alloc(), 64, 1)?) {
+        Ok(mut segment) => {
+            let mut none: [Port; 0] = [];
+            make_bits(&(), &mut segment, &mut none, 1)?;
+            make_quiet_bits(&(), &mut segment, &none, 7);
+            assert!(rt; segment.record().levels.len() <= 7);
+            let mut calls = 0u64;
+            for _ in 0..64 {
+                if segment.record().levels.len() < 64 {
+                    make_bits(&(), &mut segment, &mut none, 1)?;
+                    make_quiet_bits(&(), &mut segment, &none, 64);
+                    calls = calls.saturating_add(1);
+                }
+            }
+            // eleven bits of rest and most of a frame that one node sends are such
+            assert!(rt; calls < 40);
+            assert_eq!(rt; segment.record().levels.len(), 64);
+            assert!(rt;
+                segment.record().events.as_slice()
+                    == [
+                        started(11, 0, frame),
+                        took(59, 1, 11, frame),
+                        completed(60, 0, 11, frame),
+                    ]
+                    .as_slice()
+            );
+            Ok(())
+        }
+        Err(fail) => Err(fail),
+    }
 }
 
 #[test]
