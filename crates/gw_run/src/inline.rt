@@ -80,8 +80,9 @@ fn run<R: Wait>(rt: &R, alloc: Global, script: &Script, turn: u32) -> Result<Rep
 
 /// Runs a script in this thread: for each of its bits, each segment in the order of the script makes one
 /// bit; and where the number of bits made is a multiple of `turn`, each route in the order of the script
-/// then makes one turn. Each controller has three transmit mailboxes and two receive FIFOs of three
-/// frames (RM0008, bxCAN, "Transmission handling" and "Reception handling").
+/// then makes one turn. Bits at which no port is needed are made earlier, which makes no difference to anyone.
+/// Each controller has three transmit mailboxes and two receive FIFOs of three frames (RM0008, bxCAN, "Transmission
+/// handling" and "Reception handling").
 ///
 /// Of each route into a controller that sends by order of requests (TXFP set), the completed frames are, in
 /// order and each once, a prefix of the frames released from its source FIFO with the aborted ones left out.

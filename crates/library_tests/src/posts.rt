@@ -2,7 +2,7 @@
 
 use bx_core::{AbortAnswer, Gate, Heard, NoGate, Point, Sent, TxBus};
 use bx_mail::{Post, PostRoute};
-use can_frame::{Frame, Id};
+use can_frame::{Frame, Id, Memory};
 use std::sync::Wait;
 use std::test::Fail;
 
@@ -53,6 +53,16 @@ fn requests_are_sent_in_the_order_of_posts(rt: HostRuntime) -> Result<(), Fail> 
     }
     assert!(rt; !bus.ready(&rt));
     assert_eq!(rt; bus.start(&rt), None);
+    Ok(())
+}
+
+// With ample memory there is a post for each route, and without there is `Memory`.
+#[test]
+fn a_post_is_made_or_memory_is_refused(rt: HostRuntime) -> Result<(), Fail> {
+    match Post::new(rt.alloc(), 2) {
+        Ok((_bus, sides)) => assert_eq!(rt; sides.len(), 2),
+        Err(refused) => assert_eq!(rt; refused, Memory),
+    }
     Ok(())
 }
 

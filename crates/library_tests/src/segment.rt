@@ -148,6 +148,43 @@ fn make_quiet_bits<R, P: RxSink<R>>(_rt: &R, segment: &mut Segment, ports: &[P],
     segment.quiet_bits(limit);
 }
 
+/// Makes a bit, and behind it those that need no port, unless there are so many already: whether it made any.
+fn make_more<R, P: RxSink<R>>(
+    rt: &R,
+    segment: &mut Segment,
+    ports: &mut [P],
+    bits: usize,
+) -> Result<bool, SegFault>
+    requires { Fit P.transmitting segment.old ports.old }
+    ensures { Fit P.transmitting segment.new ports.new }
+{
+    if segment.record().levels.len() >= bits {
+        return Ok(false);
+    }
+    make_bit(rt, segment, ports)?;
+    make_quiet_bits(rt, segment, ports, bits as u64);
+    Ok(true)
+}
+
+/// Makes so many bits in all: how many of them weren't quiet bits behind another.
+fn make_all<R, P: RxSink<R>>(
+    rt: &R,
+    segment: &mut Segment,
+    ports: &mut [P],
+    bits: usize,
+) -> Result<u64, SegFault>
+    requires { Fit P.transmitting segment.old ports.old }
+    ensures { Fit P.transmitting segment.new ports.new }
+{
+    let mut calls = 0u64;
+    for _ in 0..bits {
+        if make_more(rt, segment, ports, bits)? {
+            calls = calls.saturating_add(1);
+        }
+    }
+    Ok(calls)
+}
+
 /// A segment of talkers, which has no port.
 fn segment_of(alloc: Global, plan: SegmentPlan) -> Result<Segment, Fail>
     ensures { IfOk result (λ segment. length segment.sending ≡ 0) }

@@ -1,7 +1,7 @@
 //! Worked cases of talkers on a line, with its faults.
 
 use super::{
-    Port, completed, data_frame, errored, make_bits, make_quiet_bits, plan_of, record_of,
+    Port, completed, data_frame, errored, make_all, make_bits, make_quiet_bits, plan_of, record_of,
     segment_of, sender_and_listener, started, talker, took,
 };
 use can_frame::{Frame, Id};
@@ -52,14 +52,7 @@ fn quiet_bits_are_made_at_once(rt: HostRuntime) -> Result<(), Fail> {
             make_bits(&(), &mut segment, &mut none, 1)?;
             make_quiet_bits(&(), &mut segment, &none, 7);
             assert!(rt; segment.record().levels.len() <= 7);
-            let mut calls = 0u64;
-            for _ in 0..64 {
-                if segment.record().levels.len() < 64 {
-                    make_bits(&(), &mut segment, &mut none, 1)?;
-                    make_quiet_bits(&(), &mut segment, &none, 64);
-                    calls = calls.saturating_add(1);
-                }
-            }
+            let calls = make_all(&(), &mut segment, &mut none, 64)?;
             // eleven bits of rest and most of a frame that one node sends are such
             assert!(rt; calls < 40);
             assert_eq!(rt; segment.record().levels.len(), 64);
