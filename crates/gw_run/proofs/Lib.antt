@@ -1,3 +1,4 @@
+pub mod Ahead
 pub mod Starts
 pub mod NewSites
 pub mod Worlds

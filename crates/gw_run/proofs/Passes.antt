@@ -7,7 +7,7 @@ use Rattle.can_segment.proofs.Places.{same_some}
 use Rattle.can_segment.proofs.NextBits.{some_there}
 use Rattle.gw_opening.specs.declared.lane.Lane.{Lane}
 use Rattle.gw_run.specs.Ports.{Site}
-use Rattle.gw_run.specs.Sites.{SiteMakes, SiteMoves}
+use Rattle.gw_run.specs.Sites.{IsAhead, SiteMakes, SiteMoves}
 use Rattle.gw_run.specs.Worlds.{LaneKeeps, LanesKeep, LaneTurns, SameSegments, AreOfBits, HaveMade}
 use Rattle.gw_run.proofs.WorldTurns.{lane_cases}
 use Rattle.gw_opening.proofs.Changes.{place_cases}
@@ -38,8 +38,8 @@ of_bits_turns bits old new s h = record {
 pub made_turns : (bits made : ℕ) (old new : List Site) → SameSegments old new → HaveMade bits made old → HaveMade bits made new
 made_turns bits made old new s h = record {
   of_bits = of_bits_turns bits old new s h.of_bits;
-  at_least = λ i site e. (let before = some_there old i (let within = slice_get_within new i site e in omega (arith, within, s.size)) in
-      omega (arith, ap (λ v. length v.levels) (s.at i before.0 site before.1 e), h.at_least i before.0 before.1));
+  ahead = λ i site e. (let before = some_there old i (let within = slice_get_within new i site e in omega (arith, within, s.size)) in
+      subst (IsAhead made) (sym (s.at i before.0 site before.1 e)) (h.ahead i before.0 before.1));
 }
 
 -- bits of all segments
@@ -53,7 +53,7 @@ made_bits bits next old new m h = record {
         ap (λ p. p.bits) (m.at i before.0 site before.1 e).moves.plan_is ∙ h.plans i before.0 before.1);
     at_most = λ i site e. (let before = some_there old i (let within = slice_get_within new i site e in omega (arith, within, m.size)) in (m.at i before.0 site before.1 e).at_most);
   };
-  at_least = λ i site e. (let before = some_there old i (let within = slice_get_within new i site e in omega (arith, within, m.size)) in (m.at i before.0 site before.1 e).at_least);
+  ahead = λ i site e. (let before = some_there old i (let within = slice_get_within new i site e in omega (arith, within, m.size)) in (m.at i before.0 site before.1 e).ahead);
 }
 
 keeps_self : (lane : Lane) → LaneKeeps lane lane

@@ -5,7 +5,7 @@ ghost use Rattle.can_segment.specs.Places.{AtPlaces};
 ghost use Rattle.gw_opening.specs.declared.lane.Lane.{Lane};
 ghost use Rattle.gw_run.specs.Ports.{Site};
 ghost use Rattle.gw_run.specs.Sites.{SiteHolds, SiteMoves};
-ghost use Rattle.gw_run.specs.Worlds.{Leads, LaneTurns, LanesKeep, SitesKeep, WorldHolds, SameSegments, AreOfBits, HaveMade, CountsTurn, HaveTurned, NoneShort};
+ghost use Rattle.gw_run.specs.Worlds.{Leads, LaneTurns, LanesKeep, SitesKeep, WorldHolds, SameSegments, HaveMade, HaveMadeUpTo, CountsTurn, HaveTurned, NoneShort};
 
 use crate::lane::turn_on;
 use crate::port::Site;
@@ -23,7 +23,7 @@ pub(crate) fn make_bits<R: Wait>(
     bits: u64,
 ) -> Result<(), Memory>
     requires holds { (i : ℕ) (site : Site) → slice_get sites.old i ≡ Some site → SiteHolds site.segment site.ports.items }
-    requires plans { AreOfBits bits sites.old }
+    requires before { HaveMadeUpTo bits until sites.old }
     requires until { until ≤ bits }
     ensures made { OnOk result (HaveMade bits until sites.new) }
     ensures moves { OnOk result (AtPlaces (λ i. SiteMoves) sites.old sites.new) }
