@@ -1,1 +1,2 @@
+pub mod CoreReportLaws
 pub mod PieceLaws

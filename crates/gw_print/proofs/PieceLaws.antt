@@ -1,7 +1,7 @@
 -- Laws of texts that are made piece by piece.
 use Rattle.std.proofs.Common.{◌≡◌, subst, refl, ℕ, suc, ◌+◌, List, [], ◌∷◌, Vec, Result, Ok, IfOk, Some, length, map, slice_get, slice_index_or, arith}
 use Rattle.can_frame.specs.declared.memory.Memory.{Memory}
-use Rattle.gw_print.specs.Pieces.{whole_of}
+use Rattle.gw_streams.specs.Pieces.{whole_of}
 use Rattle.gw_script.specs.Lines.{lines_from}
 
 module _ {A Z : Type 0} (said : ℕ → A → List ℕ) where

@@ -1,6 +1,5 @@
 -- The text of a report in pieces.
 use Rattle.std.specs.Prelude.{◌≡◌, ℕ, List, length, Vec, Result, IfOk, Some, slice_get, slice_index_or}
-use Rattle.std.specs.List.{flat_map}
 use Rattle.can_segment.specs.declared.record.Record.{Record}
 use Rattle.can_frame.specs.declared.memory.Memory.{Memory}
 use Rattle.gw_config.specs.Scripts.{ScriptValue}
@@ -15,7 +14,3 @@ pub record ArePieces {Z : Type 0} (s : ScriptValue) (records : List Record) (pie
   pub count : length pieces ≡ length records
   pub each : (segment : ℕ) (of : Record) (d : Result (Vec ℕ Z) Memory) → slice_get records segment ≡ Some of
       → IsPiece s segment of (slice_index_or pieces segment d)
-
--- the pieces, one behind the other
-abbrev pub whole_of : {Z : Type 0} → List (Vec ℕ Z) → List ℕ
-whole_of pieces = flat_map (λ piece. piece.items) pieces

@@ -1,7 +1,9 @@
-//! Reports that are printed in threads: each segment's text in one of its own.
+//! Reports as texts, beside those that gw_script prints: on event lists, and on runs whose texts are made in threads.
 #![tactic(auto)]
 
+mod core_report;
 mod pieces;
 mod printer;
 
+pub use crate::core_report::report_on_events;
 pub use crate::printer::print_in_threads;

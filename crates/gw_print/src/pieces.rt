@@ -2,7 +2,8 @@
 
 ghost use Rattle.std.specs.Prelude.{◌≡◌, ◌<◌, length, map, Some, Ok, IfOk, slice_get};
 ghost use Rattle.can_segment.specs.declared.record.Record.{Record};
-ghost use Rattle.gw_print.specs.Pieces.{IsPiece, ArePieces, whole_of};
+ghost use Rattle.gw_print.specs.Pieces.{IsPiece, ArePieces};
+ghost use Rattle.gw_streams.specs.Pieces.{whole_of};
 ghost use Rattle.gw_script.specs.Lines.{lines_from};
 ghost use Rattle.gw_script.specs.NamedPlaces.{Names};
 ghost use Rattle.gw_script.specs.ReportTexts.{segment_text};

@@ -1,7 +1,7 @@
 //! The report on a run, as a text that threads make.
 
 ghost use Rattle.std.specs.Prelude.{◌≡◌, IfOk};
-ghost use Rattle.gw_print.specs.Pieces.{whole_of};
+ghost use Rattle.gw_streams.specs.Pieces.{whole_of};
 ghost use Rattle.gw_script.specs.NamedPlaces.{Names};
 ghost use Rattle.gw_script.specs.ReportTexts.{report_text};
 

@@ -7,14 +7,14 @@ use Rattle.gw_fields.specs.declared.script_fault.ScriptFault.TheVariants as faul
 use Rattle.gw_fields.specs.Faults.{Fault, UnlessMemory, not_json, missing, wrong_kind, out_of_range, unknown_name, double_name, fifo_twice, too_many, wrong_version}
 use Rattle.gw_fields.specs.Documents.{IsNoDocument, in_text}
 use Rattle.gw_tool.specs.Outcomes.{Answers, Begins, Ends, EndsWith, IsAnswer, IsFailureOn, IsRefusal, IsWant, input_of, status_of}
-use Rattle.gw_tool.specs.Words.{Asked, asked_of}
-use Rattle.gw_tool.specs.declared.order.Order.{Order}
+use Rattle.gw_command.specs.Words.{Asked, asked_of}
+use Rattle.gw_command.specs.declared.order.Order.{Order}
 use Rattle.gw_run.specs.declared.run_fault.RunFault.{RunFault}
 use Rattle.gw_run.specs.declared.run_fault.RunFault.TheVariants as run_fault
 use Rattle.gw_tool.specs.declared.failure.Failure.{Failure}
 use Rattle.gw_tool.specs.declared.failure.Failure.TheVariants as failure
-use Rattle.gw_tool.specs.declared.task.Task.{Task}
-use Rattle.gw_tool.specs.declared.task.Task.TheVariants as task
+use Rattle.gw_command.specs.declared.task.Task.{Task}
+use Rattle.gw_command.specs.declared.task.Task.TheVariants as task
 
 -- what is no document at all is refused, whatever was asked for
 pub no_document : (t : Task) (bytes : List ℕ) (f : Fault) → IsNoDocument bytes f → IsRefusal t bytes f

@@ -16,11 +16,11 @@ use Rattle.gw_run.specs.declared.run_fault.RunFault.{RunFault}
 use Rattle.gw_run.specs.declared.run_fault.RunFault.TheVariants as run_fault
 use Rattle.gw_ending.specs.Headline.{NotRefilled, Balances}
 use Rattle.gw_ending.specs.Reports.{AreOrdered, RunsSegments, RunsRoutes, AreStartsOf, lines_of}
-use Rattle.gw_tool.specs.Reports.{IsReport}
+use Rattle.gw_print.specs.CoreReports.{IsReport}
 use Rattle.gw_tool.specs.declared.failure.Failure.{Failure}
 use Rattle.gw_tool.specs.declared.failure.Failure.TheVariants as failure
-use Rattle.gw_tool.specs.declared.task.Task.{Task}
-use Rattle.gw_tool.specs.declared.task.Task.TheVariants as task
+use Rattle.gw_command.specs.declared.task.Task.{Task}
+use Rattle.gw_command.specs.declared.task.Task.TheVariants as task
 
 abbrev pub status_of : Failure → ℕ
 status_of (failure.Script fault.Memory) = 3

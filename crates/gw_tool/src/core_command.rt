@@ -2,10 +2,10 @@
 
 ghost use Rattle.std.specs.Prelude.{IfOk, IfErr};
 ghost use Rattle.gw_tool.specs.Outcomes.{IsAnswer, IsFailureOn};
-ghost use Rattle.gw_tool.specs.declared.task.Task.TheVariants.{Core};
+ghost use Rattle.gw_command.specs.declared.task.Task.TheVariants.{Core};
 
 use crate::failure::Failure;
-use crate::report::report_of;
+use gw_print::report_on_events;
 use gw_run::RunFault;
 use gw_script::read_core;
 use std::alloc::Global;
@@ -19,7 +19,7 @@ pub fn core_text(alloc: Global, bytes: &[u8]) -> Result<Vec<u8>, Failure>
         Ok(list) => list,
         Err(fault) => return Err(Failure::Script(fault)),
     };
-    match report_of(alloc, &list) {
+    match report_on_events(alloc, &list) {
         Ok(text) => Ok(text.into_bytes()),
         Err(_) => Err(Failure::Run(RunFault::Memory)),
     }

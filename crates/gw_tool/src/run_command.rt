@@ -2,8 +2,8 @@
 
 ghost use Rattle.std.specs.Prelude.{IfOk, IfErr};
 ghost use Rattle.gw_tool.specs.Outcomes.{IsAnswer, IsFailureOn};
-ghost use Rattle.gw_tool.specs.Words.{IsTurn};
-ghost use Rattle.gw_tool.specs.declared.task.Task.TheVariants.{Run};
+ghost use Rattle.gw_command.specs.Words.{IsTurn};
+ghost use Rattle.gw_command.specs.declared.task.Task.TheVariants.{Run};
 
 use crate::failure::Failure;
 use gw_run::{RunFault, run_inline};

@@ -2,10 +2,10 @@
 
 ghost use Rattle.std.specs.Prelude.{◌≡◌, IfOk, IfErr, length};
 ghost use Rattle.gw_config.specs.SoundScripts.{IsSound};
-ghost use Rattle.gw_print.specs.Pieces.{whole_of};
+ghost use Rattle.gw_streams.specs.Pieces.{whole_of};
 ghost use Rattle.gw_tool.specs.Outcomes.{IsAnswer, IsFailureOn, IsRunOf};
-ghost use Rattle.gw_tool.specs.Words.{IsSlack, IsThreads};
-ghost use Rattle.gw_tool.specs.declared.task.Task.TheVariants.{RunThreads};
+ghost use Rattle.gw_command.specs.Words.{IsSlack, IsThreads};
+ghost use Rattle.gw_command.specs.declared.task.Task.TheVariants.{RunThreads};
 
 use crate::failure::Failure;
 use bx_core::NoGate;

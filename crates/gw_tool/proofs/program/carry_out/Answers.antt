@@ -4,7 +4,7 @@ use Rattle.std.proofs.Common.{subst, ℕ, take}
 use Rattle.std.specs.Io.KnownBytes.{Appends}
 use Rattle.std.proofs.lemmas.Option.{IfSome_then}
 use Rattle.gw_fields.specs.Documents.{too_long}
-use Rattle.gw_print.specs.Pieces.{whole_of}
+use Rattle.gw_streams.specs.Pieces.{whole_of}
 use Rattle.gw_tool.proofs.Endings.{answered, begun, fails_on, keeps_all, no_document, shown_whole, wants_memory}
 use Rattle.gw_tool.proofs.program.carry_out.Goals as goal
 

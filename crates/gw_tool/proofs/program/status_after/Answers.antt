@@ -1,6 +1,6 @@
 -- A run that fails ends with its failure's status.
 use Rattle.gw_tool.specs.Outcomes.{input_of}
-use Rattle.gw_tool.specs.Words.{asked_of}
+use Rattle.gw_command.specs.Words.{asked_of}
 use Rattle.gw_tool.proofs.Endings.{ends_with}
 use Rattle.gw_tool.proofs.program.status_after.Goals as goal
 

@@ -1,6 +1,6 @@
 -- What was asked for is what was taken, unless memory ran out.
 use Rattle.std.proofs.Common.{None, Some, inl, inr}
-use Rattle.gw_tool.specs.declared.task.Task.TheVariants.{Core, Run, RunThreads}
+use Rattle.gw_command.specs.declared.task.Task.TheVariants.{Core, Run, RunThreads}
 use Rattle.gw_tool.proofs.Endings.{as_asked, not_taken}
 use Rattle.gw_tool.proofs.program.tool_with_files.Goals as goal
 

@@ -1,6 +1,0 @@
-use Rattle.std.proofs.Common.{take, string_bytes}
-use Rattle.gw_tool.specs.Reports.{AppendsDones}
-use Rattle.gw_tool.proofs.report.push_dones.Given as goal
-
-abbrev pub invariant-loop-entry : goal.invariant-loop-entry
-invariant-loop-entry l = AppendsDones l.route (string_bytes l.fn.text) (string_bytes l.text) (take l.entry-index l.done)

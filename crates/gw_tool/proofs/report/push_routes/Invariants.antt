@@ -1,6 +1,0 @@
-use Rattle.std.proofs.Common.{string_bytes}
-use Rattle.gw_tool.specs.Reports.{AppendsRoutes}
-use Rattle.gw_tool.proofs.report.push_routes.Given as goal
-
-abbrev pub invariant-loop-route : goal.invariant-loop-route
-invariant-loop-route l = AppendsRoutes l.core l.route (string_bytes l.fn.text) (string_bytes l.text)
