@@ -1,9 +1,9 @@
 -- Nodes that are left alone while a listener follows the line for them.
-use Rattle.std.proofs.Common.{◌≡◌, ◌≢◌, ◌⊎◌, inl, inr, ℕ, ◌+◌, ◌<◌, min, Bool, true, false, Option, None, Some, List, [], ◌∷◌, ◌++◌, length, refl, sym, ap, subst, arith, ◌∙◌}
+use Rattle.std.proofs.Common.{◌≡◌, ◌≢◌, ◌⊎◌, inl, inr, ℕ, ◌+◌, min, Bool, true, false, Option, None, Some, List, [], ◌∷◌, ◌++◌, length, refl, sym, ap, subst, ◌∙◌}
 use Rattle.std.proofs.lemmas.List.Sums.{fold-append}
 use Rattle.can_frame.specs.Reading.{IsPush, ReadsOn, StandsAs, StandsAfter as ReaderStandsAfter, IsReading}
 use Rattle.can_frame.specs.declared.step.Step.{Step}
-use Rattle.can_frame.specs.declared.step.Step.TheVariants.{More, StuffBit}
+use Rattle.can_frame.specs.declared.step.Step.TheVariants.{More, StuffBit, Tail}
 use Rattle.can_frame.specs.declared.reader.Reader.{Reader}
 use Rattle.can_node.specs.declared.confinement.ErrorEvent.{ErrorEvent}
 use Rattle.can_node.specs.declared.confinement.ErrorEvent.TheVariants.{Received}
@@ -17,19 +17,20 @@ use Rattle.can_node.specs.declared.outcome.Outcome.TheVariants.{Nothing}
 use Rattle.can_node.specs.declared.state.State.{State}
 use Rattle.can_node.specs.declared.state.State.TheVariants.{Idling, Taking, Sending}
 use Rattle.can_node.specs.declared.state.Stage.{Stage}
-use Rattle.can_node.specs.declared.state.Stage.TheVariants.{Region}
+use Rattle.can_node.specs.declared.state.Stage.TheVariants.{Region, AfterRegion, Slot, AfterSlot}
 use Rattle.can_node.specs.declared.state.Turn.{Turn}
 use Rattle.can_node.specs.declared.spelling.Spelling.{Spelling}
 use Rattle.can_node.specs.declared.node.Node.{Node}
 use Rattle.can_node.specs.declared.listener.Listener.{Listener}
 use Rattle.can_node.specs.Confinement.{no_counts, is_off, after_event, counts_after, state_of}
 use Rattle.can_node.specs.Counters.{StandsAfter as CountersStandAfter, counts_of}
-use Rattle.can_node.specs.Machine.{Advances, Counts, Goes, GoesReading, ReaderStands, Steps, is_in_region, is_sending, is_taking, level_in, may_start, quiet}
+use Rattle.can_node.specs.Machine.{Advances, behind_end, Counts, Goes, GoesReading, ReaderStands, Steps, is_in_region, is_sending, is_taking, level_in, may_start, quiet}
 use Rattle.can_node.specs.Sending.{level_at}
 use Rattle.can_node.specs.Machine.LeadsTo.{stays_on}
-use Rattle.can_node.specs.Listener.{Follows, IsUnseen, SendsTo, StandsWith, caught_up}
+use Rattle.can_node.specs.Listener.{Follows, IsUnseen, ReadsAlong, SendsTo, StandsWith, caught_up}
 use Rattle.can_node.proofs.Samples.{counts_none, idle_advances, other_advances, quiet_steps, reading_advances, samples, sending_advances, stands_history, steady_advances}
 use Rattle.can_node.proofs.SendMoves.{send_echoed}
+use Rattle.can_node.proofs.TakeMoves.{tail_delimiter, tail_later}
 
 abbrev listening : State → Reader → Listener
 listening state reader = record { state = state; reader = reader }
@@ -146,26 +147,62 @@ region_listens : (state : State) → is_in_region state ≡ true → is_sending 
 region_listens (Taking start false Region) is = refl
 region_listens state is = absurd (cc is)
 
+-- a bit of the stuffed region is read along
+pub along_region : (listener : Listener) (reader : Reader) (level : Bool) → is_in_region listener.state ≡ true → ReadsOn listener.reader level reader → ReadsAlong listener level (listening listener.state reader)
+along_region listener reader level inside reads = record {
+  drives = λ other bit. region_drives listener.state other.spelling inside;
+  begins = λ other bit. region_begins listener.state inside;
+  follows = λ known bit. region_follows known listener.state listener.reader reader bit level inside reads;
+  listens = region_listens listener.state inside;
+}
+
+end_follows : (known : KnownCounts) (start : ℕ) (stage : Stage) (behind : State) (old new : Reader) (bit : ℕ) (level : Bool) → is_sending behind ≡ false →
+    ((errors : ErrorState) (may : Bool) → GoesReading (Taking start may stage) errors Tail level (quiet behind)) → IsPush old level Tail new →
+    Follows known (listening (Taking start false stage) old) bit level (listening behind new)
+end_follows known start stage behind old new bit level sends_none goes push =
+    reading_follows known (listening (Taking start false stage) old) start false stage new bit level Tail (quiet behind) refl push (λ errors admitted may. goes errors may)
+    (record { tells_none = refl; counts_none = inl refl; sends_none = sends_none })
+
+-- so is a bit behind it with which the frame goes on, but the ACK slot
+pub along_end : (state behind : State) (old new : Reader) (level : Bool) → behind_end state ≡ Some behind → IsPush old level Tail new → ReadsAlong (listening state old) level (listening behind new)
+along_end (Taking start false (AfterRegion right)) behind old new level is push =
+    let next : Taking start false (Slot right) ≡ behind = cc is in
+    subst (λ s. ReadsAlong (listening (Taking start false (AfterRegion right)) old) level (listening s new)) next (record {
+      drives = λ other bit. refl;
+      begins = λ other bit. refl;
+      follows = λ known bit. end_follows known start (AfterRegion right) (Taking start false (Slot right)) old new bit level refl (λ errors may. tail_delimiter start may right errors level) push;
+      listens = refl;
+    })
+along_end (Taking start false AfterSlot) behind old new level is push =
+    let next : Taking start false AfterSlot ≡ behind = cc is in
+    subst (λ s. ReadsAlong (listening (Taking start false AfterSlot) old) level (listening s new)) next (record {
+      drives = λ other bit. refl;
+      begins = λ other bit. refl;
+      follows = λ known bit. end_follows known start AfterSlot (Taking start false AfterSlot) old new bit level refl (λ errors may. tail_later start may errors level) push;
+      listens = refl;
+    })
+along_end state behind old new level is push = absurd (cc is)
+
 -- a bit of a frame that is sent to all others
-pub sends_to : (node : Node) (start place next : ℕ) (listener : Listener) (level : Bool) (reader : Reader) → node.state ≡ Sending start place → place + 9 < length node.spelling.levels.items →
-    level ≡ level_at node.spelling place → next ≡ min (place + 1) 255 → is_in_region listener.state ≡ true → ReadsOn listener.reader level reader →
-    SendsTo node listener level (record { state = Sending start next; reader = node.reader; spelling = node.spelling; counters = node.counters; clock = node.clock + 1 }) (listening listener.state reader)
-sends_to node start place next listener level reader here before echo next_is inside reads =
-    let after : Node = record { state = Sending start next; reader = node.reader; spelling = node.spelling; counters = node.counters; clock = node.clock + 1 } in
+pub sends_to : (node : Node) (start place next : ℕ) (before after : Listener) (level : Bool) → node.state ≡ Sending start place → (place + 9 ≡ length node.spelling.levels.items → ⊥) →
+    (place + 1 ≡ length node.spelling.levels.items → ⊥) → level ≡ level_at node.spelling place → next ≡ min (place + 1) 255 → ReadsAlong before level after →
+    SendsTo node before level (record { state = Sending start next; reader = node.reader; spelling = node.spelling; counters = node.counters; clock = node.clock + 1 }) after
+sends_to node start place next before after level here slot last echo next_is along =
+    let behind : Node = record { state = Sending start next; reader = node.reader; spelling = node.spelling; counters = node.counters; clock = node.clock + 1 } in
     let steps : Steps node.state node.counters node.reader node.spelling node.clock level Nothing (Sending start next) node.counters node.reader =
     rw here
     (quiet_steps (Sending start place) (Sending start next) node.counters node.reader node.reader node.spelling node.clock level
     (λ errors. sending_advances start place node.reader node.reader node.spelling node.clock errors level (quiet (Sending start next))
-    (send_echoed start place next node.spelling errors level (λ slot. omega (arith, slot, before)) echo (λ last. omega (arith, last, before)) next_is) (λ is. absurd (cc is)) (λ is. absurd (cc is)))) in
+    (send_echoed start place next node.spelling errors level slot echo last next_is) (λ is. absurd (cc is)) (λ is. absurd (cc is)))) in
     record {
       drives = echo ∙ ap (λ state. level_in state node.spelling) (sym here);
       begins_none = ap may_start here;
-      samples = samples node after level Nothing steps refl refl;
-      history = stands_history after;
+      samples = samples node behind level Nothing steps refl refl;
+      history = stands_history behind;
       bit_is = refl;
       counts_none = refl;
-      others_drive = λ other bit. region_drives listener.state other.spelling inside;
-      others_begin = λ other bit. region_begins listener.state inside;
-      follows = λ known bit. region_follows known listener.state listener.reader reader bit level inside reads;
-      listens = region_listens listener.state inside;
+      others_drive = along.drives;
+      others_begin = along.begins;
+      follows = along.follows;
+      listens = along.listens;
     }

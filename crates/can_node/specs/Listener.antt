@@ -49,8 +49,16 @@ pub record IsUnseen (known : KnownCounts) (turn : Turn) : Type 0 where
   pub counts_none : (turn.event ≡ None) ⊎ ((known ≡ Zero) × (turn.event ≡ Some Received))
   pub sends_none : is_sending turn.state ≡ false
 
--- One bit of a frame that a node sends, before its ACK slot, while all others that are there listen: the line has the
--- level that it drives, for those drive recessive; it samples that and tells nothing, and so does each of them.
+-- One bit of a frame that all read for whom a listener stands, at which each drives recessive and none may begin to send:
+-- each samples this level, tells nothing and counts nothing.
+pub record ReadsAlong (before : Listener) (level : Bool) (after : Listener) : Type 0 where
+  pub drives : (node : Node) (bit : ℕ) → driven_by (caught_up node before bit) ≡ true
+  pub begins : (node : Node) (bit : ℕ) → may_begin (caught_up node before bit) ≡ false
+  pub follows : (known : KnownCounts) (bit : ℕ) → Follows known before bit level after
+  pub listens : IsListening after
+
+-- One bit of a frame that a node sends, but that of its ACK slot, while all others that are there listen: the line has
+-- the level that it drives, for those drive recessive; it samples that and tells nothing, and so does each of them.
 pub record SendsTo (old : Node) (before : Listener) (level : Bool) (new : Node) (after : Listener) : Type 0 where
   pub drives : level ≡ driven_by old
   pub begins_none : may_begin old ≡ false

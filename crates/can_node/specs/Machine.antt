@@ -141,6 +141,12 @@ abbrev pub is_in_region : State → Bool
 is_in_region (Taking start false Region) = true
 is_in_region state = false
 
+-- where it stands behind a level of the end of a frame with which the frame goes on, but that of the ACK slot
+abbrev pub behind_end : State → Option State
+behind_end (Taking start false (AfterRegion right)) = Some (Taking start false (Slot right))
+behind_end (Taking start false AfterSlot) = Some (Taking start false AfterSlot)
+behind_end state = None
+
 -- a receiver
 abbrev pub is_receiver : Role → Bool
 is_receiver Receiver = true

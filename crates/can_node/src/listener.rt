@@ -5,13 +5,15 @@ ghost use Rattle.can_node.specs.declared.node.Node.{Node};
 ghost use Rattle.can_node.specs.KnownCounts.{Admits};
 ghost use Rattle.can_node.specs.Machine.{Goes, GoesReading, is_sending, is_taking, quiet};
 ghost use Rattle.can_node.specs.Node.{driven_by, may_begin};
-ghost use Rattle.can_node.specs.Listener.{IsListening, IsUnseen, Follows, caught_up};
+ghost use Rattle.can_node.specs.Listener.{IsListening, IsUnseen, Follows, ReadsAlong, caught_up};
 ghost use Rattle.can_node.specs.declared.confinement.ErrorState.{ErrorState as ErrorStateValue};
 ghost use Rattle.can_node.specs.declared.confinement.ErrorState.TheVariants.{Active as ErrorActive};
 
 use crate::confinement::{ErrorEvent, ErrorState};
 use crate::known_counts::KnownCounts;
-use crate::machine::{is_in_region, is_taking, level_of, may_start, reader_after_sof, turn_of};
+use crate::machine::{
+    behind_end, is_in_region, is_taking, level_of, may_start, reader_after_sof, turn_of,
+};
 use crate::outcome::Outcome;
 use crate::state::{Stage, State, Turn};
 use crate::takes::after_taking;
@@ -61,6 +63,36 @@ impl Listener {
             }
         }
         self.turn(bit, level, known)
+    }
+
+    /// Follows a bit of a frame at which all of them drive recessive, none may begin to send, and each samples this
+    /// level, and tells whether it did: then each has told nothing and counted nothing. So it goes but at the ACK slot
+    /// and at the bit at which the frame is taken. Else it is as it was.
+    #[inline(always)]
+    pub(crate) fn reads_along(&mut self, level: bool) -> bool
+        ensures along { result ≡ true → ReadsAlong self.old level self.new }
+        ensures other { result ≡ false → self.new ≡ self.old }
+    {
+        if is_in_region(self.state) {
+            return self.reader.reads_on(level);
+        }
+        self.reads_end(level)
+    }
+
+    /// So behind the stuffed region.
+    #[inline(never)]
+    fn reads_end(&mut self, level: bool) -> bool
+        ensures along { result ≡ true → ReadsAlong self.old level self.new }
+        ensures other { result ≡ false → self.new ≡ self.old }
+    {
+        let Some(behind) = behind_end(self.state) else {
+            return false;
+        };
+        if !self.reader.reads_tail(level) {
+            return false;
+        }
+        self.state = behind;
+        true
     }
 
     /// Follows a bit that makes a turn, where that can be.

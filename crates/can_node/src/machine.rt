@@ -9,6 +9,7 @@ ghost use Rattle.can_node.specs.Machine.{
   IsMade,
   IsSteady,
   Steps,
+  behind_end,
   is_in_region,
   is_receiver,
   is_taking,
@@ -110,6 +111,20 @@ pub(crate) fn is_in_region(state: State) -> bool
     match state {
         State::Taking(_, may_begin, stage) => !may_begin && stage == Stage::Region,
         _ => false,
+    }
+}
+
+/// Where a node in this state stands behind a level of the end of a frame with which the frame goes on. `None` in the
+/// ACK slot, and where it reads no end of a frame.
+pub(crate) fn behind_end(state: State) -> Option<State>
+    ensures { result ≡ behind_end state }
+{
+    match state {
+        State::Taking(start, false, Stage::AfterRegion(right)) => {
+            Some(State::Taking(start, false, Stage::Slot(right)))
+        }
+        State::Taking(_, false, Stage::AfterSlot) => Some(state),
+        _ => None,
     }
 }
 

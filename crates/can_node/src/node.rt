@@ -21,7 +21,7 @@ ghost use Rattle.can_node.specs.Node.{
 use crate::counters::Counters;
 use crate::known_counts::KnownCounts;
 use crate::listener::Listener;
-use crate::machine::{advance, begin, is_in_region, level_in, listens, may_start, sof_of};
+use crate::machine::{advance, begin, level_in, listens, may_start, sof_of};
 use crate::outcome::Outcome;
 use crate::spelled::Spelled;
 use crate::state::State;
@@ -185,9 +185,9 @@ impl Node {
     }
 
     /// One bit of a frame that the node sends while all others listen: what `drive`, `sample` and `Listener::follow`
-    /// do where the others read on in the stuffed region, in one step, and the level that the line has then. `None`
-    /// where it sends no frame, has come to its ACK slot, or the listener does not read on there with that level: then
-    /// nothing is changed.
+    /// do where the others read along, in one step, and the level that the line has then. `None` where it sends no
+    /// frame, has come to its ACK slot or its last bit, or the listener does not read along with that level: then nothing
+    /// is changed.
     #[inline(always)]
     pub fn send_to(&mut self, listener: &mut Listener) -> Option<bool>
         requires { bit_of self.old < u64.MAX }
@@ -198,11 +198,8 @@ impl Node {
         let State::Sending(_start, place) = &mut self.state else {
             return None;
         };
-        if !is_in_region(listener.state) {
-            return None;
-        }
-        let level = self.spelling.spelling().level_before_slot(*place)?;
-        if !listener.reader.reads_on(level) {
+        let level = self.spelling.spelling().level_elsewhere(*place)?;
+        if !listener.reads_along(level) {
             return None;
         }
         *place = place.saturating_add(1);

@@ -93,11 +93,14 @@ impl Spelling {
         level == self.level(place)
     }
 
-    /// The level in this place, if that stands before the ACK slot.
-    pub(crate) fn level_before_slot(&self, place: u8) -> Option<bool>
-        ensures { IfSome result (λ level. (place + 9 < length self.now.levels.items) × (level ≡ level_at self.now place)) }
+    /// The level in this place, if it is neither the ACK slot nor the last bit of EOF.
+    pub(crate) fn level_elsewhere(&self, place: u8) -> Option<bool>
+        ensures slot { IfSome result (λ level. place + 9 ≡ length self.now.levels.items → ⊥) }
+        ensures last { IfSome result (λ level. place + 1 ≡ length self.now.levels.items → ⊥) }
+        ensures level { IfSome result (λ level. level ≡ level_at self.now place) }
     {
-        if usize::from(place) + 9 >= self.levels.len() {
+        let left = self.levels.len().saturating_sub(usize::from(place));
+        if left == 9 || left <= 1 {
             return None;
         }
         Some(self.level(place))

@@ -4,6 +4,7 @@ use Rattle.std.specs.Prelude.{◌≡◌, ℕ, ◌+◌, ◌≤◌, Option, Some, 
 use Rattle.can_frame.specs.Frames.{FrameValue}
 use Rattle.bx_core.specs.TxBus.{Item, BusPast, no_bus_past}
 use Rattle.can_segment.specs.Brought.{told_of, all_in, taken_in, grown, StartsUndone}
+use Rattle.can_segment.specs.QuietBits.{MakeQuietBits}
 use Rattle.can_segment.specs.Segments.{SegmentValue, Fit}
 use Rattle.gw_site.specs.declared.site.Site.{Site}
 
@@ -24,6 +25,12 @@ pub record SiteHolds {P : Type 0} (after : P → BusPast → Type 0) (transmitti
 pub record PortsLeave {P : Type 0} (stays : P → P → Type 0) (old new : List P) : Type 0 where
   pub at : (k : ℕ) (a b : P) → slice_get old k ≡ Some a → slice_get new k ≡ Some b → stays a b
   pub size : length new ≡ length old
+
+-- a segment made one bit more, and behind it such as need no port, or none
+pub record MakesOneAndQuiet (old new : SegmentValue) : Type 0 where
+  pub behind_one : SegmentValue
+  pub one : length behind_one.levels ≡ length old.levels + 1
+  pub quiet : MakeQuietBits behind_one new
 
 -- before the first of so many bits
 pub record IsNewSegment {P : Type 0} (after : P → BusPast → Type 0) (transmitting : P → Option Item) (sink : P → List FrameValue → Type 0) (bits : ℕ) (segment : SegmentValue) (ports : List P) : Type 0 where

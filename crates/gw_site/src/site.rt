@@ -1,7 +1,7 @@
 //! A segment of a run, and the controllers on it.
 
 ghost use Rattle.std.specs.Prelude.{◌≡◌, ◌+◌, ◌<◌, ◌≤◌, IfOk, OnOk, length};
-ghost use Rattle.gw_site.specs.Sites.{SiteHolds, PortsLeave};
+ghost use Rattle.gw_site.specs.Sites.{SiteHolds, PortsLeave, MakesOneAndQuiet};
 
 use can_frame::Memory;
 use can_segment::{RxSink, Segment};
@@ -53,6 +53,7 @@ pub fn make_bits<R, P: RxSink<R>>(
     ensures longer { OnOk result (length segment.old.levels < length segment.new.levels) }
     ensures most { OnOk result (length segment.new.levels ≤ limit) }
     ensures within { OnOk result (length segment.new.levels ≤ segment.old.plan.bits) }
+    ensures quiet { OnOk result (MakesOneAndQuiet segment.old segment.new) }
     ensures ports { OnOk result (PortsLeave P.port_stays ports.old ports.new) }
 {
     make_bit(rt, segment, ports)?;
