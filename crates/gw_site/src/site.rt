@@ -1,6 +1,6 @@
 //! A segment of a run, and the controllers on it.
 
-ghost use Rattle.std.specs.Prelude.{◌≡◌, ◌+◌, ◌<◌, ◌≤◌, IfOk, OnOk, length};
+ghost use Rattle.std.specs.Prelude.{◌≡◌, ◌+◌, ◌<◌, ◌≤◌, IfOk, OnOk, OnErr, length};
 ghost use Rattle.gw_site.specs.Sites.{SiteHolds, PortsLeave, MakesOneAndQuiet};
 
 use can_frame::Memory;
@@ -28,6 +28,7 @@ pub fn make_bit<R, P: RxSink<R>>(
     ensures plan { OnOk result (segment.new.plan ≡ segment.old.plan) }
     ensures longer { OnOk result (length segment.new.levels ≡ length segment.old.levels + 1) }
     ensures ports { OnOk result (PortsLeave P.port_stays ports.old ports.new) }
+    ensures memory { OnErr result ((segment.new ≡ segment.old) × (ports.new ≡ ports.old)) }
 {
     match segment.bit(rt, ports) {
         Ok(()) => Ok(()),
@@ -55,6 +56,7 @@ pub fn make_bits<R, P: RxSink<R>>(
     ensures within { OnOk result (length segment.new.levels ≤ segment.old.plan.bits) }
     ensures quiet { OnOk result (MakesOneAndQuiet segment.old segment.new) }
     ensures ports { OnOk result (PortsLeave P.port_stays ports.old ports.new) }
+    ensures memory { OnErr result ((segment.new ≡ segment.old) × (ports.new ≡ ports.old)) }
 {
     make_bit(rt, segment, ports)?;
     segment.quiet_bits(limit);
