@@ -8,7 +8,7 @@ use Rattle.clap.specs.Lexer.{long_of, short_of}
 use Rattle.clap.specs.Simple.{Shape, built_leaf, inherited, marked_built, on_top, with_leaf_noted}
 use Rattle.clap.specs.Takes.{default_passes, is_valid, level_passes, settle_passes, step_passes}
 use Rattle.clap.specs.Walk.{Held, Walk, after_step, arg_by_index, finished, idle, nothing_held, to_positional, value, walk, walk_from, word_met}
-use Rattle.clap.specs.Words.{Row, Rule, Text, first_of, one_of, subcommand_of, takes}
+use Rattle.clap.specs.Words.{Row, Rule, Text, one_of, subcommand_of, takes}
 use Rattle.clap.specs.declared.parser.matches.ValueSource.TheVariants.{CommandLine}
 use Rattle.clap.specs.declared.builder.value_parser.Reading.TheVariants.{AsWritten}
 use Rattle.clap.proofs.OnLiterals.{clap_on_literals}

@@ -54,29 +54,23 @@ file_named (Some word) = if bytes_eq word (codes "-") then None else Some word
 abbrev pub file_rule : Rule
 file_rule = record (new_rule (codes "file")) { value_names = 1 }
 
-abbrev pub turn_rule : Rule
-turn_rule = record (new_rule (codes "turn")) {
-  long = Some (codes "turn");
+-- an option of this name that takes a number from 1 to the most
+abbrev pub number_rule : List ℕ → ℕ → Rule
+number_rule name most = record (new_rule name) {
+  long = Some name;
   value_names = 1;
-  defaults = codes "1" ∷ [];
-  parser = Some (Signed (pos 1) (pos 1000000));
+  parser = Some (Signed (pos 1) (pos most));
 }
+
+abbrev pub turn_rule : Rule
+turn_rule = record (number_rule (codes "turn") 1000000) { defaults = codes "1" ∷ [] }
 
 -- `--threads`, which need not be given
 abbrev pub threads_rule : Rule
-threads_rule = record (new_rule (codes "threads")) {
-  long = Some (codes "threads");
-  value_names = 1;
-  parser = Some (Signed (pos 1) (pos 16));
-}
+threads_rule = number_rule (codes "threads") 16
 
 abbrev pub slack_rule : Rule
-slack_rule = record (new_rule (codes "slack")) {
-  long = Some (codes "slack");
-  value_names = 1;
-  defaults = codes "64" ∷ [];
-  parser = Some (Signed (pos 1) (pos 1000000));
-}
+slack_rule = record (number_rule (codes "slack") 1000000) { defaults = codes "64" ∷ [] }
 
 abbrev pub core_app : App
 core_app = with_rule (new_app (codes "core")) file_rule

@@ -4,7 +4,7 @@ ghost use Rattle.std.specs.Prelude.{◌≡◌, ◌∷◌, [], List, ℕ, Some, N
 ghost use Rattle.std.specs.Fmt.{decimal};
 ghost use Rattle.clap.specs.Words.{app_of, kind_of, first_of, found_of, one_of, rows_of, rule_of, subcommand_name_of, subcommand_rows_of, HasMatchesOf, Row, Text, takes};
 ghost use Rattle.clap.specs.declared.builder.command.Command.TheViews.{out-Command};
-ghost use Rattle.gw_command.specs.Words.{bxgate_app, core_app, turns_app, threads_app, slack_app, run_app, file_rule, file_named, name_of, IsTurn, IsThreads, IsSlack, HasRanges, IsRunTask, IsFileName, IsTakenAs, asked_of};
+ghost use Rattle.gw_command.specs.Words.{bxgate_app, core_app, turns_app, threads_app, slack_app, run_app, file_rule, number_rule, file_named, name_of, IsTurn, IsThreads, IsSlack, HasRanges, IsRunTask, IsFileName, IsTakenAs, asked_of};
 
 use crate::order::Order;
 use crate::task::Task;
@@ -35,6 +35,18 @@ fn file_argument<'a>(alloc: Global) -> Arg<'a>
     )
 }
 
+/// An option of this name that takes a number from 1 to the most.
+fn number_option<'a>(alloc: Global, name: &'static str, help: &'static str, most: u32) -> Arg<'a>
+    ensures rule { rule_of result ≡ number_rule name.now most }
+    ensures local { result.global ≡ false }
+{
+    Arg::new(alloc, name)
+        .long(name)
+        .value_name("N")
+        .help(help)
+        .value_parser(value_parser!(u32).range(1..=i64::from(most)))
+}
+
 /// The subcommand that reports on a list of events.
 fn core_command<'a>(alloc: Global) -> Result<Command<'a>, AllocError>
     ensures app { IfOk result (λ command. app_of command ≡ core_app) }
@@ -51,12 +63,8 @@ fn turns_command<'a>(alloc: Global) -> Result<Command<'a>, AllocError>
     ensures app { IfOk result (λ command. app_of command ≡ turns_app) }
     ensures local { IfOk result (λ command. (out-Command command).has_globals ≡ false) }
 {
-    let turn = Arg::new(alloc, "turn")
-        .long("turn")
-        .value_name("N")
-        .help("Makes a turn of each route after every N bits, 1 to 1000000")
-        .value_parser(value_parser!(u32).range(1..=i64::from(MOST_BITS)))
-        .default_value("1");
+    let help = "Makes a turn of each route after every N bits, 1 to 1000000";
+    let turn = number_option(alloc, "turn", help, MOST_BITS).default_value("1");
     Command::new(alloc, "run")
         .about(
             "Reads a script of segments, controllers and routes (JSON) from FILE, runs it, and reports on the run",
@@ -69,11 +77,8 @@ fn threads_command<'a>(alloc: Global) -> Result<Command<'a>, AllocError>
     ensures app { IfOk result (λ command. app_of command ≡ threads_app) }
     ensures local { IfOk result (λ command. (out-Command command).has_globals ≡ false) }
 {
-    let threads = Arg::new(alloc, "threads")
-        .long("threads")
-        .value_name("N")
-        .help("Runs each segment in a thread of its own, and the routes by N more, 1 to 16")
-        .value_parser(value_parser!(u32).range(1..=i64::from(MOST_THREADS)));
+    let help = "Runs each segment in a thread of its own, and the routes by N more, 1 to 16";
+    let threads = number_option(alloc, "threads", help, MOST_THREADS);
     let command = turns_command(alloc)?;
     command.arg(threads)
 }
@@ -83,12 +88,8 @@ fn slack_command<'a>(alloc: Global) -> Result<Command<'a>, AllocError>
     ensures app { IfOk result (λ command. app_of command ≡ slack_app) }
     ensures local { IfOk result (λ command. (out-Command command).has_globals ≡ false) }
 {
-    let slack = Arg::new(alloc, "slack")
-        .long("slack")
-        .value_name("N")
-        .help("In threads, lets no segment be more than N bits ahead of another, 1 to 1000000")
-        .value_parser(value_parser!(u32).range(1..=i64::from(MOST_SLACK)))
-        .default_value("64");
+    let help = "In threads, lets no segment be more than N bits ahead of another, 1 to 1000000";
+    let slack = number_option(alloc, "slack", help, MOST_SLACK).default_value("64");
     let command = threads_command(alloc)?;
     command.arg(slack)
 }

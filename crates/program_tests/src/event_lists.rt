@@ -4,7 +4,7 @@ use crate::run::{is_refused, run_of};
 use gw_tool::tool;
 use std::test::Fail;
 
-pub const SENDS_ONE_FRAME: &str =
+pub(crate) const SENDS_ONE_FRAME: &str =
     r#"{"routes":2,"events":[{"event":"claim","route":0,"mailbox":0},{"event":"request","route":0,"mailbox":0,"number":1,"frame":{"id":0,"ext":false,"data":[]}},{"event":"start","mailbox":0},{"event":"schedule","mailbox":0},{"event":"start","mailbox":0},{"event":"complete","mailbox":0}]}"#;
 
 #[test]

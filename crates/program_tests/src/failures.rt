@@ -1,6 +1,7 @@
 //! Inputs that are too long, reads and writes that fail, and what is told of them.
 
 use crate::event_lists::SENDS_ONE_FRAME;
+use crate::run::run_on;
 use crate::runs::ONE_FRAME;
 use crate::streams::{Blanks, Closed, Failing};
 use gw_run::RunFault;
@@ -10,50 +11,28 @@ use std::test::Fail;
 
 #[test]
 fn refuses_what_is_too_long(rt: HostRuntime) {
-    let alloc = rt.alloc();
     for (command, count, fault) in [
         ("core", 16_777_216, "bxgate: J1 NotJson\n"),
         ("core", 16_777_217, "bxgate: J8 TooMany input\n"),
         ("run", 16_777_216, "bxgate: J1 NotJson\n"),
         ("run", 16_777_217, "bxgate: J8 TooMany input\n"),
     ] {
-        let mut output = Vec::new(alloc);
-        let mut faults = Vec::new(alloc);
-        let words = ["bxgate", command];
         let mut input = Blanks { left: count };
-        let status = tool(
-            &rt,
-            alloc,
-            words.as_slice(),
-            &mut input,
-            &mut output,
-            &mut faults,
-        );
-        assert_eq!(rt; status, 2);
-        assert_eq!(rt; output.len(), 0);
-        assert_eq!(rt; faults.as_slice(), fault.as_bytes());
+        let run = run_on(&rt, ["bxgate", command].as_slice(), &mut input);
+        assert_eq!(rt; run.status, 2);
+        assert_eq!(rt; run.output.len(), 0);
+        assert_eq!(rt; run.faults.as_slice(), fault.as_bytes());
     }
 }
 
 #[test]
 fn tells_of_a_read_fault(rt: HostRuntime) {
-    let alloc = rt.alloc();
     for command in ["core", "run"] {
-        let words = ["bxgate", command];
-        let mut output = Vec::new(alloc);
-        let mut faults = Vec::new(alloc);
         let mut input = Failing { calls: 0 };
-        let status = tool(
-            &rt,
-            alloc,
-            words.as_slice(),
-            &mut input,
-            &mut output,
-            &mut faults,
-        );
-        assert_eq!(rt; status, 74);
-        assert_eq!(rt; output.len(), 0);
-        assert_eq!(rt; faults.as_slice(), b"bxgate: read fault\n".as_slice());
+        let run = run_on(&rt, ["bxgate", command].as_slice(), &mut input);
+        assert_eq!(rt; run.status, 74);
+        assert_eq!(rt; run.output.len(), 0);
+        assert_eq!(rt; run.faults.as_slice(), b"bxgate: read fault\n".as_slice());
     }
 }
 

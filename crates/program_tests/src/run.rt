@@ -2,27 +2,28 @@
 
 use gw_tool::tool;
 use std::alloc::AllocError;
+use std::io::Read;
 use std::sync::Wait;
 use std::thread::Threads;
 
 /// What a run of the program did.
 #[derive(Drop)]
-pub struct Run {
-    pub status: u8,
-    pub output: Vec<u8>,
-    pub faults: Vec<u8>,
+pub(crate) struct Run {
+    pub(crate) status: u8,
+    pub(crate) output: Vec<u8>,
+    pub(crate) faults: Vec<u8>,
 }
 
-/// Runs `tool` on these words and this input.
-pub fn run_of<H: Threads + Wait + AllocGlobal + Copy + Send + Sync + 'static>(
+/// Runs `tool` on these words and what this reader gives.
+pub(crate) fn run_on<H: Threads + Wait + AllocGlobal + Copy + Send + Sync + 'static, R: Read>(
     rt: &H,
     words: &[&str],
-    mut input: &[u8],
+    input: &mut R,
 ) -> Run {
     let alloc = rt.alloc();
     let mut output = Vec::new(alloc);
     let mut faults = Vec::new(alloc);
-    let status = tool(rt, alloc, words, &mut input, &mut output, &mut faults);
+    let status = tool(rt, alloc, words, input, &mut output, &mut faults);
     Run {
         status,
         output,
@@ -30,8 +31,17 @@ pub fn run_of<H: Threads + Wait + AllocGlobal + Copy + Send + Sync + 'static>(
     }
 }
 
+/// Runs `tool` on these words and this input.
+pub(crate) fn run_of<H: Threads + Wait + AllocGlobal + Copy + Send + Sync + 'static>(
+    rt: &H,
+    words: &[&str],
+    mut input: &[u8],
+) -> Run {
+    run_on(rt, words, &mut input)
+}
+
 /// Whether a command refuses this input for this fault, and writes nothing.
-pub fn is_refused<H: Threads + Wait + AllocGlobal + Copy + Send + Sync + 'static>(
+pub(crate) fn is_refused<H: Threads + Wait + AllocGlobal + Copy + Send + Sync + 'static>(
     rt: &H,
     command: &str,
     input: &[u8],

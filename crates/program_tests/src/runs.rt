@@ -7,15 +7,20 @@ use std::test::Fail;
 use std::thread::Threads;
 
 /// A talker with one frame, and a listener.
-pub const ONE_FRAME: &str =
+pub(crate) const ONE_FRAME: &str =
     r#"{"version":1,"bits":64,"segments":[{"name":"a","talkers":[{"name":"t","on":0,"frames":[{"id":0,"ext":false,"data":[]}]},{"name":"l","on":0,"frames":[]}]}],"controllers":[],"routes":[]}"#;
 
 /// A gateway with one route between two segments, and three frames that go over it.
-pub const THREE_FRAMES: &str =
+pub(crate) const THREE_FRAMES: &str =
     r#"{"version":1,"bits":300,"segments":[{"name":"a","talkers":[{"name":"t","on":0,"frames":[{"id":0,"ext":false,"data":[]},{"id":0,"ext":false,"data":[]},{"id":0,"ext":false,"data":[]}]}]},{"name":"b","talkers":[{"name":"l","on":0,"frames":[]}]}],"controllers":[{"name":"c","segment":"a","on":0,"banks":[{"bank":0,"scale":32,"mode":"mask","fifo":0,"active":true,"r1":0,"r2":0}]},{"name":"d","segment":"b","on":0,"banks":[]}],"routes":[{"name":"r","from":"c","fifo":0,"to":"d"}]}"#;
 
 /// The text with the first of these places changed; as it was where there is none.
-pub fn changed(alloc: Global, text: &str, old: &str, new: &str) -> Result<String, AllocError> {
+pub(crate) fn changed(
+    alloc: Global,
+    text: &str,
+    old: &str,
+    new: &str,
+) -> Result<String, AllocError> {
     match text.split_once(old) {
         Some((front, back)) => format!(in alloc; "{front}{new}{back}"),
         None => String::from_str(alloc, text),
@@ -29,7 +34,7 @@ const ONE_FRAME_REPORT: &str = "a 11 t started 000 data -\n\
      a node l tec 0 rec 0 active\n\
      a end 64\n";
 
-pub const THREE_FRAMES_REPORT: &str = "a 11 t started 000 data -\n\
+pub(crate) const THREE_FRAMES_REPORT: &str = "a 11 t started 000 data -\n\
      a 59 c took 11 000 data -\n\
      a 60 t completed 11 000 data -\n\
      a 64 t started 000 data -\n\
@@ -55,7 +60,7 @@ pub const THREE_FRAMES_REPORT: &str = "a 11 t started 000 data -\n\
      b end 300\n\
      route r accepted 3 overrun 0 released 3 completed 3 aborted 0 held 0\n";
 
-pub fn is_reported<H: Threads + Wait + AllocGlobal + Copy + Send + Sync + 'static>(
+pub(crate) fn is_reported<H: Threads + Wait + AllocGlobal + Copy + Send + Sync + 'static>(
     rt: &H,
     words: &[&str],
     script: &str,

@@ -5,8 +5,8 @@ use std::io::{Error, ErrorKind, Read, Write};
 
 /// A reader of this many blanks.
 #[derive(Drop)]
-pub struct Blanks {
-    pub left: usize,
+pub(crate) struct Blanks {
+    pub(crate) left: usize,
 }
 
 impl Read for Blanks {
@@ -22,8 +22,8 @@ impl Read for Blanks {
 
 /// A reader that fails at its second call.
 #[derive(Drop)]
-pub struct Failing {
-    pub calls: u8,
+pub(crate) struct Failing {
+    pub(crate) calls: u8,
 }
 
 impl Read for Failing {
@@ -39,7 +39,7 @@ impl Read for Failing {
 
 /// A writer that takes nothing.
 #[derive(Drop)]
-pub struct Closed;
+pub(crate) struct Closed;
 
 impl Write for Closed {
     fn write(&mut self, _buf: &[u8]) -> io::Result<usize> {
