@@ -1,6 +1,8 @@
 //! A place with no files.
 
-ghost use Rattle.std.specs.Prelude.{None, IsErr};
+ghost use Rattle.std.specs.Prelude.{◌≡◌, None, IsErr, IfErr};
+ghost use Rattle.std.specs.IoError.{error_kind};
+ghost use Rattle.std.specs.declared.io.ErrorKind.TheVariants.{NotFound};
 
 use crate::files::Files;
 use std::io;
@@ -16,7 +18,8 @@ impl Files for NoFiles {
     type File = Empty;
 
     fn open(&self, _path: &str) -> io::Result<Empty>
-        ensures { IsErr result }
+        ensures fails { IsErr result }
+        ensures kind { IfErr result (λ e. error_kind e ≡ NotFound) }
     {
         Err(Error::from(ErrorKind::NotFound))
     }
