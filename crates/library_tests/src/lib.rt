@@ -10,6 +10,8 @@ mod filters;
 #[cfg(test)]
 mod frames;
 #[cfg(test)]
+mod listeners;
+#[cfg(test)]
 mod mailboxes;
 #[cfg(test)]
 mod node;
