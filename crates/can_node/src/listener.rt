@@ -66,8 +66,8 @@ impl Listener {
     }
 
     /// Follows a bit of a frame at which all of them drive recessive, none may begin to send, and each samples this
-    /// level, and tells whether it did: then each has told nothing and counted nothing. So it goes but at the ACK slot
-    /// and at the bit at which the frame is taken. Else it is as it was.
+    /// level, and tells whether it did: then each has told nothing and counted nothing. Most bits of a frame are such,
+    /// and not its ACK slot, nor those at which its body was read and it is taken. Else it is as it was.
     #[inline(always)]
     pub(crate) fn reads_along(&mut self, level: bool) -> bool
         ensures along { result ≡ true → ReadsAlong self.old level self.new }
