@@ -1,37 +1,46 @@
 -- Nodes that come to rest between two bits.
-use Rattle.std.proofs.Common.{◌≡◌, ◌≢◌, ℕ, inl, inr, Some, List, slice_get, refl, sym, ap, subst, arith, ◌∙◌}
+use Rattle.std.proofs.Common.{◌≡◌, ◌≢◌, ◌⊎◌, ℕ, ◌+◌, ◌<◌, ◌≤◌, inl, inr, Bool, true, false, Some, None, List, length, map, slice_get, set, refl, sym, ap, subst, arith, ◌∙◌}
+use Rattle.std.proofs.lemmas.Bool.{cases_lt}
+use Rattle.std.proofs.lemmas.List.{length-map}
 use Rattle.std.proofs.lemmas.Option.{slice_get_within}
-use Rattle.can_node.specs.Listener.{caught_up as node_caught_up}
-use Rattle.can_node.specs.Node.{StandsAfter, may_begin}
+use Rattle.can_node.specs.KnownCounts.{Knows}
+use Rattle.can_node.specs.Listener.{IsListening, caught_up as node_caught_up}
+use Rattle.can_node.specs.Node.{StandsAfter, counters_in, may_begin}
+use Rattle.can_node.specs.declared.counters.Counters.{Counters}
 use Rattle.can_node.specs.declared.listener.Listener.{Listener}
 use Rattle.can_segment.specs.declared.member.Member.{Member}
 use Rattle.can_segment.specs.declared.plan.Talker.{Talker}
 use Rattle.can_segment.specs.declared.rest.Rest.{Rest}
 use Rattle.can_segment.specs.Kept.{IsQuiet, no_deed}
-use Rattle.can_segment.specs.Places.{AtPlaces}
-use Rattle.can_segment.specs.Rests.{AreAlike, HasOther, IsAlike, IsResting, KnownBut, MayAllRest, MayRest, RestHolds, all_but, caught_up, undone}
-use Rattle.can_segment.proofs.AllBut.{but_at, but_length}
+use Rattle.can_segment.specs.Places.{AtPlaces, AtPlacesBelow}
+use Rattle.can_segment.specs.Rests.{AreAlike, AreResting, AreSpent, Chooses, IsAlike, IsLess, IsResting, IsSame, Lulls, MayLieDown, MayRest, NoneRests, RestHolds, caught_up, laid_down, members_at, woken}
+use Rattle.can_segment.proofs.Holds.{not_resting, same_rests}
 use Rattle.can_segment.proofs.NextBits.{some_there}
-use Rattle.can_segment.proofs.Places.{same_some}
+use Rattle.can_segment.proofs.Places.{get_set_other, get_set_same, places_end, places_start, places_step, same_some}
+use Rattle.can_segment.proofs.Shown.{map_at}
+use Rattle.can_segment.proofs.Woken.{awake_woken, none_resting}
 
 -- each is like itself
-pub alike_self : (members : List Member) → AreAlike members members
-alike_self members = record {
-  at = λ k a b p q. subst (IsAlike a) (same_some a b (sym p ∙ q)) (record {
-    on_is = refl;
-    sending_is = refl;
-    completed_is = refl;
-    bit_is = refl;
-    counters_are = refl;
-    begins = refl;
-    stands = λ past h. h;
-    quiet = λ h. h;
-  });
-  size = refl;
+like_itself : (m : Member) → IsAlike m m
+like_itself m = record {
+  on_is = refl;
+  sending_is = refl;
+  completed_is = refl;
+  bit_is = refl;
+  counters_are = refl;
+  begins = refl;
+  stands = λ past h. h;
+  quiet = λ h. h;
+}
+
+pub alike_self : (old new : List Member) → new ≡ old → AreAlike old new
+alike_self old new is = record {
+  at = λ k a b p q. subst (IsAlike a) (same_some a b (sym p ∙ ap (λ ms. slice_get ms k) (sym is) ∙ q)) (like_itself a);
+  size = ap length is;
 }
 
 -- one that has come to rest
-alike_resting : (listener : Listener) (bit : ℕ) (m : Member) → MayRest listener bit m → IsAlike m (caught_up listener bit (undone m))
+alike_resting : (listener : Listener) (bit : ℕ) (m : Member) → MayRest listener bit m → IsAlike m (woken listener bit (laid_down m))
 alike_resting listener bit m h = record {
   on_is = refl;
   sending_is = refl;
@@ -43,62 +52,152 @@ alike_resting listener bit m h = record {
   quiet = λ none. refl;
 }
 
-alike_undone : (m : Member) → IsAlike m (undone m)
-alike_undone m = record {
-  on_is = refl;
-  sending_is = refl;
-  completed_is = refl;
-  bit_is = refl;
-  counters_are = refl;
-  begins = refl;
-  stands = λ past h. h;
-  quiet = λ none. refl;
-}
+alike_lying : (listener : Listener) (bit : ℕ) (old new : Member) → MayLieDown listener bit old new → IsAlike (woken listener bit old) (woken listener bit new)
+alike_lying listener bit old new (inl same) = subst (λ m. IsAlike (woken listener bit old) (woken listener bit m)) (sym same) (like_itself (woken listener bit old))
+alike_lying listener bit old new (inr lies) =
+    subst (λ m. IsAlike m (woken listener bit new)) (sym (awake_woken listener bit old lies.0.awake)) (subst (λ m. IsAlike old (woken listener bit m)) (sym lies.1) (alike_resting listener bit old lies.0))
 
-pub alike_at_rest : (place : ℕ) (listener : Listener) (bit : ℕ) (old new : List Member) → ((k : ℕ) (m : Member) → slice_get old k ≡ Some m → k ≢ place → MayRest listener bit m) →
-    AtPlaces (λ k a b. b ≡ undone a) old new → AreAlike old (all_but place (caught_up listener bit) new)
-alike_at_rest place listener bit old new may undo = record {
-  at = λ k a b p q. elim (but_at place (caught_up listener bit) new k b q) [
-    | inl here ↦ subst (IsAlike a) (sym (undo.at k a b p here.1)) (alike_undone a)
-    | inr other ↦ (let is = undo.at k a other.0 p other.2 in
-        subst (IsAlike a) (ap (caught_up listener bit) (sym is) ∙ other.3) (alike_resting listener bit a (may k a p other.1)))
-  ];
-  size = but_length place (caught_up listener bit) new ∙ undo.size;
-}
+pub alike_at_rest : (one other : Listener) (bit : ℕ) (old new : List Member) → other ≡ one → AtPlaces (λ k. MayLieDown one bit) old new → AreAlike (map (woken one bit) old) (map (woken other bit) new)
+alike_at_rest one other bit old new same lie =
+    subst (λ listener. AreAlike (map (woken one bit) old) (map (woken listener bit) new)) (sym same)
+    (record {
+      at = λ k a b p q.
+          let x = map_at (woken one bit) old k a p in
+          let y = map_at (woken one bit) new k b q in
+          subst (λ m. IsAlike m b) x.2 (subst (IsAlike (woken one bit x.0)) y.2 (alike_lying one bit x.0 y.0 (lie.at k x.0 y.0 x.1 y.1)));
+      size = length-map new (woken one bit) ∙ lie.size ∙ sym (length-map old (woken one bit));
+    })
 
 quiet_undone : IsQuiet no_deed
 quiet_undone = record { no_start = refl; no_end = refl; no_reaping = refl }
 
-rests_undone : (rest : Rest) (bit : ℕ) (place : ℕ) (old new : List Member) → ((k : ℕ) (m : Member) → slice_get old k ≡ Some m → k ≢ place → MayRest rest.listener bit m) →
-    KnownBut place rest.known old → AtPlaces (λ k a b. b ≡ undone a) old new →
-    (k : ℕ) (m : Member) → slice_get new k ≡ Some m → k ≢ place → IsResting rest bit m
-rests_undone rest bit place old new may known undo k m e not =
-    let x = some_there old k (let within = slice_get_within new k m e in omega (arith, within, undo.size)) in
-    let h = may k x.0 x.1 not in
-    subst (IsResting rest bit) (sym (undo.at k x.0 m x.1 e)) (record {
-      is_on = h.is_on;
-      quiet = quiet_undone;
-      known = known k x.0 x.1 not;
-      listening = h.stands.listening;
-    })
-
-other_undone : (place : ℕ) (old new : List Member) → AtPlaces (λ k a b. b ≡ undone a) old new → HasOther place old → HasOther place new
-other_undone place old new undo h =
-    let x = some_there new h.0 (let within = slice_get_within old h.0 h.1 h.3 in omega (arith, within, undo.size)) in
-    (h.0, x.0, h.2, x.1)
-
-pub holds_at_rest : (rest : Rest) (bit : ℕ) (plan : List Talker) (t0 t1 c0 c1 : List Member) → MayAllRest rest bit plan t0 c0 → AtPlaces (λ k a b. b ≡ undone a) t0 t1 → AtPlaces (λ k a b. b ≡ undone a) c0 c1 →
-    RestHolds rest bit plan t1 c1
-holds_at_rest rest bit plan t0 t1 c0 c1 h talkers controllers = record {
-  talkers_rest = λ resting. record {
-    each = rests_undone rest bit rest.talker t0 t1 h.talkers_may h.talkers_known talkers;
-    spent = λ is k m talker e f not.
-        let x = some_there t0 k (let within = slice_get_within t1 k m e in omega (arith, within, talkers.size)) in
-        ap (λ y. slice_get talker.frames.items y.station.completed) (talkers.at k x.0 m x.1 e) ∙ (h.spent is).0 k x.0 talker x.1 f;
-  };
-  controllers_rest = λ resting. record {
-    each = rests_undone rest bit rest.controller c0 c1 h.controllers_may h.controllers_known controllers;
-    spent = λ is. controllers.size ∙ (h.spent is).1;
-  };
-  some_rests = λ resting. elim h.some_rests [ inl other ↦ inl (other_undone rest.talker t0 t1 talkers other) | inr other ↦ inr (other_undone rest.controller c0 c1 controllers other) ];
+-- where more rest less is known of all
+less_resting : (before after : Rest) (bit : ℕ) (m : Member) → IsLess before after → IsResting before bit m → IsResting after bit m
+less_resting before after bit m less h = record {
+  some_rest = less.resting_is ∙ h.some_rest;
+  is_on = h.is_on;
+  quiet = h.quiet;
+  known = less.knows (counters_in m.station.node) h.known;
+  listening = subst IsListening (sym less.listener_is) h.listening;
 }
+
+pub less_rests : (before after : Rest) (bit : ℕ) (members : List Member) → IsLess before after → AreResting before bit members → AreResting after bit members
+less_rests before after bit members less rests k m e is = less_resting before after bit m less (rests k m e is)
+
+less_too : (before mid after : Rest) → IsLess before mid → IsLess mid after → IsLess before after
+less_too before mid after one other = record {
+  listener_is = other.listener_is ∙ one.listener_is;
+  resting_is = other.resting_is ∙ one.resting_is;
+  knows = λ counters h. other.knows counters (one.knows counters h);
+  spends = λ s. one.spends (other.spends s);
+  many = λ few. other.many (one.many few);
+}
+
+less_itself : (rest : Rest) → IsLess rest rest
+less_itself rest = record { listener_is = refl; resting_is = refl; knows = λ counters h. h; spends = λ s. s; many = λ few. few }
+
+-- the first of these may have come to rest
+pub record LullsBelow (before now : Rest) (bit : ℕ) (old new : List Member) (i : ℕ) : Type 0 where
+  pub less : IsLess before now
+  pub lie : AtPlacesBelow (λ k. MayLieDown before.listener bit) old new i
+  pub rests : AreResting now bit new
+
+pub lulls_start : (rest : Rest) (bit : ℕ) (members : List Member) → AreResting rest bit members → LullsBelow rest rest bit members members 0
+lulls_start rest bit members rests = record { less = less_itself rest; lie = places_start (λ k. MayLieDown rest.listener bit) members; rests = rests }
+
+lulled_resting : (spent : Bool) (before after : Rest) (bit : ℕ) (old new : Member) → Lulls bit spent before after old new → (old.rests ≡ true → IsResting before bit old) → new.rests ≡ true → IsResting after bit new
+lulled_resting spent before after bit old new h rested is = by h.lies
+  where
+    by : MayLieDown before.listener bit old new → IsResting after bit new
+    by (inl same) = subst (IsResting after bit) (sym same) (less_resting before after bit old h.less (rested (ap (λ m. m.rests) (sym same) ∙ is)))
+    by (inr lies) = record {
+      some_rest = h.some_rest lies.0.awake is;
+      is_on = subst (λ m. m.on ≤ bit) (sym lies.1) lies.0.is_on;
+      quiet = subst (λ m. IsQuiet m.deed) (sym lies.1) quiet_undone;
+      known = h.known lies.0.awake is;
+      listening = subst IsListening (sym h.less.listener_is) lies.0.stands.listening;
+    }
+
+pub lulls_step : (spent : Bool) (before now next : Rest) (bit : ℕ) (old new : List Member) (i : ℕ) (a b : Member) → i < length old → slice_get new i ≡ Some a → Lulls bit spent now next a b → LullsBelow before now bit old new i →
+    LullsBelow before next bit old (set new i b) (i + 1)
+lulls_step spent before now next bit old new i a b room here h so_far = record {
+  less = less_too before now next so_far.less h.less;
+  lie = places_step (λ k. MayLieDown before.listener bit) old new i a b room here (subst (λ listener. MayLieDown listener bit a b) so_far.less.listener_is h.lies) so_far.lie;
+  rests = λ k m e is. elim (cases_lt k i) [
+    | inl less ↦ (let ne : k ≢ i = omega arith in other k m ne e is)
+    | inr more ↦ elim (cases_lt i k) [
+      | inl less ↦ (let ne : k ≢ i = omega arith in other k m ne e is)
+      | inr same_place ↦ (let at : k ≡ i = omega arith in
+          let same : b ≡ m = same_some b m (sym (get_set_same new i b (omega (arith, room, so_far.lie.size))) ∙ ap (slice_get (set new i b)) (sym at) ∙ e) in
+          subst (IsResting next bit) same (lulled_resting spent now next bit a b h (so_far.rests i a here) (ap (λ x. x.rests) same ∙ is)))
+    ]
+  ];
+}
+  where
+    other : (k : ℕ) (m : Member) → k ≢ i → slice_get (set new i b) k ≡ Some m → m.rests ≡ true → IsResting next bit m
+    other k m ne e is = less_resting now next bit m h.less (so_far.rests k m (sym (get_set_other new i k b ne) ∙ e) is)
+
+pub lulls_end : (before now : Rest) (bit : ℕ) (old new : List Member) (i : ℕ) → length old ≤ i → LullsBelow before now bit old new i → AtPlaces (λ k. MayLieDown before.listener bit) old new
+lulls_end before now bit old new i all h = places_end (λ k. MayLieDown before.listener bit) old new i all h.lie
+
+-- those talkers that have come to rest have no frame left, where that is known
+pub spent_step : (spent : Bool) (now next : Rest) (bit : ℕ) (plan : List Talker) (new : List Member) (i : ℕ) (a b : Member) (talker : Talker) → i < length new → slice_get new i ≡ Some a → slice_get plan i ≡ Some talker → Lulls bit spent now next a b →
+    (spent ≡ true → slice_get talker.frames.items a.station.completed ≡ None) → AreSpent now plan new → AreSpent next plan (set new i b)
+spent_step spent now next bit plan new i a b talker room here planned h none so_far is_spent k m t e f is = elim (cases_lt k i) [
+  | inl less ↦ (let ne : k ≢ i = omega arith in so_far (h.less.spends is_spent) k m t (sym (get_set_other new i k b ne) ∙ e) f is)
+  | inr more ↦ elim (cases_lt i k) [
+    | inl less ↦ (let ne : k ≢ i = omega arith in so_far (h.less.spends is_spent) k m t (sym (get_set_other new i k b ne) ∙ e) f is)
+    | inr same_place ↦ (let at : k ≡ i = omega arith in
+        let same : b ≡ m = same_some b m (sym (get_set_same new i b room) ∙ ap (slice_get (set new i b)) (sym at) ∙ e) in
+        let same_talker : talker ≡ t = same_some talker t (sym planned ∙ ap (slice_get plan) (sym at) ∙ f) in
+        subst (λ x. slice_get x.frames.items m.station.completed ≡ None) same_talker (subst (λ x. slice_get talker.frames.items x.station.completed ≡ None) same (by h.lies (ap (λ x. x.rests) same ∙ is))))
+  ]
+]
+  where
+    by : MayLieDown now.listener bit a b → b.rests ≡ true → slice_get talker.frames.items b.station.completed ≡ None
+    by (inl same) on = subst (λ x. slice_get talker.frames.items x.station.completed ≡ None) (sym same) (so_far (h.less.spends is_spent) i a talker here planned (ap (λ x. x.rests) (sym same) ∙ on))
+    by (inr lies) on = subst (λ x. slice_get talker.frames.items x.station.completed ≡ None) (sym lies.1) (none (h.spent lies.0.awake on is_spent))
+
+-- nor does a controller rest then
+pub awake_step : (now next : Rest) (bit : ℕ) (new : List Member) (i : ℕ) (a b : Member) → i < length new → slice_get new i ≡ Some a → Lulls bit false now next a b → (now.spent ≡ true → NoneRests new) → next.spent ≡ true → NoneRests (set new i b)
+awake_step now next bit new i a b room here h so_far is_spent k m e = elim (cases_lt k i) [
+  | inl less ↦ (let ne : k ≢ i = omega arith in none k m (sym (get_set_other new i k b ne) ∙ e))
+  | inr more ↦ elim (cases_lt i k) [
+    | inl less ↦ (let ne : k ≢ i = omega arith in none k m (sym (get_set_other new i k b ne) ∙ e))
+    | inr same_place ↦ (let at : k ≡ i = omega arith in
+        let same : b ≡ m = same_some b m (sym (get_set_same new i b room) ∙ ap (slice_get (set new i b)) (sym at) ∙ e) in
+        subst (λ x. x.rests ≡ false) same (by b.rests refl))
+  ]
+]
+  where
+    none : NoneRests new
+    none = so_far (h.less.spends is_spent)
+
+    by : (rests : Bool) → b.rests ≡ rests → b.rests ≡ false
+    by false off = off
+    by true on = let never = h.spent (none i a here) on is_spent in absurd (cc never)
+
+-- Another listener, where none rests, changes nothing.
+pub chosen_same : (old new : Rest) (bit : ℕ) (members : List Member) → Chooses old new → AreResting old bit members → members_at new bit members ≡ members_at old bit members
+chosen_same old new bit members h rests = elim h.chosen [
+  | inl same ↦ ap (λ listener. map (woken listener bit) members) same.listener_is
+  | inr none ↦ (let awake = not_resting old bit members none rests in none_resting new.listener bit members awake ∙ sym (none_resting old.listener bit members awake))
+]
+
+pub chosen_rests : (old new : Rest) (bit : ℕ) (members : List Member) → Chooses old new → AreResting old bit members → AreResting new bit members
+chosen_rests old new bit members h rests = elim h.chosen [
+  | inl same ↦ same_rests old new bit members same rests
+  | inr none ↦ (λ k m e is. absurd (let awake = not_resting old bit members none rests k m e in cc (is, awake)))
+]
+
+pub chosen_spent : (old new : Rest) (bit : ℕ) (plan : List Talker) (members : List Member) → Chooses old new → AreResting old bit members → AreSpent old plan members → AreSpent new plan members
+chosen_spent old new bit plan members h rests spent = elim h.chosen [
+  | inl same ↦ (λ s. spent (sym same.spent_is ∙ s))
+  | inr none ↦ (λ s k m talker e f is. absurd (let awake = not_resting old bit members none rests k m e in cc (is, awake)))
+]
+
+pub chosen_awake : (old new : Rest) (bit : ℕ) (members : List Member) → Chooses old new → AreResting old bit members → (old.spent ≡ true → NoneRests members) → new.spent ≡ true → NoneRests members
+chosen_awake old new bit members h rests awake = elim h.chosen [
+  | inl same ↦ (λ s. awake (sym same.spent_is ∙ s))
+  | inr none ↦ (λ s. not_resting old bit members none rests)
+]

@@ -9,7 +9,9 @@ use Rattle.can_segment.specs.Fresh.{IsFresh, AreFresh}
 use Rattle.bx_core.specs.TxBus.{Item}
 use Rattle.bx_core.proofs.Words.{pushed}
 use Rattle.can_segment.specs.Ports.{item_of}
-use Rattle.can_segment.specs.Segments.{sending_of_all}
+use Rattle.can_segment.specs.Segments.{AreFromResting, sending_of_all}
+use Rattle.can_segment.specs.Rests.{NoneRests}
+use Rattle.can_node.specs.declared.counters.Counters.{Counters}
 use Rattle.can_segment.proofs.NextBits.{some_there}
 use Rattle.can_segment.proofs.Places.{same_some}
 use Rattle.can_segment.proofs.Shown.{map_at}
@@ -59,3 +61,13 @@ idle_fresh on xs members fresh k sends e =
     let within = slice_get_within members k m.0 m.1 in
     let x = some_there xs k (omega (arith, within, fresh.size)) in
     sym m.2 ∙ ap item_of (fresh.at k x.0 m.0 x.1 m.1).idle
+
+-- none of them rests
+pub fresh_awake : {X : Type 0} (on : X → ℕ) (xs : List X) (members : List Member) → AreFresh on xs members → NoneRests members
+fresh_awake on xs members fresh k m e =
+    let within = slice_get_within members k m e in
+    let x = some_there xs k (omega (arith, within, fresh.size)) in
+    (fresh.at k x.0 m x.1 e).awake
+
+pub fresh_shown : {X : Type 0} (on : X → ℕ) (xs : List X) (first : ℕ) (members : List Member) (counters : List Counters) → AreFresh on xs members → AreFromResting first members counters
+fresh_shown on xs first members counters fresh k m shown is e f = absurd (let awake = fresh_awake on xs members fresh k m e in cc (is, awake))

@@ -22,9 +22,11 @@ pub mod Retries
 pub mod Requests
 pub mod Copies
 pub mod FaultOrder
-pub mod AllBut
+pub mod Woken
+pub mod Wakes
 pub mod Unmoved
 pub mod Rests
+pub mod Holds
 pub mod ComesToRest
 pub mod Wholes
 pub mod SoleSender

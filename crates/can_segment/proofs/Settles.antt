@@ -1,5 +1,5 @@
 -- A node that has sampled a bit, and then its port that learns what became of it, put together.
-use Rattle.std.proofs.Common.{◌≡◌, inl, inr, ℕ, ◌+◌, ◌≤◌, nat_le, Bool, Option, List, ◌++◌, sym, ap, subst, arith, ◌∙◌}
+use Rattle.std.proofs.Common.{◌≡◌, inl, inr, ℕ, ◌+◌, ◌≤◌, nat_le, Bool, true, false, refl, Option, List, ◌++◌, sym, ap, subst, arith, ◌∙◌}
 use Rattle.can_frame.specs.Frames.{FrameValue}
 use Rattle.can_node.specs.Histories.{Past, IsHistory}
 use Rattle.can_node.specs.Node.{StandsAfter, IsSample, bit_of}
@@ -8,6 +8,7 @@ use Rattle.can_segment.specs.declared.member.Member.{Member}
 use Rattle.can_segment.specs.Ports.{item_of}
 use Rattle.can_segment.specs.Traces.{sending_after, completed_by}
 use Rattle.can_segment.specs.Kept.{IsQuiet, Names}
+use Rattle.can_segment.specs.Rests.{IfAwake, IfAwakeBoth}
 use Rattle.can_segment.specs.Members.{is_on, settled_at, taken_at, SamplesOn, Samples, IsUnsettled, Settles, SamplesAndSettles, PortSettled, PortSettles}
 
 pub unsettled : (transmits : Option Item) (bit : ℕ) (level : Bool) (old mid : Member) → transmits ≡ item_of old.station.sending → Samples bit level old mid → IsUnsettled transmits bit mid
@@ -63,3 +64,30 @@ pub quiet_settled : (bit : ℕ) (mid new : Member) → Settles bit mid new → (
 quiet_settled bit mid new t quiet on =
     let calm = quiet (omega (arith, on, t.on_is)) in
     subst (λ m. IsQuiet m.deed) (sym (t.quiet calm.no_end)) calm
+
+-- the same of one that is awake, and of one that rests
+was_awake : (Step : Member → Member → Type 0) (old new : Member) → IfAwake Step old new → new.rests ≡ false → old.rests ≡ false
+was_awake Step old new s awake = by old.rests refl
+  where
+    by : (b : Bool) → old.rests ≡ b → old.rests ≡ false
+    by true e = let same = ap (λ m. m.rests) (s.rests_on e) in absurd (cc (awake, same, e))
+    by false e = e
+
+pub unsettled_awake : (transmits : Option Item) (bit : ℕ) (level : Bool) (old mid : Member) → transmits ≡ item_of old.station.sending → IfAwake (Samples bit level) old mid → mid.rests ≡ false → IsUnsettled transmits bit mid
+unsettled_awake transmits bit level old mid is s awake = unsettled transmits bit level old mid is (s.steps (was_awake (Samples bit level) old mid s awake))
+
+pub settles_both : {P : Type 0} (after : P → BusPast → Type 0) (asked : P → List BusCall → Type 0) (transmitting : P → Option Item) (sink : P → List FrameValue → Type 0) (stays : P → P → Type 0) (bit : ℕ) (level : Bool) (old mid new : Member) (from to : P) →
+    IfAwake (Samples bit level) old mid → IfAwakeBoth (PortSettled after asked transmitting sink stays bit) mid new from to → IfAwakeBoth (PortSettles after asked transmitting sink stays bit level) old new from to
+settles_both after asked transmitting sink stays bit level old mid new from to s p = record {
+  rests_on = λ e. let same = s.rests_on e in let on = p.rests_on (ap (λ m. m.rests) same ∙ e) in (on.0 ∙ same, on.1);
+  stays_awake = λ e. p.stays_awake (s.stays_awake e);
+  steps = λ e. port_settles after asked transmitting sink stays bit level old mid new from to (s.steps e) (p.steps (s.stays_awake e));
+}
+
+pub quiet_both : {P : Type 0} (after : P → BusPast → Type 0) (asked : P → List BusCall → Type 0) (transmitting : P → Option Item) (sink : P → List FrameValue → Type 0) (stays : P → P → Type 0) (bit : ℕ) (mid new : Member) (from to : P) →
+    IfAwakeBoth (PortSettled after asked transmitting sink stays bit) mid new from to → (mid.rests ≡ false → mid.on ≤ bit → IsQuiet mid.deed) → new.rests ≡ false → new.on ≤ bit → IsQuiet new.deed
+quiet_both after asked transmitting sink stays bit mid new from to s quiet awake = by mid.rests refl
+  where
+    by : (b : Bool) → mid.rests ≡ b → new.on ≤ bit → IsQuiet new.deed
+    by true e = let same = ap (λ m. m.rests) (s.rests_on e).0 in absurd (cc (awake, same, e))
+    by false e = quiet_settled bit mid new (s.steps e).member (quiet e)

@@ -11,56 +11,44 @@ use Rattle.can_segment.specs.declared.plan.SegmentPlan.{SegmentPlan}
 use Rattle.can_segment.specs.declared.record.Record.{Record}
 use Rattle.can_segment.specs.declared.rest.Rest.{Rest}
 use Rattle.can_segment.specs.Kept.{SegmentKept, StandsBehind}
-use Rattle.can_segment.specs.Rests.{AreAlike, IsAlike, all_but, caught_up, controllers_at, talkers_at, woken}
-use Rattle.can_segment.specs.Segments.{AreFrom, AreFromBut, SegmentHolds}
+use Rattle.can_segment.specs.Rests.{AreAlike, IsAlike, LeavesResting, NoneRests, members_at}
+use Rattle.can_segment.specs.Segments.{AreFrom, AreFromResting, SegmentHolds}
 use Rattle.can_segment.specs.Tells.{lines}
 use Rattle.can_segment.specs.Tellings.{bit_lines, rest_by, start_of, told_by}
 use Rattle.can_segment.specs.Traces.{Bit}
 use Rattle.can_segment.proofs.NextBits.{some_there}
-use Rattle.can_segment.proofs.Rests.{awake_woken, real_at, whole_at, woken_length}
+use Rattle.can_segment.proofs.Rests.{members_length, real_at, whole_at}
+use Rattle.can_segment.proofs.Woken.{none_resting}
 
 -- what is told of nodes
-told_map : (tells : Deed → List Told) (bit node : ℕ) (listener : Listener) (at : ℕ) (members : List Member) → told_by tells bit node (map (caught_up listener at) members) ≡ told_by tells bit node members
+told_whole : (tells : Deed → List Told) (bit node : ℕ) (rest : Rest) (at : ℕ) (members : List Member) → told_by tells bit node (members_at rest at members) ≡ told_by tells bit node members
 unfolding told_by
-told_map tells bit node listener at [] = refl
-told_map tells bit node listener at (m ∷ members) = ap (λ es. lines bit node (tells m.deed) ++ es) (told_map tells bit (node + 1) listener at members)
+told_whole tells bit node rest at [] = refl
+told_whole tells bit node rest at (m ∷ members) = ap (λ es. lines bit node (tells m.deed) ++ es) (told_whole tells bit (node + 1) rest at members)
 
-told_but : (tells : Deed → List Told) (bit node place : ℕ) (listener : Listener) (at : ℕ) (members : List Member) → told_by tells bit node (all_but place (caught_up listener at) members) ≡ told_by tells bit node members
-unfolding told_by
-told_but tells bit node place listener at [] = refl
-told_but tells bit node zero listener at (m ∷ members) = ap (λ es. lines bit node (tells m.deed) ++ es) (told_map tells bit (node + 1) listener at members)
-told_but tells bit node (suc place) listener at (m ∷ members) = ap (λ es. lines bit node (tells m.deed) ++ es) (told_but tells bit (node + 1) place listener at members)
-
-told_whole : (tells : Deed → List Told) (bit node : ℕ) (rest : Rest) (place at : ℕ) (members : List Member) → told_by tells bit node (woken rest place at members) ≡ told_by tells bit node members
-told_whole tells bit node rest place at members = by rest.resting
-  where
-    by : (b : Bool) → told_by tells bit node (cond b (all_but place (caught_up rest.listener at) members) members) ≡ told_by tells bit node members
-    by false = refl
-    by true = told_but tells bit node place rest.listener at members
-
-pub lines_whole : (bit : ℕ) (rest : Rest) (at : ℕ) (t c : List Member) → bit_lines bit (talkers_at rest at t) (controllers_at rest at c) ≡ bit_lines bit t c
+pub lines_whole : (bit : ℕ) (rest : Rest) (at : ℕ) (t c : List Member) → bit_lines bit (members_at rest at t) (members_at rest at c) ≡ bit_lines bit t c
 lines_whole bit rest at t c =
-    let wt = talkers_at rest at t in
-    let wc = controllers_at rest at c in
-    ap (λ n. (told_by start_of bit 0 wt ++ told_by start_of bit n wc) ++ (told_by rest_by bit 0 wt ++ told_by rest_by bit n wc)) (woken_length rest rest.talker at t)
-    ∙ ap (λ es. (es ++ told_by start_of bit (length t) wc) ++ (told_by rest_by bit 0 wt ++ told_by rest_by bit (length t) wc)) (told_whole start_of bit 0 rest rest.talker at t)
-    ∙ ap (λ es. (told_by start_of bit 0 t ++ es) ++ (told_by rest_by bit 0 wt ++ told_by rest_by bit (length t) wc)) (told_whole start_of bit (length t) rest rest.controller at c)
-    ∙ ap (λ es. (told_by start_of bit 0 t ++ told_by start_of bit (length t) c) ++ (es ++ told_by rest_by bit (length t) wc)) (told_whole rest_by bit 0 rest rest.talker at t)
-    ∙ ap (λ es. (told_by start_of bit 0 t ++ told_by start_of bit (length t) c) ++ (told_by rest_by bit 0 t ++ es)) (told_whole rest_by bit (length t) rest rest.controller at c)
+    let wt = members_at rest at t in
+    let wc = members_at rest at c in
+    ap (λ n. (told_by start_of bit 0 wt ++ told_by start_of bit n wc) ++ (told_by rest_by bit 0 wt ++ told_by rest_by bit n wc)) (members_length rest at t)
+    ∙ ap (λ es. (es ++ told_by start_of bit (length t) wc) ++ (told_by rest_by bit 0 wt ++ told_by rest_by bit (length t) wc)) (told_whole start_of bit 0 rest at t)
+    ∙ ap (λ es. (told_by start_of bit 0 t ++ es) ++ (told_by rest_by bit 0 wt ++ told_by rest_by bit (length t) wc)) (told_whole start_of bit (length t) rest at c)
+    ∙ ap (λ es. (told_by start_of bit 0 t ++ told_by start_of bit (length t) c) ++ (es ++ told_by rest_by bit (length t) wc)) (told_whole rest_by bit 0 rest at t)
+    ∙ ap (λ es. (told_by start_of bit 0 t ++ told_by start_of bit (length t) c) ++ (told_by rest_by bit 0 t ++ es)) (told_whole rest_by bit (length t) rest at c)
 
 -- counters that are shown
-pub from_real : (first : ℕ) (rest : Rest) (place at : ℕ) (members : List Member) (counters : List Counters) → AreFrom first members counters → AreFrom first (woken rest place at members) counters
-from_real first rest place at members counters h k x shown e f =
-    let m = real_at rest place at members k x e in
+pub from_real : (first : ℕ) (rest : Rest) (at : ℕ) (members : List Member) (counters : List Counters) → AreFrom first members counters → AreFrom first (members_at rest at members) counters
+from_real first rest at members counters h k x shown e f =
+    let m = real_at rest at members k x e in
     h k m.0 shown m.1 f ∙ sym m.2.counters_are
 
-pub from_whole : (first : ℕ) (rest : Rest) (place at : ℕ) (members : List Member) (counters : List Counters) → AreFrom first (woken rest place at members) counters → AreFrom first members counters
-from_whole first rest place at members counters h k m shown e f =
-    let x = whole_at rest place at members k m e in
+pub from_whole : (first : ℕ) (rest : Rest) (at : ℕ) (members : List Member) (counters : List Counters) → AreFrom first (members_at rest at members) counters → AreFrom first members counters
+from_whole first rest at members counters h k m shown e f =
+    let x = whole_at rest at members k m e in
     h k x.0 shown x.1 f ∙ x.2.counters_are
 
-pub from_left : (first place : ℕ) (old new : List Member) (counters : List Counters) → AreFrom first old counters → ((k : ℕ) → k ≢ place → slice_get new k ≡ slice_get old k) → AreFromBut place first new counters
-from_left first place old new counters h left k m shown not e f = h k m shown (sym (left k not) ∙ e) f
+pub from_left : (first : ℕ) (old new : List Member) (counters : List Counters) → AreFrom first old counters → LeavesResting old new → AreFromResting first new counters
+from_left first old new counters h left k m shown is e f = h k m shown (left k m e is) f
 
 pub from_alike : (first : ℕ) (old new : List Member) (counters : List Counters) → AreAlike old new → AreFrom first old counters → AreFrom first new counters
 from_alike first old new counters alike h k m shown e f =
@@ -106,7 +94,6 @@ holds_alike plan made t0 t1 c0 c1 talkers controllers kept few size talkers_show
 }
 
 -- where none rests each stands for itself
-pub holds_awake : (plan : SegmentPlan) (made : Record) (rest : Rest) (bit : ℕ) (t c : List Member) → rest.resting ≡ false → SegmentHolds plan made t c → SegmentHolds plan made (talkers_at rest bit t) (controllers_at rest bit c)
-holds_awake plan made rest bit t c is h =
-    subst (λ ms. SegmentHolds plan made ms (controllers_at rest bit c)) (sym (awake_woken rest rest.talker bit t is))
-    (subst (λ ms. SegmentHolds plan made t ms) (sym (awake_woken rest rest.controller bit c is)) h)
+pub holds_awake : (plan : SegmentPlan) (made : Record) (rest : Rest) (bit : ℕ) (t c : List Member) → NoneRests t → NoneRests c → SegmentHolds plan made t c → SegmentHolds plan made (members_at rest bit t) (members_at rest bit c)
+holds_awake plan made rest bit t c awake awake_too h =
+    subst (λ ms. SegmentHolds plan made ms (members_at rest bit c)) (sym (none_resting rest.listener bit t awake)) (subst (SegmentHolds plan made t) (sym (none_resting rest.listener bit c awake_too)) h)

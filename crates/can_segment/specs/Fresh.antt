@@ -1,5 +1,5 @@
 -- Nodes before their first bit. Private clauses cite it.
-use Rattle.std.specs.Prelude.{◌≡◌, ℕ, Some, None, List, length, slice_get}
+use Rattle.std.specs.Prelude.{◌≡◌, ℕ, false, Some, None, List, length, slice_get}
 use Rattle.can_node.specs.Histories.{no_past}
 use Rattle.can_node.specs.Node.{StandsAfter, bit_of}
 use Rattle.can_segment.specs.declared.member.Member.{Member}
@@ -8,6 +8,7 @@ use Rattle.can_segment.specs.Kept.{no_deed}
 -- it is switched on at this bit, and has done nothing yet
 pub record IsFresh (on : ℕ) (member : Member) : Type 0 where
   pub on_is : member.on ≡ on
+  pub awake : member.rests ≡ false
   pub stands : StandsAfter member.station.node (no_past on)
   pub bit_is : bit_of member.station.node ≡ on
   pub idle : member.station.sending ≡ None

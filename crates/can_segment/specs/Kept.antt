@@ -30,10 +30,6 @@ pub record IsQuiet (deed : Deed) : Type 0 where
 abbrev pub AreQuiet : ℕ → List Member → Type 0
 AreQuiet bit members = (k : ℕ) (member : Member) → slice_get members k ≡ Some member → member.on ≤ bit → IsQuiet member.deed
 
--- nor of the first of them
-abbrev pub QuietBelow : ℕ → List Member → ℕ → Type 0
-QuietBelow bit members i = (k : ℕ) (member : Member) → k < i → slice_get members k ≡ Some member → member.on ≤ bit → IsQuiet member.deed
-
 -- a deed names what its node sent, unless nothing is told of it
 abbrev pub Names : Deed → Option Transmission → Type 0
 Names deed sent = IsQuiet deed ⊎ (deed.sent ≡ sent)

@@ -1,5 +1,5 @@
 -- A segment, as contracts see it.
-use Rattle.std.specs.Prelude.{◌≡◌, ◌≢◌, ℕ, ◌+◌, ◌<◌, ◌≤◌, Bool, false, Option, Some, None, List, [], ◌∷◌, ◌++◌, length, map, slice_get}
+use Rattle.std.specs.Prelude.{◌≡◌, ℕ, ◌+◌, ◌<◌, ◌≤◌, Bool, true, false, Option, Some, None, List, [], ◌∷◌, ◌++◌, length, map, slice_get}
 use Rattle.std.specs.List.{slice_index_or}
 use Rattle.can_frame.specs.Frames.{FrameValue}
 use Rattle.bx_core.specs.TxBus.{Item, BusPast, BusCall}
@@ -84,10 +84,10 @@ AreOf member counters = counters ≡ counters_in member.station.node
 abbrev pub AreFrom : ℕ → List Member → List Counters → Type 0
 AreFrom first members counters = (k : ℕ) (member : Member) (shown : Counters) → slice_get members k ≡ Some member → slice_get counters (first + k) ≡ Some shown → AreOf member shown
 
--- those of these nodes but the one at this place
-abbrev pub AreFromBut : ℕ → ℕ → List Member → List Counters → Type 0
-AreFromBut place first members counters =
-    (k : ℕ) (member : Member) (shown : Counters) → k ≢ place → slice_get members k ≡ Some member → slice_get counters (first + k) ≡ Some shown → AreOf member shown
+-- those of these nodes that rest
+abbrev pub AreFromResting : ℕ → List Member → List Counters → Type 0
+AreFromResting first members counters =
+    (k : ℕ) (member : Member) (shown : Counters) → member.rests ≡ true → slice_get members k ≡ Some member → slice_get counters (first + k) ≡ Some shown → AreOf member shown
 
 -- what stands in a segment between two bits
 pub record SegmentHolds (plan : SegmentPlan) (record_of : Record) (talkers controllers : List Member) : Type 0 where

@@ -1,35 +1,17 @@
 //! What all nodes of a segment do at a bit, those that rest among them.
 
-ghost use Rattle.std.specs.Prelude.{◌≡◌, ◌≤◌, ◌<◌, ◌+◌, ◌&&◌, ℕ, Bool, true, false, Some, length, slice_get};
+ghost use Rattle.std.specs.Prelude.{◌≡◌, ◌≤◌, ◌<◌, ◌+◌, ◌&&◌, ℕ, false, Some, length, slice_get};
 ghost use Rattle.std.specs.List.{list_all};
 ghost use Rattle.can_segment.specs.FaultOrder.{StandsAt};
 ghost use Rattle.can_segment.specs.Faults.{sampled_level};
 ghost use Rattle.can_segment.specs.Kept.{AreQuiet};
-ghost use Rattle.can_segment.specs.Members.{
-  NodeSamples,
-  PortSettles,
-  PortStarts,
-  Samples,
-  TalkerStarts,
-  drives_at,
-  wants_at,
-};
+ghost use Rattle.can_segment.specs.Members.{NodeSamples, PortSettles, PortStarts, TalkerStarts, drives_at, wants_at};
 ghost use Rattle.can_segment.specs.Moves.{NodesMove, PortMoves};
-ghost use Rattle.can_segment.specs.Places.{AtBoth, AtPlaces, MovesBoth, MovesOne};
-ghost use Rattle.can_segment.specs.Rests.{
-  Drives,
-  HasRoom,
-  IsQuietOne,
-  LeavesResting,
-  RestHolds,
-  TransmitsAll,
-  controllers_at,
-  passes,
-  talkers_at,
-};
+ghost use Rattle.can_segment.specs.Places.{AtBoth, AtPlaces};
+ghost use Rattle.can_segment.specs.Rests.{HasRoom, LeavesResting, RestHolds, TransmitsAll, members_at};
+ghost use Rattle.can_segment.specs.declared.member.Member.{Member};
 
 use crate::fault_order::FaultOrder;
-use crate::few::{driven_by_one, sample_controller, sample_one, start_controller, start_talker};
 use crate::member::Member;
 use crate::members::{
     driven_by_all, sample_controllers, sample_nodes, start_controllers, start_talkers,
@@ -38,50 +20,7 @@ use crate::plan::{NodeFault, SegmentPlan, Talker};
 use crate::rest::Rest;
 use crate::rx_sink::RxSink;
 
-/// Whether there is no node that does not rest.
-#[inline]
-fn all_rest(talkers: &[Member], controllers: &[Member], rest: &Rest) -> bool
-    ensures talkers { result ≡ true → length talkers.now ≤ rest.now.talker }
-    ensures controllers { result ≡ true → length controllers.now ≤ rest.now.controller }
-{
-    talkers.len() <= rest.talker && controllers.len() <= rest.controller
-}
-
-/// The two nodes that do not rest start. The AND of what they drive and of what each drives that rests.
-fn start_few<R, P: RxSink<R>>(
-    rt: &R,
-    plan: &[Talker],
-    talkers: &mut [Member],
-    controllers: &mut [Member],
-    ports: &mut [P],
-    rest: &Rest,
-    bit: u64,
-) -> bool
-    requires talkers { length plan.now ≡ length talkers.old }
-    requires ports { length ports.old ≡ length controllers.old }
-    requires port { TransmitsAll P.transmitting controllers.old ports.old }
-    ensures talkers { MovesOne rest.now.talker (TalkerStarts bit plan.now rest.now.talker) talkers.old talkers.new }
-    ensures controllers { MovesBoth rest.now.controller (PortStarts P.bus_after P.bus_asked P.transmitting P.bus_stays bit)
-        controllers.old controllers.new ports.old ports.new }
-    ensures driven { (drive : Bool) × Drives rest.now drive
-        × (result ≡ (drive && (passes (drives_at bit) (slice_get talkers.new rest.now.talker)
-        && passes (drives_at bit) (slice_get controllers.new rest.now.controller)))) }
-{
-    if all_rest(talkers, controllers, rest) {
-        return rest.drive();
-    }
-    start_talker(talkers, rest.talker, plan, bit);
-    start_controller(rt, controllers, rest.controller, ports, bit);
-    if !rest.drive() {
-        return false;
-    }
-    if driven_by_one(talkers, rest.talker, bit) {
-        return driven_by_one(controllers, rest.controller, bit);
-    }
-    false
-}
-
-/// All nodes start: those that rest do not, or wake if one of them has anything to do. The AND of what all drive.
+/// All nodes start: those that rest do not, or wake if they may have anything to. The AND of what all drive.
 fn start_all<R, P: RxSink<R>>(
     rt: &R,
     plan: &[Talker],
@@ -93,53 +32,21 @@ fn start_all<R, P: RxSink<R>>(
 ) -> bool
     requires talkers { length plan.now ≡ length talkers.old }
     requires ports { length ports.old ≡ length controllers.old }
-    requires port { TransmitsAll P.transmitting (controllers_at rest.old bit controllers.old) ports.old }
+    requires port { TransmitsAll P.transmitting (members_at rest.old bit controllers.old) ports.old }
     requires rests { RestHolds rest.old bit plan.now talkers.old controllers.old }
     ensures talkers { AtPlaces (TalkerStarts bit plan.now)
-        (talkers_at rest.old bit talkers.old) (talkers_at rest.new bit talkers.new) }
+        (members_at rest.old bit talkers.old) (members_at rest.new bit talkers.new) }
     ensures controllers { AtBoth (λ k. PortStarts P.bus_after P.bus_asked P.transmitting P.bus_stays bit)
-        (controllers_at rest.old bit controllers.old) (controllers_at rest.new bit controllers.new) ports.old ports.new }
-    ensures driven { result ≡ (list_all (drives_at bit) (talkers_at rest.new bit talkers.new)
-        && list_all (drives_at bit) (controllers_at rest.new bit controllers.new)) }
+        (members_at rest.old bit controllers.old) (members_at rest.new bit controllers.new) ports.old ports.new }
+    ensures driven { result ≡ (list_all (drives_at bit) (members_at rest.new bit talkers.new)
+        && list_all (drives_at bit) (members_at rest.new bit controllers.new)) }
     ensures rests { RestHolds rest.new bit plan.now talkers.new controllers.new }
-    ensures left { LeavesResting rest.old rest.new talkers.old talkers.new controllers.old controllers.new }
+    ensures left { LeavesResting talkers.old talkers.new × LeavesResting controllers.old controllers.new }
 {
-    if rest.goes_on() {
-        return start_few(rt, plan, talkers, controllers, ports, rest, bit);
-    }
-    rest.wake(talkers, controllers, bit);
+    rest.rouse(plan, talkers, controllers, bit);
     start_talkers(talkers, plan, bit);
     start_controllers(rt, controllers, ports, bit);
-    driven_by_all(talkers, controllers, bit)
-}
-
-/// The two nodes that do not rest sample this level. Whether something may be told of one of them.
-fn sample_few<R, P: RxSink<R>>(
-    rt: &R,
-    talkers: &mut [Member],
-    controllers: &mut [Member],
-    ports: &mut [P],
-    rest: &Rest,
-    bit: u64,
-    level: bool,
-) -> bool
-    requires ports { length ports.old ≡ length controllers.old }
-    requires talker_room { HasRoom u64.MAX bit rest.now.talker talkers.old }
-    requires room { HasRoom u64.MAX bit rest.now.controller controllers.old }
-    requires port { TransmitsAll P.transmitting controllers.old ports.old }
-    ensures talkers { MovesOne rest.now.talker (Samples bit level) talkers.old talkers.new }
-    ensures controllers { MovesBoth rest.now.controller
-        (PortSettles P.bus_after P.bus_asked P.transmitting P.sink_after P.port_stays bit level)
-        controllers.old controllers.new ports.old ports.new }
-    ensures quiet { result ≡ false → IsQuietOne bit rest.now.talker talkers.new
-        × IsQuietOne bit rest.now.controller controllers.new }
-{
-    if all_rest(talkers, controllers, rest) {
-        return false;
-    }
-    let talker_told = sample_one(talkers, rest.talker, bit, level);
-    let controller_told = sample_controller(rt, controllers, rest.controller, ports, bit, level);
-    talker_told | controller_told
+    driven_by_all(talkers, controllers, bit, rest.drive())
 }
 
 /// All nodes sample the line, each with its own faults: those that rest do so as long as the listener can follow for
@@ -157,26 +64,24 @@ fn sample_all<R, P: RxSink<R>>(
 ) -> bool
     requires ports { length ports.old ≡ length controllers.old }
     requires few { length talkers.old + length controllers.old ≤ 1000 }
-    requires talker_room { (k : ℕ) → HasRoom u64.MAX bit k (talkers_at rest.old bit talkers.old) }
-    requires room { (k : ℕ) → HasRoom u64.MAX bit k (controllers_at rest.old bit controllers.old) }
-    requires port { TransmitsAll P.transmitting (controllers_at rest.old bit controllers.old) ports.old }
+    requires talker_room { HasRoom u64.MAX bit (members_at rest.old bit talkers.old) }
+    requires room { HasRoom u64.MAX bit (members_at rest.old bit controllers.old) }
+    requires port { TransmitsAll P.transmitting (members_at rest.old bit controllers.old) ports.old }
     requires rests { RestHolds rest.old bit plan.now talkers.old controllers.old }
     ensures talkers { AtPlaces (NodeSamples 0 bit level faults.now)
-        (talkers_at rest.old bit talkers.old) (talkers_at rest.new (bit + 1) talkers.new) }
+        (members_at rest.old bit talkers.old) (members_at rest.new (bit + 1) talkers.new) }
     ensures controllers { AtBoth (λ k. PortSettles P.bus_after P.bus_asked P.transmitting P.sink_after P.port_stays bit
         (sampled_level faults.now (length talkers.old + k) bit level))
-        (controllers_at rest.old bit controllers.old) (controllers_at rest.new (bit + 1) controllers.new)
+        (members_at rest.old bit controllers.old) (members_at rest.new (bit + 1) controllers.new)
         ports.old ports.new }
-    ensures quiet { result ≡ false → AreQuiet bit (talkers_at rest.new (bit + 1) talkers.new)
-        × AreQuiet bit (controllers_at rest.new (bit + 1) controllers.new) }
+    ensures quiet { result ≡ false → AreQuiet bit (members_at rest.new (bit + 1) talkers.new)
+        × AreQuiet bit (members_at rest.new (bit + 1) controllers.new) }
     ensures rests { RestHolds rest.new (bit + 1) plan.now talkers.new controllers.new }
-    ensures left { LeavesResting rest.old rest.new talkers.old talkers.new controllers.old controllers.new }
+    ensures left { LeavesResting talkers.old talkers.new × LeavesResting controllers.old controllers.new }
 {
-    if rest.rests_through(bit, level, faults.is_empty()) {
-        return sample_few(rt, talkers, controllers, ports, rest, bit, level);
-    }
-    rest.wake(talkers, controllers, bit);
     let first = talkers.len() as u32;
+    rest.disturb(faults, plan, talkers, controllers, bit);
+    rest.go_through(plan, talkers, controllers, bit, level);
     let talkers_told = sample_nodes(talkers, faults, 0, bit, level);
     let controllers_told = sample_controllers(rt, controllers, ports, faults, first, bit, level);
     talkers_told | controllers_told
@@ -203,22 +108,22 @@ pub(crate) fn move_nodes<R, P: RxSink<R>>(
     requires talkers { length talkers.old ≡ length plan.now.talkers.items }
     requires ports { length ports.old ≡ length controllers.old }
     requires few { length talkers.old + length controllers.old ≤ 1000 }
-    requires talker_clocks { (k : ℕ) → HasRoom u64.MAX bit k (talkers_at rest.old bit talkers.old) }
-    requires clocks { (k : ℕ) → HasRoom u64.MAX bit k (controllers_at rest.old bit controllers.old) }
-    requires port { TransmitsAll P.transmitting (controllers_at rest.old bit controllers.old) ports.old }
+    requires talker_clocks { HasRoom u64.MAX bit (members_at rest.old bit talkers.old) }
+    requires clocks { HasRoom u64.MAX bit (members_at rest.old bit controllers.old) }
+    requires port { TransmitsAll P.transmitting (members_at rest.old bit controllers.old) ports.old }
     requires rests { RestHolds rest.old bit plan.now.talkers.items talkers.old controllers.old }
     ensures nodes { NodesMove plan.now bit result.level
-        (talkers_at rest.old bit talkers.old) (talkers_at rest.new (bit + 1) talkers.new)
-        (controllers_at rest.old bit controllers.old) (controllers_at rest.new (bit + 1) controllers.new) }
-    ensures port { (k : ℕ) (a m : Member) (p q : P) → slice_get (controllers_at rest.old bit controllers.old) k ≡ Some a
-        → slice_get (controllers_at rest.new (bit + 1) controllers.new) k ≡ Some m
+        (members_at rest.old bit talkers.old) (members_at rest.new (bit + 1) talkers.new)
+        (members_at rest.old bit controllers.old) (members_at rest.new (bit + 1) controllers.new) }
+    ensures port { (k : ℕ) (a m : Member) (p q : P) → slice_get (members_at rest.old bit controllers.old) k ≡ Some a
+        → slice_get (members_at rest.new (bit + 1) controllers.new) k ≡ Some m
         → slice_get ports.old k ≡ Some p → slice_get ports.new k ≡ Some q
         → PortMoves P.bus_after P.bus_asked P.transmitting P.sink_after P.port_stays bit (wants_at bit a) m p q }
     ensures size { length ports.new ≡ length ports.old }
-    ensures quiet { result.told ≡ false → AreQuiet bit (talkers_at rest.new (bit + 1) talkers.new)
-        × AreQuiet bit (controllers_at rest.new (bit + 1) controllers.new) }
+    ensures quiet { result.told ≡ false → AreQuiet bit (members_at rest.new (bit + 1) talkers.new)
+        × AreQuiet bit (members_at rest.new (bit + 1) controllers.new) }
     ensures rests { RestHolds rest.new (bit + 1) plan.now.talkers.items talkers.new controllers.new }
-    ensures left { LeavesResting rest.old rest.new talkers.old talkers.new controllers.old controllers.new }
+    ensures left { LeavesResting talkers.old talkers.new × LeavesResting controllers.old controllers.new }
 {
     let talkers_plan = plan.talkers.as_slice();
     let driven = start_all(rt, talkers_plan, talkers, controllers, ports, rest, bit);

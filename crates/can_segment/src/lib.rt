@@ -2,11 +2,12 @@
 #![tactic(auto)]
 
 mod all_nodes;
+mod awake;
 mod counts_shown;
 mod event;
 mod fault_order;
 mod faults;
-mod few;
+mod leader;
 mod make_bit;
 mod member;
 mod members;
@@ -21,6 +22,7 @@ mod sole_sender;
 mod station;
 mod tell;
 mod transmission;
+mod wake;
 
 pub use crate::event::{Event, Label, Told};
 pub use crate::plan::{Controller, LineFault, NodeFault, SegmentPlan, Talker};

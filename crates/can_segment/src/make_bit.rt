@@ -2,7 +2,7 @@
 
 ghost use Rattle.std.specs.Prelude.{◌≡◌, false, ◌+◌, ◌*◌, ◌<◌, ◌≤◌, ◌++◌, ◌∷◌, [], ℕ, Bool, Some, length, slice_get, vec_len, vec_capacity};
 ghost use Rattle.can_segment.specs.FaultOrder.{StandsAt};
-ghost use Rattle.can_segment.specs.Rests.{LeavesResting, RestHolds, TransmitsAll, controllers_at, talkers_at};
+ghost use Rattle.can_segment.specs.Rests.{LeavesResting, RestHolds, TransmitsAll, members_at};
 ghost use Rattle.can_segment.specs.Members.{wants_at};
 ghost use Rattle.can_segment.specs.Moves.{PortMoves};
 ghost use Rattle.can_segment.specs.Kept.{SegmentKept};
@@ -58,31 +58,31 @@ pub(crate) fn make_bit<R, P: RxSink<R>>(
 )
     requires stands { StandsAt plan.now (length levels.old.items) faults.now }
     requires kept { SegmentKept plan.now levels.old.items events.old.items
-        (talkers_at rest.old (length levels.old.items) talkers.old)
-        (controllers_at rest.old (length levels.old.items) controllers.old) }
+        (members_at rest.old (length levels.old.items) talkers.old)
+        (members_at rest.old (length levels.old.items) controllers.old) }
     requires still { length levels.old.items < plan.now.bits }
     requires ports { length ports.old ≡ length controllers.old }
     requires few { length talkers.old + length controllers.old ≤ 1000 }
-    requires port { TransmitsAll P.transmitting (controllers_at rest.old (length levels.old.items) controllers.old) ports.old }
+    requires port { TransmitsAll P.transmitting (members_at rest.old (length levels.old.items) controllers.old) ports.old }
     requires rests { RestHolds rest.old (length levels.old.items) plan.now.talkers.items talkers.old controllers.old }
     requires level_room { vec_len levels.old < vec_capacity levels.old }
     requires event_room { vec_len events.old + 3 * (length talkers.old + length controllers.old)
         ≤ vec_capacity events.old }
     ensures kept { SegmentKept plan.now levels.new.items events.new.items
-        (talkers_at rest.new (length levels.old.items + 1) talkers.new)
-        (controllers_at rest.new (length levels.old.items + 1) controllers.new) }
+        (members_at rest.new (length levels.old.items + 1) talkers.new)
+        (members_at rest.new (length levels.old.items + 1) controllers.new) }
     ensures level { (level : Bool) × (levels.new.items ≡ levels.old.items ++ level ∷ []) }
     ensures events { events.new.items ≡ events.old.items
-        ++ bit_lines (length levels.old.items) (talkers_at rest.new (length levels.old.items + 1) talkers.new)
-        (controllers_at rest.new (length levels.old.items + 1) controllers.new) }
+        ++ bit_lines (length levels.old.items) (members_at rest.new (length levels.old.items + 1) talkers.new)
+        (members_at rest.new (length levels.old.items + 1) controllers.new) }
     ensures port { (k : ℕ) (a m : Member) (p q : P)
-        → slice_get (controllers_at rest.old (length levels.old.items) controllers.old) k ≡ Some a
-        → slice_get (controllers_at rest.new (length levels.old.items + 1) controllers.new) k ≡ Some m
+        → slice_get (members_at rest.old (length levels.old.items) controllers.old) k ≡ Some a
+        → slice_get (members_at rest.new (length levels.old.items + 1) controllers.new) k ≡ Some m
         → slice_get ports.old k ≡ Some p → slice_get ports.new k ≡ Some q
         → PortMoves P.bus_after P.bus_asked P.transmitting P.sink_after P.port_stays (length levels.old.items)
         (wants_at (length levels.old.items) a) m p q }
     ensures rests { RestHolds rest.new (length levels.old.items + 1) plan.now.talkers.items talkers.new controllers.new }
-    ensures left { LeavesResting rest.old rest.new talkers.old talkers.new controllers.old controllers.new }
+    ensures left { LeavesResting talkers.old talkers.new × LeavesResting controllers.old controllers.new }
     ensures size { length ports.new ≡ length ports.old }
 {
     let bit = levels.len() as u64;

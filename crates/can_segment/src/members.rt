@@ -1,12 +1,11 @@
 //! The nodes of a segment, one after another.
 
-ghost use Rattle.std.specs.Prelude.{◌≡◌, false, ◌+◌, ◌<◌, ◌≤◌, ◌&&◌, ℕ, Some, length, slice_get};
+ghost use Rattle.std.specs.Prelude.{◌≡◌, false, ◌+◌, ◌≤◌, ◌&&◌, ℕ, Some, length, slice_get, if◌then◌else◌};
 ghost use Rattle.std.specs.List.{list_all};
-ghost use Rattle.can_node.specs.Node.{bit_of};
 ghost use Rattle.can_segment.specs.Faults.{sampled_level};
 ghost use Rattle.can_segment.specs.Ports.{item_of};
 ghost use Rattle.can_segment.specs.Places.{AtPlaces, AtBoth};
-ghost use Rattle.can_segment.specs.Kept.{AreQuiet};
+ghost use Rattle.can_segment.specs.Rests.{AwakeAreQuiet, HasRoom, IfAwake, IfAwakeBoth};
 ghost use Rattle.can_segment.specs.Members.{
   TalkerStarts,
   NodeSamples,
@@ -23,17 +22,17 @@ use crate::member::Member;
 use crate::plan::{NodeFault, Talker};
 use crate::rx_sink::RxSink;
 
-/// The talkers take their next messages.
+/// The talkers that are awake take their next messages.
 pub(crate) fn start_talkers(members: &mut [Member], talkers: &[Talker], bit: u64)
     requires { length talkers.now ≡ length members.old }
-    ensures { AtPlaces (TalkerStarts bit talkers.now) members.old members.new }
+    ensures { AtPlaces (λ k. IfAwake (TalkerStarts bit talkers.now k)) members.old members.new }
 {
     for place in 0..members.len() {
         members[place].start_talking(bit, talkers[place].frames.as_slice());
     }
 }
 
-/// The controllers take their next requests.
+/// The controllers that are awake take their next requests.
 pub(crate) fn start_controllers<R, P: RxSink<R>>(
     rt: &R,
     members: &mut [Member],
@@ -43,7 +42,7 @@ pub(crate) fn start_controllers<R, P: RxSink<R>>(
     requires size { length ports.old ≡ length members.old }
     requires port { (k : ℕ) (m : Member) (p : P) → slice_get members.old k ≡ Some m
         → slice_get ports.old k ≡ Some p → P.transmitting p ≡ item_of m.station.sending }
-    ensures { AtBoth (λ k. PortStarts P.bus_after P.bus_asked P.transmitting P.bus_stays bit)
+    ensures { AtBoth (λ k. IfAwakeBoth (PortStarts P.bus_after P.bus_asked P.transmitting P.bus_stays bit))
         members.old members.new ports.old ports.new }
 {
     for place in 0..members.len() {
@@ -51,24 +50,32 @@ pub(crate) fn start_controllers<R, P: RxSink<R>>(
     }
 }
 
-/// The AND of what the nodes drive.
-pub(crate) fn anded(members: &[Member], bit: u64) -> bool
-    ensures { result ≡ list_all (drives_at bit) members.now }
+/// The AND of what the nodes drive, where each that rests drives this level.
+fn anded(members: &[Member], bit: u64, resting: bool) -> bool
+    ensures { result ≡ list_all (λ m. if m.rests then resting else drives_at bit m) members.now }
 {
-    members.iter().all(|member| member.drives(bit))
+    members
+        .iter()
+        .all(|member| member.drives_beside(bit, resting))
 }
 
 /// The AND of what talkers and controllers drive.
-pub(crate) fn driven_by_all(talkers: &[Member], controllers: &[Member], bit: u64) -> bool
-    ensures { result ≡ (list_all (drives_at bit) talkers.now && list_all (drives_at bit) controllers.now) }
+pub(crate) fn driven_by_all(
+    talkers: &[Member],
+    controllers: &[Member],
+    bit: u64,
+    resting: bool,
+) -> bool
+    ensures { result ≡ (list_all (λ m. if m.rests then resting else drives_at bit m) talkers.now
+        && list_all (λ m. if m.rests then resting else drives_at bit m) controllers.now) }
 {
-    if anded(talkers, bit) {
-        return anded(controllers, bit);
+    if anded(talkers, bit, resting) {
+        return anded(controllers, bit, resting);
     }
     false
 }
 
-/// Nodes sample the line, each with its own faults. The first of them has this number. Whether something may be
+/// Nodes that are awake sample the line, each with its own faults. The first of them has this number. Whether something may be
 /// told of one of them.
 // one copy, in which the sample of a node is not called but stands in the loop
 #[inline(never)]
@@ -79,11 +86,10 @@ pub(crate) fn sample_nodes(
     bit: u64,
     level: bool,
 ) -> bool
-    requires clocks { (k : ℕ) (m : Member) → slice_get members.old k ≡ Some m → m.on ≤ bit → bit_of m.station.node < u64.MAX }
-    requires room { (k : ℕ) (m : Member) → slice_get members.old k ≡ Some m → m.on ≤ bit → m.station.completed < u64.MAX }
+    requires room { HasRoom u64.MAX bit members.old }
     requires few { first + length members.old ≤ 1000 }
-    ensures samples { AtPlaces (NodeSamples first bit level faults.now) members.old members.new }
-    ensures quiet { result ≡ false → AreQuiet bit members.new }
+    ensures samples { AtPlaces (λ k. IfAwake (NodeSamples first bit level faults.now k)) members.old members.new }
+    ensures quiet { result ≡ false → AwakeAreQuiet bit members.new }
 {
     let mut told = false;
     for place in 0..members.len() {
@@ -97,8 +103,8 @@ pub(crate) fn sample_nodes(
 fn settle_ports<R, P: RxSink<R>>(rt: &R, members: &mut [Member], ports: &mut [P], bit: u64)
     requires size { length ports.old ≡ length members.old }
     requires unsettled { (k : ℕ) (m : Member) (p : P) → slice_get members.old k ≡ Some m
-        → slice_get ports.old k ≡ Some p → IsUnsettled (P.transmitting p) bit m }
-    ensures { AtBoth (λ k. PortSettled P.bus_after P.bus_asked P.transmitting P.sink_after P.port_stays bit)
+        → slice_get ports.old k ≡ Some p → m.rests ≡ false → IsUnsettled (P.transmitting p) bit m }
+    ensures { AtBoth (λ k. IfAwakeBoth (PortSettled P.bus_after P.bus_asked P.transmitting P.sink_after P.port_stays bit))
         members.old members.new ports.old ports.new }
 {
     for place in 0..members.len() {
@@ -118,14 +124,13 @@ pub(crate) fn sample_controllers<R, P: RxSink<R>>(
     level: bool,
 ) -> bool
     requires size { length ports.old ≡ length members.old }
-    requires clocks { (k : ℕ) (m : Member) → slice_get members.old k ≡ Some m → m.on ≤ bit → bit_of m.station.node < u64.MAX }
-    requires room { (k : ℕ) (m : Member) → slice_get members.old k ≡ Some m → m.on ≤ bit → m.station.completed < u64.MAX }
+    requires room { HasRoom u64.MAX bit members.old }
     requires few { first + length members.old ≤ 1000 }
     requires port { (k : ℕ) (m : Member) (p : P) → slice_get members.old k ≡ Some m
         → slice_get ports.old k ≡ Some p → P.transmitting p ≡ item_of m.station.sending }
-    ensures settles { AtBoth (λ k. PortSettles P.bus_after P.bus_asked P.transmitting P.sink_after P.port_stays bit
-        (sampled_level faults.now (first + k) bit level)) members.old members.new ports.old ports.new }
-    ensures quiet { result ≡ false → AreQuiet bit members.new }
+    ensures settles { AtBoth (λ k. IfAwakeBoth (PortSettles P.bus_after P.bus_asked P.transmitting P.sink_after P.port_stays
+        bit (sampled_level faults.now (first + k) bit level))) members.old members.new ports.old ports.new }
+    ensures quiet { result ≡ false → AwakeAreQuiet bit members.new }
 {
     let told = sample_nodes(members, faults, first, bit, level);
     settle_ports(rt, members, ports, bit);

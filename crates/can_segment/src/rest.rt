@@ -1,68 +1,65 @@
 //! Nodes that are left alone while a listener follows the line for them.
 
-ghost use Rattle.std.specs.Prelude.{◌≡◌, ◌⊎◌, true, false, IfSome, length};
-ghost use Rattle.can_segment.specs.Places.{AtPlaces};
+ghost use Rattle.std.specs.Prelude.{◌≡◌, ◌+◌, ◌≤◌, true, false, ℕ, length};
 ghost use Rattle.can_segment.specs.Rests.{
   AreAlike,
+  AreResting,
   AreSpent,
+  Chooses,
   Drives,
-  GoesOn,
-  HasOther,
-  KnownBut,
-  MayAllRest,
-  MayRestBut,
+  GoesThrough,
+  IsLess,
+  LeavesResting,
+  Lulls,
+  MayLieDown,
+  NoneRests,
   RestHolds,
   RestsThrough,
   StartsNone,
-  all_but,
-  caught_up,
-  controllers_at,
-  talkers_at,
-  undone,
+  Undisturbed,
+  members_at,
 };
+ghost use Rattle.can_segment.specs.Places.{AtPlaces};
 
+use crate::awake::Awake;
+use crate::leader::listener_of_most;
 use crate::member::Member;
-use crate::plan::Talker;
+use crate::plan::{NodeFault, Talker};
+use crate::wake::{wake_all, wake_disturbed, wake_unspent};
 use can_node::{KnownCounts, Listener, Node};
 
-/// Which nodes rest: none, or all but at most one talker and one controller. Those are left as they are, and a
-/// listener has come as far as each of them would have.
+/// What is held alike for all nodes that rest: which those are each node tells itself. A listener has come as far as
+/// each of them would have.
 #[derive(Drop)]
 pub(crate) struct Rest {
     pub(crate) listener: Listener,
+    // else none rests, and the listener is without use
     pub(crate) resting: bool,
-    // the places of the two that do not rest; behind the last where all do
-    pub(crate) talker: usize,
-    pub(crate) controller: usize,
     // of the counts of each of those that rest
     pub(crate) known: KnownCounts,
-    // there is no controller, and no talker has a frame left
+    // no controller rests, and no talker that rests has a frame left
     pub(crate) spent: bool,
+    // all rest but the talker and the controller at these places; behind the last where all do
+    pub(crate) few: bool,
+    pub(crate) talker: usize,
+    pub(crate) controller: usize,
 }
 
 impl Rest {
     /// No node rests.
     pub(crate) fn none() -> Rest
-        ensures { result.resting ≡ false }
+        ensures resting { result.resting ≡ false }
+        ensures few { result.few ≡ false }
     {
         Rest {
             listener: Node::new(0).listener(),
             resting: false,
-            talker: 0,
-            controller: 0,
             known: KnownCounts::Any,
             spent: false,
+            few: false,
+            talker: 0,
+            controller: 0,
         }
-    }
-
-    /// Whether nodes rest, and none of those has anything to do at the start of the next bit.
-    pub(crate) fn goes_on(&self) -> bool
-        ensures { result ≡ true → GoesOn self.now }
-    {
-        if !self.resting {
-            return false;
-        }
-        self.starts_none()
     }
 
     /// The level that each node drives which rests.
@@ -73,7 +70,7 @@ impl Rest {
     }
 
     /// Whether no node that rests wants to start at the next bit, or has anything to.
-    fn starts_none(&self) -> bool
+    pub(crate) fn starts_none(&self) -> bool
         ensures { result ≡ true → StartsNone self.now }
     {
         if self.spent {
@@ -82,39 +79,116 @@ impl Rest {
         !self.listener.wants_start()
     }
 
-    /// Whether nodes rest while they sample this level, which they do if none has a fault of its own at this bit: then
-    /// the listener has followed for them.
-    pub(crate) fn rests_through(&mut self, bit: u64, level: bool, faultless: bool) -> bool
-        ensures through { result ≡ true → RestsThrough bit level faultless self.old self.new }
+    /// Those that rest wake before this bit if they may have something to start at it.
+    pub(crate) fn rouse(
+        &mut self,
+        plan: &[Talker],
+        talkers: &mut [Member],
+        controllers: &mut [Member],
+        bit: u64,
+    )
+        requires plan { length plan.now ≡ length talkers.old }
+        requires holds { RestHolds self.old bit plan.now talkers.old controllers.old }
+        ensures talkers { members_at self.new bit talkers.new ≡ members_at self.old bit talkers.old }
+        ensures controllers { members_at self.new bit controllers.new ≡ members_at self.old bit controllers.old }
+        ensures left { LeavesResting talkers.old talkers.new × LeavesResting controllers.old controllers.new }
+        ensures holds { RestHolds self.new bit plan.now talkers.new controllers.new }
+        ensures none { StartsNone self.new }
+    {
+        if self.starts_none() {
+            return;
+        }
+        wake_unspent(talkers, plan, &self.listener, bit);
+        wake_all(controllers, &self.listener, bit);
+        self.spent = true;
+        self.few = false;
+    }
+
+    /// Those that rest wake before this bit if they have a fault of their own at it.
+    pub(crate) fn disturb(
+        &mut self,
+        faults: &[NodeFault],
+        plan: &[Talker],
+        talkers: &mut [Member],
+        controllers: &mut [Member],
+        bit: u64,
+    )
+        requires few { length talkers.old + length controllers.old ≤ 1000 }
+        requires holds { RestHolds self.old bit plan.now talkers.old controllers.old }
+        ensures talkers { members_at self.new bit talkers.new ≡ members_at self.old bit talkers.old }
+        ensures controllers { members_at self.new bit controllers.new ≡ members_at self.old bit controllers.old }
+        ensures left { LeavesResting talkers.old talkers.new × LeavesResting controllers.old controllers.new }
+        ensures holds { RestHolds self.new bit plan.now talkers.new controllers.new }
+        ensures talkers_undisturbed { Undisturbed faults.now 0 bit talkers.new }
+        ensures undisturbed { Undisturbed faults.now (length talkers.old) bit controllers.new }
+    {
+        if faults.is_empty() {
+            return;
+        }
+        let first = talkers.len() as u32;
+        wake_disturbed(talkers, faults, 0, &self.listener, bit);
+        wake_disturbed(controllers, faults, first, &self.listener, bit);
+        self.few = false;
+    }
+
+    /// All nodes that rest wake before this bit.
+    pub(crate) fn wake(
+        &mut self,
+        plan: &[Talker],
+        talkers: &mut [Member],
+        controllers: &mut [Member],
+        bit: u64,
+    )
+        requires holds { RestHolds self.old bit plan.now talkers.old controllers.old }
+        ensures talkers { members_at self.new bit talkers.new ≡ members_at self.old bit talkers.old }
+        ensures controllers { members_at self.new bit controllers.new ≡ members_at self.old bit controllers.old }
+        ensures listener { self.new.listener ≡ self.old.listener }
+        ensures talkers_awake { NoneRests talkers.new }
+        ensures controllers_awake { NoneRests controllers.new }
+        ensures holds { (next : ℕ) → RestHolds self.new next plan.now talkers.new controllers.new }
+    {
+        if !self.resting {
+            return;
+        }
+        wake_all(talkers, &self.listener, bit);
+        wake_all(controllers, &self.listener, bit);
+        self.resting = false;
+        self.few = false;
+    }
+
+    /// Whether nodes rest, and the listener has followed for them through a bit at which they sample this level.
+    #[inline(always)]
+    pub(crate) fn follows(&mut self, bit: u64, level: bool) -> bool
+        ensures through { result ≡ true → RestsThrough bit level self.old self.new }
         ensures other { result ≡ false → self.new ≡ self.old }
     {
         if !self.resting {
             return false;
         }
-        if !faultless {
-            return false;
-        }
         self.listener.follow(bit, level, self.known)
     }
 
-    /// All nodes that rest catch up with the listener before this bit.
-    pub(crate) fn wake(&mut self, talkers: &mut [Member], controllers: &mut [Member], bit: u64)
-        ensures talkers { talkers.new ≡ talkers_at self.old bit talkers.old }
-        ensures controllers { controllers.new ≡ controllers_at self.old bit controllers.old }
-        ensures awake { self.new.resting ≡ false }
+    /// The listener follows through a bit at which those that rest sample this level; where it can't they wake before it.
+    pub(crate) fn go_through(
+        &mut self,
+        plan: &[Talker],
+        talkers: &mut [Member],
+        controllers: &mut [Member],
+        bit: u64,
+        level: bool,
+    )
+        requires holds { RestHolds self.old bit plan.now talkers.old controllers.old }
+        ensures talkers { GoesThrough self.old self.new bit level talkers.old talkers.new }
+        ensures controllers { GoesThrough self.old self.new bit level controllers.old controllers.new }
+        ensures holds { RestHolds self.new (bit + 1) plan.now talkers.new controllers.new }
     {
-        if !self.resting {
+        if self.follows(bit, level) {
             return;
         }
-        wake_all_but(talkers, self.talker, &self.listener, bit);
-        wake_all_but(controllers, self.controller, &self.listener, bit);
-        self.resting = false;
+        self.wake(plan, talkers, controllers, bit);
     }
 
-    /// Where none rests, nodes come to rest before this bit, if at most one talker and one controller have anything to do
-    /// and all others have come equally far.
-    // at most bits they rest already, and nothing is called
-    #[inline(always)]
+    /// Nodes come to rest before this bit that listen and have come equally far.
     pub(crate) fn come_to_rest(
         &mut self,
         plan: &[Talker],
@@ -122,183 +196,120 @@ impl Rest {
         controllers: &mut [Member],
         bit: u64,
     )
-        requires { RestHolds self.old bit plan.now talkers.old controllers.old }
-        ensures talkers { AreAlike (talkers_at self.old bit talkers.old) (talkers_at self.new bit talkers.new) }
-        ensures controllers { AreAlike (controllers_at self.old bit controllers.old) (controllers_at self.new bit controllers.new) }
+        requires plan { length plan.now ≡ length talkers.old }
+        requires holds { RestHolds self.old bit plan.now talkers.old controllers.old }
+        ensures talkers { AreAlike (members_at self.old bit talkers.old) (members_at self.new bit talkers.new) }
+        ensures controllers { AreAlike (members_at self.old bit controllers.old) (members_at self.new bit controllers.new) }
         ensures holds { RestHolds self.new bit plan.now talkers.new controllers.new }
     {
+        if asks_at_each_bit(controllers) {
+            return;
+        }
+        self.choose(talkers, controllers, bit);
+        self.lull_talkers(plan, talkers, bit);
+        self.lull_controllers(controllers, bit);
+        self.settle(plan, talkers, controllers, bit);
+    }
+
+    /// Where none rests, those may come to rest that have come as far as most of those that listen.
+    fn choose(&mut self, talkers: &[Member], controllers: &[Member], bit: u64)
+        ensures { Chooses self.old self.new }
+    {
+        self.few = false;
         if self.resting {
             return;
         }
-        self.lie_down(plan, talkers, controllers, bit);
+        let Some(listener) = listener_of_most(talkers, controllers, bit) else {
+            return;
+        };
+        *self = Rest {
+            listener,
+            resting: true,
+            known: KnownCounts::Zero,
+            spent: true,
+            few: false,
+            talker: 0,
+            controller: 0,
+        };
     }
 
-    /// So where none rests.
-    #[inline(never)]
-    fn lie_down(
+    /// The node comes to rest before this bit if it may. Whether it has nothing to start is told.
+    fn lull(&mut self, member: &mut Member, spent: bool, bit: u64)
+        ensures { Lulls bit spent self.old self.new member.old member.new }
+    {
+        if !self.resting || !member.may_rest(&self.listener, bit) {
+            return;
+        }
+        // it would wake at once
+        if !spent && self.listener.wants_start() {
+            return;
+        }
+        self.known = self.known.and(member.known_counts());
+        self.spent &= spent;
+        self.few = false;
+        member.lie_down();
+    }
+
+    /// Talkers come to rest before this bit.
+    fn lull_talkers(&mut self, plan: &[Talker], members: &mut [Member], bit: u64)
+        requires plan { length plan.now ≡ length members.old }
+        requires rests { AreResting self.old bit members.old }
+        requires spent { AreSpent self.old plan.now members.old }
+        ensures less { IsLess self.old self.new }
+        ensures lie { AtPlaces (λ k. MayLieDown self.old.listener bit) members.old members.new }
+        ensures rests { AreResting self.new bit members.new }
+        ensures spent { AreSpent self.new plan.now members.new }
+    {
+        for place in 0..members.len() {
+            let spent = members[place].is_spent(plan[place].frames.as_slice());
+            self.lull(&mut members[place], spent, bit);
+        }
+    }
+
+    /// So do controllers.
+    fn lull_controllers(&mut self, members: &mut [Member], bit: u64)
+        requires rests { AreResting self.old bit members.old }
+        requires spent { self.old.spent ≡ true → NoneRests members.old }
+        ensures less { IsLess self.old self.new }
+        ensures lie { AtPlaces (λ k. MayLieDown self.old.listener bit) members.old members.new }
+        ensures rests { AreResting self.new bit members.new }
+        ensures spent { self.new.spent ≡ true → NoneRests members.new }
+    {
+        for place in 0..members.len() {
+            self.lull(&mut members[place], false, bit);
+        }
+    }
+
+    /// Keeps which nodes are awake, where few are. Where more listen that are awake than rest, all wake, so that another
+    /// listener is chosen.
+    fn settle(
         &mut self,
         plan: &[Talker],
         talkers: &mut [Member],
         controllers: &mut [Member],
         bit: u64,
     )
-        requires { self.old.resting ≡ false }
-        ensures talkers { AreAlike (talkers_at self.old bit talkers.old) (talkers_at self.new bit talkers.new) }
-        ensures controllers { AreAlike (controllers_at self.old bit controllers.old) (controllers_at self.new bit controllers.new) }
+        requires holds { RestHolds self.old bit plan.now talkers.old controllers.old }
+        ensures talkers { members_at self.new bit talkers.new ≡ members_at self.old bit talkers.old }
+        ensures controllers { members_at self.new bit controllers.new ≡ members_at self.old bit controllers.old }
         ensures holds { RestHolds self.new bit plan.now talkers.new controllers.new }
     {
-        if asks_at_each_bit(controllers) {
+        let awake_talkers = Awake::of(talkers, bit);
+        let awake_controllers = Awake::of(controllers, bit);
+        if awake_talkers.outnumber(&awake_controllers) {
+            self.wake(plan, talkers, controllers, bit);
             return;
         }
-        let Some(rest) = rest_for(plan, talkers, controllers, bit) else {
-            return;
-        };
-        forget_deeds(talkers);
-        forget_deeds(controllers);
-        *self = rest;
+        self.talker = awake_talkers.place;
+        self.controller = awake_controllers.place;
+        self.few = awake_talkers.are_few(&awake_controllers);
     }
 }
 
-/// Whether the first of these may start at the next bit: then its port is asked, and nothing rests.
+/// Whether the first of these may start at the next bit: then its port is asked, and nothing comes to rest.
 fn asks_at_each_bit(controllers: &[Member]) -> bool {
     match controllers.first() {
         Some(member) => member.station.node.wants_start(),
         None => false,
     }
-}
-
-/// Each of these but the one at this place catches up with a listener before this bit.
-fn wake_all_but(members: &mut [Member], place: usize, listener: &Listener, bit: u64)
-    ensures { members.new ≡ all_but place (caught_up listener.now bit) members.old }
-{
-    for k in 0..members.len() {
-        members[k].catch_up(k == place, listener, bit);
-    }
-}
-
-/// Nothing is told any more of what these did.
-fn forget_deeds(members: &mut [Member])
-    ensures { AtPlaces (λ k a b. b ≡ undone a) members.old members.new }
-{
-    for k in 0..members.len() {
-        members[k].forget_deed();
-    }
-}
-
-/// How these may rest before this bit, if they may.
-fn rest_for(plan: &[Talker], talkers: &[Member], controllers: &[Member], bit: u64) -> Option<Rest>
-    ensures { IfSome result (λ rest. MayAllRest rest bit plan.now talkers.now controllers.now) }
-{
-    let talker = odd_one(talkers)?;
-    let controller = odd_one(controllers)?;
-    let rest = Rest {
-        listener: listener_of(talkers, talker, controllers, controller)?,
-        resting: true,
-        talker,
-        controller,
-        known: known_of(talkers, talker, controllers, controller),
-        spent: are_spent(talkers, controllers, plan),
-    };
-    if !rest.starts_none() {
-        return None;
-    }
-    if !may_rest(talkers, talker, &rest.listener, bit) {
-        return None;
-    }
-    if !may_rest(controllers, controller, &rest.listener, bit) {
-        return None;
-    }
-    Some(rest)
-}
-
-/// The place of the one of these that has something of its own to do, behind the last where none has, and none where
-/// several have.
-fn odd_one(members: &[Member]) -> Option<usize> {
-    let mut odd = members.len();
-    for k in 0..members.len() {
-        if !members[k].station.node.is_listening() {
-            if odd < members.len() {
-                return None;
-            }
-            odd = k;
-        }
-    }
-    Some(odd)
-}
-
-/// One that has come as far as the first node but these two, if there is one.
-fn listener_of(
-    talkers: &[Member],
-    talker: usize,
-    controllers: &[Member],
-    controller: usize,
-) -> Option<Listener>
-    ensures { IfSome result (λ listener. HasOther talker talkers.now ⊎ HasOther controller controllers.now) }
-{
-    if let Some(member) = first_but(talkers, talker) {
-        return Some(member.station.node.listener());
-    }
-    let member = first_but(controllers, controller)?;
-    Some(member.station.node.listener())
-}
-
-/// The first of these but the one at this place, if there is one.
-fn first_but(members: &[Member], place: usize) -> Option<&Member>
-    ensures { IfSome result (λ member. HasOther place members.now) }
-{
-    if place == 0 {
-        return members.get(1);
-    }
-    members.get(0)
-}
-
-/// Whether each of these but the one at this place may come to rest before this bit, with this listener.
-fn may_rest(members: &[Member], place: usize, listener: &Listener, bit: u64) -> bool
-    ensures { result ≡ true → MayRestBut place listener.now bit members.now }
-{
-    for k in 0..members.len() {
-        if !members[k].may_rest(k == place, listener, bit) {
-            return false;
-        }
-    }
-    true
-}
-
-/// What is known of the counts of all nodes but these two.
-fn known_of(
-    talkers: &[Member],
-    talker: usize,
-    controllers: &[Member],
-    controller: usize,
-) -> KnownCounts
-    ensures talkers { KnownBut talker result talkers.now }
-    ensures controllers { KnownBut controller result controllers.now }
-{
-    known_but(talkers, talker).and(known_but(controllers, controller))
-}
-
-/// What is known of the counts of each of these but the one at this place.
-fn known_but(members: &[Member], place: usize) -> KnownCounts
-    ensures { KnownBut place result members.now }
-{
-    let mut known = KnownCounts::Zero;
-    for k in 0..members.len() {
-        known = members[k].known_with(k == place, known);
-    }
-    known
-}
-
-/// Whether there is no controller, and no talker has a frame left.
-fn are_spent(talkers: &[Member], controllers: &[Member], plan: &[Talker]) -> bool
-    ensures { result ≡ true → AreSpent plan.now talkers.now × (length controllers.now ≡ 0) }
-{
-    if !controllers.is_empty() {
-        return false;
-    }
-    for k in 0..talkers.len().min(plan.len()) {
-        if !talkers[k].is_spent(plan[k].frames.as_slice()) {
-            return false;
-        }
-    }
-    true
 }

@@ -3,7 +3,7 @@
 ghost use Rattle.std.specs.Prelude.{◌≡◌, true, IfSome, IfNone};
 ghost use Rattle.can_segment.specs.FaultOrder.{IsFaultless, StandsAt};
 ghost use Rattle.can_segment.specs.declared.plan.SegmentPlan.{SegmentPlan};
-ghost use Rattle.can_segment.specs.Rests.{Drives, GoesOn, HasRoom, OneSends, RestsThrough, SendsAlone};
+ghost use Rattle.can_segment.specs.Rests.{Drives, HasRoom, OneSends, RestsThrough, SendsAlone, StartsNone};
 
 use crate::fault_order::FaultOrder;
 use crate::member::Member;
@@ -19,7 +19,7 @@ fn one_sends(
     listener: &mut Listener,
     bit: u64,
 ) -> Option<bool>
-    requires { HasRoom u64.MAX bit place members.old }
+    requires { HasRoom u64.MAX bit members.old }
     ensures sends { IfSome result (λ level. OneSends place bit listener.old level listener.new members.old members.new) }
     ensures none { IfNone result ((members.new ≡ members.old) × (listener.new ≡ listener.old)) }
 {
@@ -33,18 +33,14 @@ fn one_sends(
 /// `None` where they don't: then nothing is changed.
 #[inline(always)]
 fn none_sends(rest: &mut Rest, bit: u64) -> Option<bool>
-    requires { rest.old.resting ≡ true }
-    ensures goes { IfSome result (λ level. GoesOn rest.old × Drives rest.old level × (level ≡ true)) }
-    ensures through { IfSome result (λ level. RestsThrough bit level true rest.old rest.new) }
+    ensures starts { IfSome result (λ level. StartsNone rest.old × Drives rest.old level × (level ≡ true)) }
+    ensures through { IfSome result (λ level. RestsThrough bit level rest.old rest.new) }
     ensures none { IfNone result (rest.new ≡ rest.old) }
 {
-    if !rest.goes_on() {
+    if !rest.starts_none() || !rest.drive() {
         return None;
     }
-    if !rest.drive() {
-        return None;
-    }
-    if !rest.rests_through(bit, true, true) {
+    if !rest.follows(bit, true) {
         return None;
     }
     Some(true)
@@ -59,13 +55,13 @@ fn level_at_rest(
     rest: &mut Rest,
     bit: u64,
 ) -> Option<bool>
-    requires talker_room { HasRoom u64.MAX bit rest.old.talker talkers.old }
-    requires room { HasRoom u64.MAX bit rest.old.controller controllers.old }
+    requires talker_room { HasRoom u64.MAX bit talkers.old }
+    requires room { HasRoom u64.MAX bit controllers.old }
     ensures sends { IfSome result (λ level. SendsAlone bit level rest.old rest.new
         talkers.old talkers.new controllers.old controllers.new) }
     ensures none { IfNone result ((rest.new ≡ rest.old) × (talkers.new ≡ talkers.old) × (controllers.new ≡ controllers.old)) }
 {
-    if !rest.resting {
+    if !rest.few {
         return None;
     }
     if rest.controller < controllers.len() {
@@ -90,8 +86,8 @@ pub(crate) fn quiet_level(
     bit: u64,
     faults: &FaultOrder,
 ) -> Option<bool>
-    requires talker_room { HasRoom u64.MAX bit rest.old.talker talkers.old }
-    requires room { HasRoom u64.MAX bit rest.old.controller controllers.old }
+    requires talker_room { HasRoom u64.MAX bit talkers.old }
+    requires room { HasRoom u64.MAX bit controllers.old }
     ensures sends { IfSome result (λ level. SendsAlone bit level rest.old rest.new
         talkers.old talkers.new controllers.old controllers.new) }
     ensures faultless { IfSome result (λ level. (plan : SegmentPlan) → StandsAt plan bit faults.now → IsFaultless plan bit) }

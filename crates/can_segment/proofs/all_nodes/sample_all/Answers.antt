@@ -1,72 +1,89 @@
-use Rattle.std.proofs.Common.{rules, ◌≡◌, ◌⊎◌, ◌+◌, [], length, ap, sym, subst, ◌∙◌}
-use Rattle.can_segment.specs.Rests.{HasOther, HasRoom, controllers_at}
-use Rattle.can_segment.proofs.AllBut.{none_in}
-use Rattle.can_segment.proofs.Rests.{awake_woken, controllers_rest_on, controllers_sample, one_at, one_quiet, some_stays, talkers_rest_on, talkers_sample, transmits_real, woken_length}
+use Rattle.std.proofs.Common.{◌≡◌, ◌+◌, length, ap, arith, sym, subst, ◌∙◌}
+use Rattle.std.proofs.lemmas.Bool.{or_parts}
+use Rattle.can_segment.specs.Faults.{sampled_level}
+use Rattle.can_segment.specs.Members.{NodeSamples, PortSettles}
+use Rattle.can_segment.specs.Places.{AtBoth, AtPlaces}
+use Rattle.can_segment.specs.Rests.{HasRoom, TransmitsAll, Undisturbed, members_at}
+use Rattle.can_segment.proofs.Holds.{left_holds, left_rests}
+use Rattle.can_segment.proofs.Rests.{all_quiet, controllers_sample, members_length, members_sample, room_real, transmits_real}
+use Rattle.can_segment.proofs.Woken.{left_both, left_on, left_places, others_both, others_places}
 use Rattle.can_segment.proofs.all_nodes.sample_all.Goals as goal
 
-pub sample_few-requires-clause-talker_room : goal.sample_few-requires-clause-talker_room
-sample_few-requires-clause-talker_room g c =
-    let old = c.args.rest.now in
-    let through = c.rests_through.ensures.through c.if-rests_through.true in
-    subst (λ place. HasRoom _ c.args.bit place c.args.talkers.now) (sym through.talker_is)
-    (λ m e on. c.requires.talker_room old.talker m (one_at old old.talker c.args.bit c.args.talkers.now m e) on)
+pub sample_nodes-talkers_told-requires-clause-room : goal.sample_nodes-talkers_told-requires-clause-room
+sample_nodes-talkers_told-requires-clause-room g c =
+    room_real _ c.disturb.new.self c.args.bit c.go_through.new.talkers (subst (HasRoom _ c.args.bit) (sym (c.go_through.ensures.talkers.same ∙ c.disturb.ensures.talkers)) c.requires.talker_room)
 
-pub sample_few-requires-clause-room : goal.sample_few-requires-clause-room
-sample_few-requires-clause-room g c =
-    let old = c.args.rest.now in
-    let through = c.rests_through.ensures.through c.if-rests_through.true in
-    subst (λ place. HasRoom _ c.args.bit place c.args.controllers.now) (sym through.controller_is)
-    (λ m e on. c.requires.room old.controller m (one_at old old.controller c.args.bit c.args.controllers.now m e) on)
+pub sample_controllers-controllers_told-requires-clause-room : goal.sample_controllers-controllers_told-requires-clause-room
+sample_controllers-controllers_told-requires-clause-room g c =
+    room_real _ c.disturb.new.self c.args.bit c.go_through.new.controllers (subst (HasRoom _ c.args.bit) (sym (c.go_through.ensures.controllers.same ∙ c.disturb.ensures.controllers)) c.requires.room)
 
-pub sample_few-requires-clause-port : goal.sample_few-requires-clause-port
-sample_few-requires-clause-port g c = transmits_real g.P.TxBus.transmitting c.args.rest.now c.args.rest.now.controller c.args.bit c.args.controllers.now c.args.ports.now c.requires.port
+pub sample_controllers-controllers_told-requires-clause-port : goal.sample_controllers-controllers_told-requires-clause-port
+sample_controllers-controllers_told-requires-clause-port g c =
+    transmits_real g.P.TxBus.transmitting c.disturb.new.self c.args.bit c.go_through.new.controllers c.args.ports.now
+    (subst (λ ms. TransmitsAll g.P.TxBus.transmitting ms c.args.ports.now) (sym (c.go_through.ensures.controllers.same ∙ c.disturb.ensures.controllers)) c.requires.port)
 
-pub returns-then-rests_through-clause-talkers : goal.returns-then-rests_through-clause-talkers
-returns-then-rests_through-clause-talkers g c =
-    let through = c.rests_through.ensures.through c.if-rests_through.true in
-    let none : c.args.faults.now ≡ [] = none_in c.args.faults.now (search rules) in
-    rw none
-    (talkers_sample c.args.rest.now c.rests_through.new.self c.args.bit c.args.level c.is_empty.result c.args.plan.now c.args.talkers.now c.sample_few.new.talkers through
-    (c.requires.rests.talkers_rest through.rested) c.sample_few.ensures.talkers)
-
-pub returns-then-rests_through-clause-controllers : goal.returns-then-rests_through-clause-controllers
-returns-then-rests_through-clause-controllers g c =
-    let through = c.rests_through.ensures.through c.if-rests_through.true in
-    let none : c.args.faults.now ≡ [] = none_in c.args.faults.now (search rules) in
-    let sends = transmits_real g.P.TxBus.transmitting c.args.rest.now c.args.rest.now.controller c.args.bit c.args.controllers.now c.args.ports.now c.requires.port in
-    rw none
-    (controllers_sample g.P.TxBus.bus_after g.P.TxBus.bus_asked g.P.TxBus.transmitting g.P.RxSink.sink_after g.P.RxSink.port_stays c.args.rest.now c.rests_through.new.self c.args.bit c.args.level c.is_empty.result
-    c.args.controllers.now c.sample_few.new.controllers c.args.ports.now c.sample_few.new.ports
-    (λ x. g.met.P.RxSink.port_of_bus x x (g.met.P.TxBus.bus_stays_self x)) through (c.requires.rests.controllers_rest through.rested) sends c.sample_few.ensures.controllers)
-
-pub returns-then-rests_through-clause-quiet : goal.returns-then-rests_through-clause-quiet
-returns-then-rests_through-clause-quiet g c none =
-    let old = c.args.rest.now in
-    let new = c.rests_through.new.self in
-    let through = c.rests_through.ensures.through c.if-rests_through.true in
-    let quiet = c.sample_few.ensures.quiet none in
-    let talkers = talkers_rest_on old new c.args.bit c.args.level c.is_empty.result c.args.plan.now c.args.talkers.now c.sample_few.new.talkers through (c.requires.rests.talkers_rest through.rested) c.sample_few.ensures.talkers in
-    let controllers = controllers_rest_on old new c.args.bit c.args.level c.is_empty.result c.args.controllers.now c.sample_few.new.controllers c.args.ports.now c.sample_few.new.ports _ through
-    (c.requires.rests.controllers_rest through.rested) c.sample_few.ensures.controllers in
-    (one_quiet new new.talker c.args.bit c.sample_few.new.talkers through.resting talkers.each quiet.0, one_quiet new new.controller c.args.bit c.sample_few.new.controllers through.resting controllers.each quiet.1)
-
-pub returns-then-rests_through-clause-rests : goal.returns-then-rests_through-clause-rests
-returns-then-rests_through-clause-rests g c =
-    let old = c.args.rest.now in
-    let new = c.rests_through.new.self in
-    let through = c.rests_through.ensures.through c.if-rests_through.true in
-    record {
-      talkers_rest = λ is. talkers_rest_on old new c.args.bit c.args.level c.is_empty.result c.args.plan.now c.args.talkers.now c.sample_few.new.talkers through (c.requires.rests.talkers_rest through.rested) c.sample_few.ensures.talkers;
-      controllers_rest = λ is. controllers_rest_on old new c.args.bit c.args.level c.is_empty.result c.args.controllers.now c.sample_few.new.controllers c.args.ports.now c.sample_few.new.ports _ through
-          (c.requires.rests.controllers_rest through.rested) c.sample_few.ensures.controllers;
-      some_rests = λ is. some_stays new.talker new.controller c.args.talkers.now c.sample_few.new.talkers c.args.controllers.now c.sample_few.new.controllers c.sample_few.ensures.talkers.others c.sample_few.ensures.controllers.others
-          (subst (λ place. HasOther place c.args.talkers.now ⊎ HasOther new.controller c.args.controllers.now) (sym through.talker_is)
-          (subst (λ place. HasOther old.talker c.args.talkers.now ⊎ HasOther place c.args.controllers.now) (sym through.controller_is) (c.requires.rests.some_rests through.rested)));
-    }
+pub returns-clause-talkers : goal.returns-clause-talkers
+returns-clause-talkers g c =
+    let before = c.disturb.new.self in
+    let after = c.go_through.new.self in
+    let t = c.go_through.new.talkers in
+    let goes = c.go_through.ensures.talkers in
+    subst (λ ms. AtPlaces (NodeSamples 0 c.args.bit c.args.level c.args.faults.now) ms (members_at after (c.args.bit + 1) c.sample_nodes-talkers_told.new.members)) (goes.same ∙ c.disturb.ensures.talkers)
+    (members_sample before after c.args.bit 0 c.args.level c.args.faults.now t c.sample_nodes-talkers_told.new.members (left_rests before c.args.bit c.disturb.new.talkers t goes.left c.disturb.ensures.holds.talkers_rest)
+    (λ k m e is. c.disturb.ensures.talkers_undisturbed k m (goes.left k m e is) is) goes.through c.sample_nodes-talkers_told.ensures.samples)
 
 pub returns-clause-controllers : goal.returns-clause-controllers
 returns-clause-controllers g c =
-    let same = c.rests_through.ensures.other c.if-rests_through.false in
-    let woken : c.wake.new.controllers ≡ controllers_at c.args.rest.now c.args.bit c.args.controllers.now = c.wake.ensures.controllers ∙ ap (λ rest. controllers_at rest c.args.bit c.args.controllers.now) same in
-    let size : length c.wake.new.talkers ≡ length c.args.talkers.now = ap length c.wake.ensures.talkers ∙ woken_length c.rests_through.new.self c.rests_through.new.self.talker c.args.bit c.args.talkers.now in
-    rw (sym size, sym woken, awake_woken c.wake.new.self c.wake.new.self.controller (c.args.bit + 1) c.sample_controllers-controllers_told.new.members c.wake.ensures.awake) c.sample_controllers-controllers_told.ensures.settles
+    let before = c.disturb.new.self in
+    let after = c.go_through.new.self in
+    let cs = c.go_through.new.controllers in
+    let goes = c.go_through.ensures.controllers in
+    let first = length c.args.talkers.now in
+    let same = goes.same ∙ c.disturb.ensures.controllers in
+    let size : length c.args.ports.now ≡ length cs = c.requires.ports ∙ sym (members_length c.args.rest.now c.args.bit c.args.controllers.now) ∙ ap length (sym same) ∙ members_length before c.args.bit cs in
+    let sends = transmits_real g.P.TxBus.transmitting before c.args.bit cs c.args.ports.now (subst (λ ms. TransmitsAll g.P.TxBus.transmitting ms c.args.ports.now) (sym same) c.requires.port) in
+    subst (λ ms. AtBoth (λ k. PortSettles g.P.TxBus.bus_after g.P.TxBus.bus_asked g.P.TxBus.transmitting g.P.RxSink.sink_after g.P.RxSink.port_stays c.args.bit (sampled_level c.args.faults.now (first + k) c.args.bit c.args.level)) ms
+    (members_at after (c.args.bit + 1) c.sample_controllers-controllers_told.new.members) c.args.ports.now c.sample_controllers-controllers_told.new.ports) same
+    (controllers_sample g.P.TxBus.bus_after g.P.TxBus.bus_asked g.P.TxBus.transmitting g.P.RxSink.sink_after g.P.RxSink.port_stays before after c.args.bit first c.args.level c.args.faults.now cs
+    c.sample_controllers-controllers_told.new.members c.args.ports.now c.sample_controllers-controllers_told.new.ports (λ x. g.met.P.RxSink.port_of_bus x x (g.met.P.TxBus.bus_stays_self x))
+    (left_rests before c.args.bit c.disturb.new.controllers cs goes.left c.disturb.ensures.holds.controllers_rest) (λ k m e is. c.disturb.ensures.undisturbed k m (goes.left k m e is) is) goes.through
+    sends size c.sample_controllers-controllers_told.ensures.settles)
+
+pub returns-clause-rests : goal.returns-clause-rests
+returns-clause-rests g c =
+    let before = c.disturb.new.self in
+    let t = c.go_through.new.talkers in
+    let cs = c.go_through.new.controllers in
+    let samples = c.sample_nodes-talkers_told.ensures.samples in
+    let settles = c.sample_controllers-controllers_told.ensures.settles in
+    let same = c.go_through.ensures.controllers.same ∙ c.disturb.ensures.controllers in
+    let size : length c.args.ports.now ≡ length cs = c.requires.ports ∙ sym (members_length c.args.rest.now c.args.bit c.args.controllers.now) ∙ ap length (sym same) ∙ members_length before c.args.bit cs in
+    left_holds c.go_through.new.self (c.args.bit + 1) c.args.plan.now t c.sample_nodes-talkers_told.new.members cs c.sample_controllers-controllers_told.new.members (left_places _ t c.sample_nodes-talkers_told.new.members samples)
+    (left_both _ cs c.sample_controllers-controllers_told.new.members c.args.ports.now c.sample_controllers-controllers_told.new.ports size settles)
+    (λ place. others_places _ place t c.sample_nodes-talkers_told.new.members samples)
+    (λ place. others_both _ place cs c.sample_controllers-controllers_told.new.members c.args.ports.now c.sample_controllers-controllers_told.new.ports size settles) c.go_through.ensures.holds
+
+pub returns-clause-quiet : goal.returns-clause-quiet
+returns-clause-quiet g c none =
+    let rest = c.go_through.new.self in
+    let rests = returns-clause-rests g c in
+    let parts = or_parts c.sample_nodes-talkers_told.result c.sample_controllers-controllers_told.result none in
+    (
+      all_quiet rest c.args.bit c.sample_nodes-talkers_told.new.members rests.talkers_rest (c.sample_nodes-talkers_told.ensures.quiet parts.0),
+      all_quiet rest c.args.bit c.sample_controllers-controllers_told.new.members rests.controllers_rest (c.sample_controllers-controllers_told.ensures.quiet parts.1),
+    )
+
+pub returns-clause-left : goal.returns-clause-left
+returns-clause-left g c =
+    let before = c.disturb.new.self in
+    let goes = c.go_through.ensures in
+    let cs = c.go_through.new.controllers in
+    let same = goes.controllers.same ∙ c.disturb.ensures.controllers in
+    let size : length c.args.ports.now ≡ length cs = c.requires.ports ∙ sym (members_length c.args.rest.now c.args.bit c.args.controllers.now) ∙ ap length (sym same) ∙ members_length before c.args.bit cs in
+    (
+      left_on c.args.talkers.now c.disturb.new.talkers c.sample_nodes-talkers_told.new.members c.disturb.ensures.left.0
+      (left_on c.disturb.new.talkers c.go_through.new.talkers c.sample_nodes-talkers_told.new.members goes.talkers.left (left_places _ c.go_through.new.talkers c.sample_nodes-talkers_told.new.members c.sample_nodes-talkers_told.ensures.samples)),
+      left_on c.args.controllers.now c.disturb.new.controllers c.sample_controllers-controllers_told.new.members c.disturb.ensures.left.1
+      (left_on c.disturb.new.controllers cs c.sample_controllers-controllers_told.new.members goes.controllers.left
+      (left_both _ cs c.sample_controllers-controllers_told.new.members c.args.ports.now c.sample_controllers-controllers_told.new.ports size c.sample_controllers-controllers_told.ensures.settles)),
+    )

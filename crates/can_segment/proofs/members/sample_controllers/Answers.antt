@@ -2,15 +2,15 @@ use Rattle.std.proofs.Common.{◌+◌, arith}
 use Rattle.std.proofs.lemmas.Option.{slice_get_within}
 use Rattle.can_segment.specs.Faults.{sampled_level}
 use Rattle.can_segment.proofs.NextBits.{some_there}
-use Rattle.can_segment.proofs.Settles.{unsettled, port_settles, quiet_settled}
+use Rattle.can_segment.proofs.Settles.{quiet_both, settles_both, unsettled_awake}
 use Rattle.can_segment.proofs.members.sample_controllers.Goals as goal
 
 pub settle_ports-requires-clause-unsettled : goal.settle_ports-requires-clause-unsettled
-settle_ports-requires-clause-unsettled g c k m p e f =
+settle_ports-requires-clause-unsettled g c k m p e f awake =
     let samples = c.sample_nodes-told.ensures.samples in
     let within = slice_get_within c.sample_nodes-told.new.members k m e in
     let old = some_there c.args.members.now k (omega (arith, within, samples.size)) in
-    unsettled (g.P.TxBus.transmitting p) c.args.bit (sampled_level c.args.faults.now (c.args.first + k) c.args.bit c.args.level) old.0 m (c.requires.port k old.0 p old.1 f) (samples.at k old.0 m old.1 e)
+    unsettled_awake (g.P.TxBus.transmitting p) c.args.bit (sampled_level c.args.faults.now (c.args.first + k) c.args.bit c.args.level) old.0 m (c.requires.port k old.0 p old.1 f) (samples.at k old.0 m old.1 e) awake
 
 pub returns-clause-settles : goal.returns-clause-settles
 returns-clause-settles g c =
@@ -20,17 +20,18 @@ returns-clause-settles g c =
       at = λ k a b p q ea eb ep eq.
           let within = slice_get_within c.args.members.now k a ea in
           let mid = some_there c.sample_nodes-told.new.members k (omega (arith, within, samples.size)) in
-          port_settles g.P.TxBus.bus_after g.P.TxBus.bus_asked g.P.TxBus.transmitting g.P.RxSink.sink_after g.P.RxSink.port_stays c.args.bit (sampled_level c.args.faults.now (c.args.first + k) c.args.bit c.args.level) a mid.0 b p q
+          settles_both g.P.TxBus.bus_after g.P.TxBus.bus_asked g.P.TxBus.transmitting g.P.RxSink.sink_after g.P.RxSink.port_stays c.args.bit (sampled_level c.args.faults.now (c.args.first + k) c.args.bit c.args.level) a mid.0 b p q
           (samples.at k a mid.0 ea mid.1) (settles.at k mid.0 b p q mid.1 eb ep eq);
       size = omega (arith, samples.size, settles.size);
       size_too = settles.size_too;
     }
 
 pub returns-clause-quiet : goal.returns-clause-quiet
-returns-clause-quiet g c none k m e =
+returns-clause-quiet g c none k m e awake =
     let settles = c.settle_ports.ensures in
     let within = slice_get_within c.settle_ports.new.members k m e in
     let mid = some_there c.sample_nodes-told.new.members k (omega (arith, within, settles.size)) in
     let from = some_there c.args.ports.now k (omega (arith, within, settles.size, c.sample_nodes-told.ensures.samples.size, c.requires.size)) in
     let to = some_there c.settle_ports.new.ports k (omega (arith, within, settles.size, settles.size_too, c.sample_nodes-told.ensures.samples.size, c.requires.size)) in
-    quiet_settled c.args.bit mid.0 m (settles.at k mid.0 m from.0 to.0 mid.1 e from.1 to.1).member (c.sample_nodes-told.ensures.quiet none k mid.0 mid.1)
+    quiet_both g.P.TxBus.bus_after g.P.TxBus.bus_asked g.P.TxBus.transmitting g.P.RxSink.sink_after g.P.RxSink.port_stays c.args.bit mid.0 m from.0 to.0 (settles.at k mid.0 m from.0 to.0 mid.1 e from.1 to.1)
+    (c.sample_nodes-told.ensures.quiet none k mid.0 mid.1) awake

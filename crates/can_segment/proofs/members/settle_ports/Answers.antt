@@ -1,7 +1,8 @@
-use Rattle.std.proofs.Common.{arith}
+use Rattle.std.proofs.Common.{arith, ◌∙◌}
 use Rattle.std.proofs.lemmas.Option.{slice_get-get_or}
 use Rattle.can_segment.proofs.Places.{both_step, both_end}
 use Rattle.can_segment.specs.Members.{PortSettled}
+use Rattle.can_segment.specs.Rests.{IfAwakeBoth}
 use Rattle.can_segment.proofs.members.settle_ports.Goals as goal
 
 pub loop-place-preserved : goal.loop-place-preserved
@@ -9,13 +10,18 @@ loop-place-preserved g c =
     let members = c.loop-place.members in
     let ports = c.loop-place.ports in
     let place = c.loop-place.place in
-    both_step (λ k. PortSettled g.P.TxBus.bus_after g.P.TxBus.bus_asked g.P.TxBus.transmitting g.P.RxSink.sink_after g.P.RxSink.port_stays c.args.bit) c.args.members.now members c.args.ports.now ports place
+    let settle = c.settle.ensures in
+    both_step (λ k. IfAwakeBoth (PortSettled g.P.TxBus.bus_after g.P.TxBus.bus_asked g.P.TxBus.transmitting g.P.RxSink.sink_after g.P.RxSink.port_stays c.args.bit)) c.args.members.now members c.args.ports.now ports place
     _ c.settle.new.self _ c.settle.new.port
     (omega (arith, c.loop-place-test.true, c.loop-place.invariant.size)) c.requires.size
     (slice_get-get_or members place c.index-members-place.result (omega (arith, c.loop-place-test.true)))
     (slice_get-get_or ports place c.index-ports-place.result (omega (arith, c.loop-place-test.true, c.loop-place.invariant.size, c.loop-place.invariant.size_too, c.requires.size)))
-    (record { member = c.settle.ensures.member; bus = c.settle.ensures.bus; asks_none = c.settle.ensures.asked; transmits = c.settle.ensures.transmits; offers = c.settle.ensures.sink; stays_on = c.settle.ensures.stays }) c.loop-place.invariant
+    (record {
+      rests_on = settle.rests;
+      stays_awake = λ e. settle.awake ∙ e;
+      steps = λ e. record { member = settle.member e; bus = settle.bus e; asks_none = settle.asked; transmits = settle.transmits e; offers = settle.sink e; stays_on = settle.stays };
+    }) c.loop-place.invariant
 
 pub returns : goal.returns
-returns g c = both_end (λ k. PortSettled g.P.TxBus.bus_after g.P.TxBus.bus_asked g.P.TxBus.transmitting g.P.RxSink.sink_after g.P.RxSink.port_stays c.args.bit) c.args.members.now c.loop-place.members c.args.ports.now c.loop-place.ports c.loop-place.place
+returns g c = both_end (λ k. IfAwakeBoth (PortSettled g.P.TxBus.bus_after g.P.TxBus.bus_asked g.P.TxBus.transmitting g.P.RxSink.sink_after g.P.RxSink.port_stays c.args.bit)) c.args.members.now c.loop-place.members c.args.ports.now c.loop-place.ports c.loop-place.place
     (omega (arith, c.loop-place-test.false, c.loop-place.invariant.size)) c.loop-place.invariant

@@ -4,13 +4,13 @@ use Rattle.can_segment.specs.Brought.{IsBrought, told_of}
 use Rattle.can_segment.specs.Kept.{SegmentKept}
 use Rattle.can_segment.specs.Members.{wants_at}
 use Rattle.can_segment.specs.Ports.{item_of}
-use Rattle.can_segment.specs.Rests.{AreAlike, controllers_at, talkers_at}
+use Rattle.can_segment.specs.Rests.{AreAlike, members_at}
 use Rattle.can_segment.specs.Segments.{AreFrom}
 use Rattle.can_segment.specs.Tellings.{bit_lines}
 use Rattle.can_segment.proofs.Brought.{of_controller, port_brought}
 use Rattle.can_segment.proofs.Keeps.{run_length}
 use Rattle.can_segment.proofs.NextBits.{some_there}
-use Rattle.can_segment.proofs.Rests.{woken_length}
+use Rattle.can_segment.proofs.Rests.{members_length}
 use Rattle.can_segment.proofs.Wholes.{from_left, from_real, from_whole, holds_alike}
 use Rattle.can_segment.proofs.segment.grow_any.Goals as goal
 
@@ -18,10 +18,10 @@ pub make_bit-requires-clause-few : goal.make_bit-requires-clause-few
 make_bit-requires-clause-few g c =
     let rest = c.args.rest.now in
     let bit = length c.args.made.now.levels.items in
-    omega (arith, c.requires.holds.few, woken_length rest rest.talker bit c.args.talkers.now, woken_length rest rest.controller bit c.args.controllers.now)
+    omega (arith, c.requires.holds.few, members_length rest bit c.args.talkers.now, members_length rest bit c.args.controllers.now)
 
-pub show_moved-requires-clause-size : goal.show_moved-requires-clause-size
-show_moved-requires-clause-size g c =
+pub show_all-requires-clause-size : goal.show_all-requires-clause-size
+show_all-requires-clause-size g c =
     let bit = length c.args.made.now.levels.items in
     let new = c.make_bit.new.rest in
     let before = c.requires.holds.kept.stands in
@@ -33,27 +33,32 @@ show_moved-requires-clause-size g c =
       before.controllers_size,
       behind.talkers_size,
       behind.controllers_size,
-      woken_length new new.talker (bit + 1) c.make_bit.new.talkers,
-      woken_length new new.controller (bit + 1) c.make_bit.new.controllers,
+      members_length new (bit + 1) c.make_bit.new.talkers,
+      members_length new (bit + 1) c.make_bit.new.controllers,
     )
 
-pub show_moved-requires-clause-talkers : goal.show_moved-requires-clause-talkers
-show_moved-requires-clause-talkers g c resting =
+pub show_all-requires-clause-talkers : goal.show_all-requires-clause-talkers
+show_all-requires-clause-talkers g c =
     let old = c.args.rest.now in
-    let bit = length c.args.made.now.levels.items in
     let counters = c.args.made.now.counters.items in
-    from_left 0 c.make_bit.new.rest.talker c.args.talkers.now c.make_bit.new.talkers counters (from_whole 0 old old.talker bit c.args.talkers.now counters c.requires.holds.talkers_shown) (c.make_bit.ensures.left.talkers resting)
+    from_left 0 c.args.talkers.now c.make_bit.new.talkers counters (from_whole 0 old (length c.args.made.now.levels.items) c.args.talkers.now counters c.requires.holds.talkers_shown) c.make_bit.ensures.left.0
 
-pub show_moved-requires-clause-controllers : goal.show_moved-requires-clause-controllers
-show_moved-requires-clause-controllers g c resting =
+pub show_all-requires-clause-controllers : goal.show_all-requires-clause-controllers
+show_all-requires-clause-controllers g c =
     let old = c.args.rest.now in
     let new = c.make_bit.new.rest in
     let bit = length c.args.made.now.levels.items in
     let counters = c.args.made.now.counters.items in
-    let size : length (talkers_at old bit c.args.talkers.now) ≡ length c.make_bit.new.talkers =
-    omega (arith, c.requires.holds.kept.stands.talkers_size, c.make_bit.ensures.kept.stands.talkers_size, woken_length new new.talker (bit + 1) c.make_bit.new.talkers) in
-    from_left (length c.make_bit.new.talkers) new.controller c.args.controllers.now c.make_bit.new.controllers counters
-    (subst (λ first. AreFrom first c.args.controllers.now counters) size (from_whole _ old old.controller bit c.args.controllers.now counters c.requires.holds.controllers_shown)) (c.make_bit.ensures.left.controllers resting)
+    let size : length (members_at old bit c.args.talkers.now) ≡ length c.make_bit.new.talkers =
+    omega (arith, c.requires.holds.kept.stands.talkers_size, c.make_bit.ensures.kept.stands.talkers_size, members_length new (bit + 1) c.make_bit.new.talkers) in
+    from_left (length c.make_bit.new.talkers) c.args.controllers.now c.make_bit.new.controllers counters
+    (subst (λ first. AreFrom first c.args.controllers.now counters) size (from_whole _ old bit c.args.controllers.now counters c.requires.holds.controllers_shown)) c.make_bit.ensures.left.1
+
+pub come_to_rest-requires-clause-plan : goal.come_to_rest-requires-clause-plan
+come_to_rest-requires-clause-plan g c =
+    let bit = length c.args.made.now.levels.items in
+    let behind = c.make_bit.ensures.kept.stands in
+    omega (arith, ap length c.as_slice.ensures.value, behind.talkers_size, members_length c.make_bit.new.rest (bit + 1) c.make_bit.new.talkers)
 
 pub returns-clause-holds : goal.returns-clause-holds
 returns-clause-holds g c =
@@ -67,17 +72,17 @@ returns-clause-holds g c =
     let here : c.len.result ≡ next = search rules in
     let t1 = c.make_bit.new.talkers in
     let c1 = c.make_bit.new.controllers in
-    let kept = subst (λ n. SegmentKept c.args.plan.now c.make_bit.new.levels.items c.make_bit.new.events.items (talkers_at mid n t1) (controllers_at mid n c1)) longer made.kept in
-    let talkers_size = woken_length mid mid.talker next t1 in
-    let controllers_size = woken_length mid mid.controller next c1 in
+    let kept = subst (λ n. SegmentKept c.args.plan.now c.make_bit.new.levels.items c.make_bit.new.events.items (members_at mid n t1) (members_at mid n c1)) longer made.kept in
+    let talkers_size = members_length mid next t1 in
+    let controllers_size = members_length mid next c1 in
     let before = c.requires.holds.kept.stands in
-    holds_alike c.args.plan.now (record { levels = c.make_bit.new.levels; events = c.make_bit.new.events; counters = c.show_moved.new.counters }) (talkers_at mid next t1) (talkers_at new next c.come_to_rest.new.talkers)
-    (controllers_at mid next c1) (controllers_at new next c.come_to_rest.new.controllers)
-    (subst (λ n. AreAlike (talkers_at mid n t1) (talkers_at new n c.come_to_rest.new.talkers)) here c.come_to_rest.ensures.talkers)
-    (subst (λ n. AreAlike (controllers_at mid n c1) (controllers_at new n c.come_to_rest.new.controllers)) here c.come_to_rest.ensures.controllers) kept
-    (omega (arith, c.requires.holds.few, before.talkers_size, before.controllers_size, kept.stands.talkers_size, kept.stands.controllers_size)) (omega (arith, c.show_moved.ensures.size, talkers_size, controllers_size))
-    (from_real 0 mid mid.talker next t1 c.show_moved.new.counters.items c.show_moved.ensures.talkers)
-    (from_real (length (talkers_at mid next t1)) mid mid.controller next c1 c.show_moved.new.counters.items (subst (λ first. AreFrom first c1 c.show_moved.new.counters.items) (sym talkers_size) c.show_moved.ensures.controllers))
+    holds_alike c.args.plan.now (record { levels = c.make_bit.new.levels; events = c.make_bit.new.events; counters = c.show_all.new.counters }) (members_at mid next t1) (members_at new next c.come_to_rest.new.talkers)
+    (members_at mid next c1) (members_at new next c.come_to_rest.new.controllers)
+    (subst (λ n. AreAlike (members_at mid n t1) (members_at new n c.come_to_rest.new.talkers)) here c.come_to_rest.ensures.talkers)
+    (subst (λ n. AreAlike (members_at mid n c1) (members_at new n c.come_to_rest.new.controllers)) here c.come_to_rest.ensures.controllers) kept
+    (omega (arith, c.requires.holds.few, before.talkers_size, before.controllers_size, kept.stands.talkers_size, kept.stands.controllers_size)) (omega (arith, c.show_all.ensures.size, talkers_size, controllers_size))
+    (from_real 0 mid next t1 c.show_all.new.counters.items c.show_all.ensures.talkers)
+    (from_real (length (members_at mid next t1)) mid next c1 c.show_all.new.counters.items (subst (λ first. AreFrom first c1 c.show_all.new.counters.items) (sym talkers_size) c.show_all.ensures.controllers))
 
 pub returns-clause-bit : goal.returns-clause-bit
 returns-clause-bit g c =
@@ -88,19 +93,19 @@ returns-clause-bit g c =
     let next = length c.make_bit.new.levels.items in
     let longer : bit + 1 ≡ next = sym (ap length made.level.1 ∙ length-append c.args.made.now.levels.items (made.level.0 ∷ [])) in
     let here : c.len.result ≡ next = search rules in
-    let talkers = talkers_at mid (bit + 1) c.make_bit.new.talkers in
-    let controllers = controllers_at mid (bit + 1) c.make_bit.new.controllers in
+    let talkers = members_at mid (bit + 1) c.make_bit.new.talkers in
+    let controllers = members_at mid (bit + 1) c.make_bit.new.controllers in
     let lines = bit_lines bit talkers controllers in
     let stands = made.kept.stands in
-    let alike = subst (λ n. AreAlike (controllers_at mid n c.make_bit.new.controllers) (controllers_at new next c.come_to_rest.new.controllers)) (sym longer)
-    (subst (λ n. AreAlike (controllers_at mid n c.make_bit.new.controllers) (controllers_at new n c.come_to_rest.new.controllers)) here c.come_to_rest.ensures.controllers) in
+    let alike = subst (λ n. AreAlike (members_at mid n c.make_bit.new.controllers) (members_at new next c.come_to_rest.new.controllers)) (sym longer)
+    (subst (λ n. AreAlike (members_at mid n c.make_bit.new.controllers) (members_at new n c.come_to_rest.new.controllers)) here c.come_to_rest.ensures.controllers) in
     record {
       level = made.level.0;
       lines = lines;
       levels_is = made.level.1;
       events_is = made.events;
       ports = λ k a m p q d e f h.
-          let within = slice_get_within (controllers_at new next c.come_to_rest.new.controllers) k m e in
+          let within = slice_get_within (members_at new next c.come_to_rest.new.controllers) k m e in
           let x = some_there controllers k (omega (arith, within, alike.size)) in
           let planned = some_there c.args.plan.now.controllers.items k (omega (arith, within, alike.size, stands.controllers_size)) in
           let stood = stands.controllers_stand k planned.0 x.0 planned.1 x.1 in

@@ -1,32 +1,32 @@
 use Rattle.std.proofs.Common.{rules, length-append, ◌≡◌, ◌+◌, ◌<◌, ◌++◌, ◌∷◌, [], length, slice_get, refl, arith, sym, ap, subst, ◌∙◌}
 use Rattle.can_segment.specs.FaultOrder.{StandsAt}
 use Rattle.can_segment.specs.QuietBits.{GrowsQuietly}
-use Rattle.can_segment.specs.Rests.{controllers_at, talkers_at}
+use Rattle.can_segment.specs.Rests.{members_at}
 use Rattle.can_segment.specs.Segments.{sending_of_all, wants_next}
 use Rattle.can_segment.proofs.Keeps.{controller_clocks, talker_clocks}
 use Rattle.can_segment.proofs.QuietBits.{grown_holds, grown_rests}
-use Rattle.can_segment.proofs.Rests.{one_at}
+use Rattle.can_segment.proofs.Woken.{found_awake}
 use Rattle.can_segment.proofs.Shown.{none_wanted, put_back}
 use Rattle.can_segment.proofs.SoleSender.{sending_alone, wishes_alone}
 use Rattle.can_segment.proofs.segment.Segment.quiet_bit.Goals as goal
 
 pub grow_quietly-requires-clause-talker_room : goal.grow_quietly-requires-clause-talker_room
-grow_quietly-requires-clause-talker_room c m e on =
+grow_quietly-requires-clause-talker_room c k m e awake on =
     let inside = c.self.inside in
     let rest = inside.rest in
     let levels = inside.made.levels.items in
     let bit = length levels in
-    talker_clocks inside.plan levels inside.made.events.items (talkers_at rest bit inside.talkers.items) (controllers_at rest bit inside.controllers.items) bit _ c.self.invariant.0.kept refl (search rules) rest.talker m
-    (one_at rest rest.talker bit inside.talkers.items m (ap (λ ms. slice_get ms rest.talker) (sym c.as_mut_slice.ensures.value) ∙ e)) on
+    talker_clocks inside.plan levels inside.made.events.items (members_at rest bit inside.talkers.items) (members_at rest bit inside.controllers.items) bit _ c.self.invariant.0.kept refl (search rules) k m
+    (found_awake rest.listener bit inside.talkers.items k m (ap (λ ms. slice_get ms k) (sym c.as_mut_slice.ensures.value) ∙ e) awake) on
 
 pub grow_quietly-requires-clause-room : goal.grow_quietly-requires-clause-room
-grow_quietly-requires-clause-room c m e on =
+grow_quietly-requires-clause-room c k m e awake on =
     let inside = c.self.inside in
     let rest = inside.rest in
     let levels = inside.made.levels.items in
     let bit = length levels in
-    controller_clocks inside.plan levels inside.made.events.items (talkers_at rest bit inside.talkers.items) (controllers_at rest bit inside.controllers.items) bit _ c.self.invariant.0.kept refl (search rules) rest.controller m
-    (one_at rest rest.controller bit inside.controllers.items m (ap (λ ms. slice_get ms rest.controller) (sym c.as_mut_slice-2.ensures.value) ∙ e)) on
+    controller_clocks inside.plan levels inside.made.events.items (members_at rest bit inside.talkers.items) (members_at rest bit inside.controllers.items) bit _ c.self.invariant.0.kept refl (search rules) k m
+    (found_awake rest.listener bit inside.controllers.items k m (ap (λ ms. slice_get ms k) (sym c.as_mut_slice-2.ensures.value) ∙ e) awake) on
 
 pub invariant_of-self : goal.invariant_of-self
 invariant_of-self c =
@@ -75,15 +75,15 @@ returns-clause-made c was_made =
     let c_size = grown.sends.controllers.size in
     let controllers = put_back inside.controllers.len c.grow_quietly.new.controllers inside.controllers.items (omega (arith, c.as_mut_slice-2.ensures.len, ap length c.as_mut_slice-2.ensures.value, c_size)) (sym c_size) in
     let longer : next ≡ bit + 1 = ap length grown.levels_is ∙ length-append inside.made.levels.items (grown.level ∷ []) in
-    let rests = c.self.invariant.2.controllers_rest grown.sends.through.rested in
+    let rests = c.self.invariant.2 in
     record {
       level = grown.level;
       plan_is = ap (λ s. s.plan) c.self.view_is;
       levels_is = grown.levels_is ∙ ap (λ s. s.levels ++ grown.level ∷ []) c.self.view_is;
       events_is = ap (λ v. v.items) grown.events_is ∙ ap (λ s. s.events) c.self.view_is;
       counters_is = ap (λ v. v.items) grown.counters_is ∙ ap (λ s. s.counters) c.self.view_is;
-      sending_is = ap (λ ms. sending_of_all (controllers_at new next ms)) controllers ∙ ap (λ n. sending_of_all (controllers_at new n c.grow_quietly.new.controllers)) longer
-          ∙ sending_alone bit grown.level rest new inside.talkers.items c.grow_quietly.new.talkers inside.controllers.items c.grow_quietly.new.controllers grown.sends rests ∙ ap (λ s. s.sending) c.self.view_is;
+      sending_is = ap (λ ms. sending_of_all (members_at new next ms)) controllers ∙ ap (λ n. sending_of_all (members_at new n c.grow_quietly.new.controllers)) longer
+          ∙ sending_alone inside.plan.talkers.items bit grown.level rest new inside.talkers.items c.grow_quietly.new.talkers inside.controllers.items c.grow_quietly.new.controllers grown.sends rests ∙ ap (λ s. s.sending) c.self.view_is;
       none_wants = λ k. ap (λ s. wants_next s k) (sym c.self.view_is)
-          ∙ none_wanted bit (controllers_at rest bit inside.controllers.items) (wishes_alone bit grown.level rest new inside.talkers.items c.grow_quietly.new.talkers inside.controllers.items c.grow_quietly.new.controllers grown.sends rests) k;
+          ∙ none_wanted bit (members_at rest bit inside.controllers.items) (wishes_alone inside.plan.talkers.items bit grown.level rest new inside.talkers.items c.grow_quietly.new.talkers inside.controllers.items c.grow_quietly.new.controllers grown.sends rests) k;
     }

@@ -1,0 +1,52 @@
+use Rattle.std.proofs.Common.{refl, subst, sym, ap, ◌∙◌}
+use Rattle.can_segment.specs.Rests.{AreAlike, members_at}
+use Rattle.can_segment.proofs.ComesToRest.{alike_at_rest, alike_self, chosen_awake, chosen_rests, chosen_same, chosen_spent, less_rests}
+use Rattle.can_segment.proofs.rest.Rest.come_to_rest.Goals as goal
+
+pub returns-then-asks_at_each_bit-clause-talkers : goal.returns-then-asks_at_each_bit-clause-talkers
+returns-then-asks_at_each_bit-clause-talkers c = alike_self _ _ refl
+
+pub returns-then-asks_at_each_bit-clause-controllers : goal.returns-then-asks_at_each_bit-clause-controllers
+returns-then-asks_at_each_bit-clause-controllers c = alike_self _ _ refl
+
+pub lull_talkers-requires-clause-rests : goal.lull_talkers-requires-clause-rests
+lull_talkers-requires-clause-rests c = chosen_rests c.args.self.now c.choose.new.self c.args.bit c.args.talkers.now c.choose.ensures c.requires.holds.talkers_rest
+
+pub lull_talkers-requires-clause-spent : goal.lull_talkers-requires-clause-spent
+lull_talkers-requires-clause-spent c = chosen_spent c.args.self.now c.choose.new.self c.args.bit c.args.plan.now c.args.talkers.now c.choose.ensures c.requires.holds.talkers_rest c.requires.holds.talkers_spent
+
+pub lull_controllers-requires-clause-rests : goal.lull_controllers-requires-clause-rests
+lull_controllers-requires-clause-rests c =
+    less_rests c.choose.new.self c.lull_talkers.new.self c.args.bit c.args.controllers.now c.lull_talkers.ensures.less
+    (chosen_rests c.args.self.now c.choose.new.self c.args.bit c.args.controllers.now c.choose.ensures c.requires.holds.controllers_rest)
+
+pub lull_controllers-requires-clause-spent : goal.lull_controllers-requires-clause-spent
+lull_controllers-requires-clause-spent c is =
+    chosen_awake c.args.self.now c.choose.new.self c.args.bit c.args.controllers.now c.choose.ensures c.requires.holds.controllers_rest c.requires.holds.controllers_awake (c.lull_talkers.ensures.less.spends is)
+
+pub settle-requires : goal.settle-requires
+settle-requires c =
+    let many = c.lull_controllers.ensures.less.many (c.lull_talkers.ensures.less.many c.choose.ensures.many) in
+    record { holds = record {
+      talkers_rest = less_rests c.lull_talkers.new.self c.lull_controllers.new.self c.args.bit c.lull_talkers.new.members c.lull_controllers.ensures.less c.lull_talkers.ensures.rests;
+      controllers_rest = c.lull_controllers.ensures.rests;
+      talkers_spent = λ s. c.lull_talkers.ensures.spent (c.lull_controllers.ensures.less.spends s);
+      controllers_awake = c.lull_controllers.ensures.spent;
+      other_talkers = λ few. absurd (cc (few, many));
+      other_controllers = λ few. absurd (cc (few, many));
+    } }
+
+pub returns-clause-talkers : goal.returns-clause-talkers
+returns-clause-talkers c =
+    let before = c.lull_controllers.ensures.less.listener_is ∙ c.lull_talkers.ensures.less.listener_is in
+    let lain = alike_at_rest c.choose.new.self.listener c.lull_controllers.new.self.listener c.args.bit c.args.talkers.now c.lull_talkers.new.members before c.lull_talkers.ensures.lie in
+    subst (λ ms. AreAlike ms (members_at c.settle.new.self c.args.bit c.settle.new.talkers)) (chosen_same c.args.self.now c.choose.new.self c.args.bit c.args.talkers.now c.choose.ensures c.requires.holds.talkers_rest)
+    (subst (AreAlike (members_at c.choose.new.self c.args.bit c.args.talkers.now)) (sym c.settle.ensures.talkers) lain)
+
+pub returns-clause-controllers : goal.returns-clause-controllers
+returns-clause-controllers c =
+    let mid = c.lull_talkers.new.self in
+    let lain = alike_at_rest mid.listener c.lull_controllers.new.self.listener c.args.bit c.args.controllers.now c.lull_controllers.new.members c.lull_controllers.ensures.less.listener_is c.lull_controllers.ensures.lie in
+    let same = ap (λ listener. members_at (record { listener = listener; resting = mid.resting; known = mid.known; spent = mid.spent; few = mid.few; talker = mid.talker; controller = mid.controller }) c.args.bit c.args.controllers.now) c.lull_talkers.ensures.less.listener_is
+    ∙ chosen_same c.args.self.now c.choose.new.self c.args.bit c.args.controllers.now c.choose.ensures c.requires.holds.controllers_rest in
+    subst (λ ms. AreAlike ms (members_at c.settle.new.self c.args.bit c.settle.new.controllers)) same (subst (AreAlike (members_at mid c.args.bit c.args.controllers.now)) (sym c.settle.ensures.controllers) lain)

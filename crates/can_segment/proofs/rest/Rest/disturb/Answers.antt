@@ -1,0 +1,31 @@
+use Rattle.std.proofs.Common.{◌≡◌, ◌+◌, [], length, refl, arith, sym, subst}
+use Rattle.can_segment.specs.Rests.{Undisturbed, WakesDisturbed}
+use Rattle.can_segment.proofs.Holds.{woken_holds}
+use Rattle.can_segment.proofs.Woken.{wakes_left, wakes_same}
+use Rattle.can_segment.proofs.Wakes.{undisturbed_at}
+use Rattle.can_segment.proofs.rest.Rest.disturb.Goals as goal
+
+pub returns-clause-talkers : goal.returns-clause-talkers
+returns-clause-talkers c =
+    wakes_same (WakesDisturbed c.args.self.now.listener c.args.bit c.args.faults.now 0) c.args.self.now.listener c.args.bit c.args.talkers.now c.wake_disturbed.new.members (λ k a b h. h.wakes) c.wake_disturbed.ensures
+
+pub returns-clause-controllers : goal.returns-clause-controllers
+returns-clause-controllers c = wakes_same _ c.args.self.now.listener c.args.bit c.args.controllers.now c.wake_disturbed-2.new.members (λ k a b h. h.wakes) c.wake_disturbed-2.ensures
+
+pub returns-clause-left : goal.returns-clause-left
+returns-clause-left c = (
+  wakes_left (WakesDisturbed c.args.self.now.listener c.args.bit c.args.faults.now 0) c.args.self.now.listener c.args.bit c.args.talkers.now c.wake_disturbed.new.members (λ k a b h. h.wakes) c.wake_disturbed.ensures,
+  wakes_left _ c.args.self.now.listener c.args.bit c.args.controllers.now c.wake_disturbed-2.new.members (λ k a b h. h.wakes) c.wake_disturbed-2.ensures,
+)
+
+pub returns-clause-holds : goal.returns-clause-holds
+returns-clause-holds c =
+    let left = returns-clause-left c in
+    woken_holds c.args.self.now _ c.args.bit c.args.plan.now c.args.talkers.now c.wake_disturbed.new.members c.args.controllers.now c.wake_disturbed-2.new.members (record { listener_is = refl; resting_is = refl; known_is = refl; spent_is = refl }) refl left.0 left.1
+    c.requires.holds
+
+pub returns-clause-talkers_undisturbed : goal.returns-clause-talkers_undisturbed
+returns-clause-talkers_undisturbed c = undisturbed_at c.args.self.now.listener c.args.bit c.args.faults.now 0 c.args.talkers.now c.wake_disturbed.new.members c.wake_disturbed.ensures
+
+pub returns-clause-undisturbed : goal.returns-clause-undisturbed
+returns-clause-undisturbed c = undisturbed_at c.args.self.now.listener c.args.bit c.args.faults.now _ c.args.controllers.now c.wake_disturbed-2.new.members c.wake_disturbed-2.ensures

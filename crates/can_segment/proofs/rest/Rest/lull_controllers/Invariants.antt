@@ -1,0 +1,10 @@
+use Rattle.std.proofs.Common.{◌≡◌, true}
+use Rattle.can_segment.specs.Rests.{NoneRests}
+use Rattle.can_segment.proofs.ComesToRest.{LullsBelow}
+use Rattle.can_segment.proofs.rest.Rest.lull_controllers.Given as goal
+
+abbrev pub invariant-loop-place : goal.invariant-loop-place
+invariant-loop-place l = record {
+  lulls : LullsBelow l.initial.self l.self l.bit l.initial.members l.members l.place;
+  awake : l.self.spent ≡ true → NoneRests l.members;
+}

@@ -1,0 +1,9 @@
+use Rattle.can_segment.specs.Rests.{AreSpent}
+use Rattle.can_segment.proofs.ComesToRest.{LullsBelow}
+use Rattle.can_segment.proofs.rest.Rest.lull_talkers.Given as goal
+
+abbrev pub invariant-loop-place : goal.invariant-loop-place
+invariant-loop-place l = record {
+  lulls : LullsBelow l.initial.self l.self l.bit l.initial.members l.members l.place;
+  spent : AreSpent l.self l.plan l.members;
+}

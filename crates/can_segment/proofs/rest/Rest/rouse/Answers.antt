@@ -1,0 +1,33 @@
+use Rattle.std.proofs.Common.{◌≡◌, true, inr, refl}
+use Rattle.can_segment.specs.Rests.{MayWake, WakesUnspent, woken}
+use Rattle.can_segment.proofs.Holds.{left_rests}
+use Rattle.can_segment.proofs.Woken.{all_woken, wakes_left, wakes_same}
+use Rattle.can_segment.proofs.Wakes.{unspent_at}
+use Rattle.can_segment.proofs.rest.Rest.rouse.Goals as goal
+
+pub returns-clause-talkers : goal.returns-clause-talkers
+returns-clause-talkers c =
+    wakes_same (WakesUnspent c.args.self.now.listener c.args.bit c.args.plan.now) c.args.self.now.listener c.args.bit c.args.talkers.now c.wake_unspent.new.members (λ k a b h. h.wakes) c.wake_unspent.ensures
+
+pub returns-clause-controllers : goal.returns-clause-controllers
+returns-clause-controllers c = wakes_same _ c.args.self.now.listener c.args.bit c.args.controllers.now c.wake_all.new.members (λ k a b h. inr h) c.wake_all.ensures
+
+pub returns-clause-left : goal.returns-clause-left
+returns-clause-left c = (
+  wakes_left (WakesUnspent c.args.self.now.listener c.args.bit c.args.plan.now) c.args.self.now.listener c.args.bit c.args.talkers.now c.wake_unspent.new.members (λ k a b h. h.wakes) c.wake_unspent.ensures,
+  wakes_left _ c.args.self.now.listener c.args.bit c.args.controllers.now c.wake_all.new.members (λ k a b h. inr h) c.wake_all.ensures,
+)
+
+pub returns-clause-holds : goal.returns-clause-holds
+returns-clause-holds c =
+    let held = c.requires.holds in
+    let left = returns-clause-left c in
+    let awake = all_woken c.args.self.now.listener c.args.bit c.args.controllers.now c.wake_all.new.members c.wake_all.ensures in
+    record {
+      talkers_rest = λ k m e is. let h = held.talkers_rest k m (left.0 k m e is) is in record { some_rest = h.some_rest; is_on = h.is_on; quiet = h.quiet; known = h.known; listening = h.listening };
+      controllers_rest = λ k m e is. absurd (let not = awake k m e in cc (is, not));
+      talkers_spent = λ s k m talker e f is. unspent_at c.args.self.now.listener c.args.bit c.args.plan.now c.args.talkers.now c.wake_unspent.new.members c.wake_unspent.ensures k m talker e f is;
+      controllers_awake = λ s. awake;
+      other_talkers = λ few. absurd (cc few);
+      other_controllers = λ few. absurd (cc few);
+    }

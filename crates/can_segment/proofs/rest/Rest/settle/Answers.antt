@@ -1,0 +1,16 @@
+use Rattle.can_segment.proofs.rest.Rest.settle.Goals as goal
+
+pub returns-then-outnumber-clause-holds : goal.returns-then-outnumber-clause-holds
+returns-then-outnumber-clause-holds c = c.wake.ensures.holds c.args.bit
+
+pub returns-clause-holds : goal.returns-clause-holds
+returns-clause-holds c =
+    let held = c.requires.holds in
+    record {
+      talkers_rest = λ k m e is. let h = held.talkers_rest k m e is in record { some_rest = h.some_rest; is_on = h.is_on; quiet = h.quiet; known = h.known; listening = h.listening };
+      controllers_rest = λ k m e is. let h = held.controllers_rest k m e is in record { some_rest = h.some_rest; is_on = h.is_on; quiet = h.quiet; known = h.known; listening = h.listening };
+      talkers_spent = held.talkers_spent;
+      controllers_awake = held.controllers_awake;
+      other_talkers = λ few. c.of-awake_talkers.ensures (c.are_few-self.ensures.this few);
+      other_controllers = λ few. c.of-awake_controllers.ensures (c.are_few-self.ensures.other few);
+    }
