@@ -11,9 +11,10 @@ use Rattle.can_node.specs.declared.listener.Listener.{Listener}
 use Rattle.can_segment.specs.declared.member.Member.{Member}
 use Rattle.can_segment.specs.declared.plan.Talker.{Talker}
 use Rattle.can_segment.specs.declared.rest.Rest.{Rest}
+use Rattle.can_segment.specs.declared.span.Span.{Span}
 use Rattle.can_segment.specs.Kept.{IsQuiet, no_deed}
 use Rattle.can_segment.specs.Places.{AtPlaces, AtPlacesBelow}
-use Rattle.can_segment.specs.Rests.{AreAlike, AreResting, AreSpent, Chooses, IsAlike, IsLess, IsResting, IsSame, Lulls, MayLieDown, MayRest, NoneRests, RestHolds, caught_up, laid_down, members_at, woken}
+use Rattle.can_segment.specs.Rests.{AreAlike, AreResting, AreSpent, AwakeWithin, Chooses, IsAlike, IsLess, IsResting, IsSame, Lulls, MayLieDown, MayRest, NoneRests, RestHolds, caught_up, laid_down, members_at, woken}
 use Rattle.can_segment.proofs.Holds.{not_resting, same_rests}
 use Rattle.can_segment.proofs.NextBits.{some_there}
 use Rattle.can_segment.proofs.Places.{get_set_other, get_set_same, places_end, places_start, places_step, same_some}
@@ -90,11 +91,13 @@ less_too before mid after one other = record {
   resting_is = other.resting_is ∙ one.resting_is;
   knows = λ counters h. other.knows counters (one.knows counters h);
   spends = λ s. one.spends (other.spends s);
-  many = λ few. other.many (one.many few);
+  talkers_is = other.talkers_is ∙ one.talkers_is;
+  controllers_is = other.controllers_is ∙ one.controllers_is;
+  few_is = other.few_is ∙ one.few_is;
 }
 
 less_itself : (rest : Rest) → IsLess rest rest
-less_itself rest = record { listener_is = refl; resting_is = refl; knows = λ counters h. h; spends = λ s. s; many = λ few. few }
+less_itself rest = record { listener_is = refl; resting_is = refl; knows = λ counters h. h; spends = λ s. s; talkers_is = refl; controllers_is = refl; few_is = refl }
 
 -- the first of these may have come to rest
 pub record LullsBelow (before now : Rest) (bit : ℕ) (old new : List Member) (i : ℕ) : Type 0 where
@@ -102,8 +105,12 @@ pub record LullsBelow (before now : Rest) (bit : ℕ) (old new : List Member) (i
   pub lie : AtPlacesBelow (λ k. MayLieDown before.listener bit) old new i
   pub rests : AreResting now bit new
 
-pub lulls_start : (rest : Rest) (bit : ℕ) (members : List Member) → AreResting rest bit members → LullsBelow rest rest bit members members 0
-lulls_start rest bit members rests = record { less = less_itself rest; lie = places_start (λ k. MayLieDown rest.listener bit) members; rests = rests }
+pub lulls_start : (rest : Rest) (bit : ℕ) (members : List Member) (from : ℕ) → AreResting rest bit members → LullsBelow rest rest bit members members from
+lulls_start rest bit members from rests = record {
+  less = less_itself rest;
+  lie = record { below = λ k a b less p q. inl (same_some b a (sym q ∙ p)); above = λ k more. refl; size = refl };
+  rests = rests;
+}
 
 lulled_resting : (spent : Bool) (before after : Rest) (bit : ℕ) (old new : Member) → Lulls bit spent before after old new → (old.rests ≡ true → IsResting before bit old) → new.rests ≡ true → IsResting after bit new
 lulled_resting spent before after bit old new h rested is = by h.lies
@@ -137,8 +144,14 @@ lulls_step spent before now next bit old new i a b room here h so_far = record {
     other : (k : ℕ) (m : Member) → k ≢ i → slice_get (set new i b) k ≡ Some m → m.rests ≡ true → IsResting next bit m
     other k m ne e is = less_resting now next bit m h.less (so_far.rests k m (sym (get_set_other new i k b ne) ∙ e) is)
 
-pub lulls_end : (before now : Rest) (bit : ℕ) (old new : List Member) (i : ℕ) → length old ≤ i → LullsBelow before now bit old new i → AtPlaces (λ k. MayLieDown before.listener bit) old new
-lulls_end before now bit old new i all h = places_end (λ k. MayLieDown before.listener bit) old new i all h.lie
+pub lulls_end : (before now : Rest) (bit : ℕ) (old new : List Member) (i : ℕ) → LullsBelow before now bit old new i → AtPlaces (λ k. MayLieDown before.listener bit) old new
+lulls_end before now bit old new i h = record {
+  at = λ k a b p q. elim (cases_lt k i) [
+    | inl less ↦ h.lie.below k a b less p q
+    | inr more ↦ inl (same_some b a (sym q ∙ h.lie.above k (omega (arith, more)) ∙ p))
+  ];
+  size = h.lie.size;
+}
 
 -- those talkers that have come to rest have no frame left, where that is known
 pub spent_step : (spent : Bool) (now next : Rest) (bit : ℕ) (plan : List Talker) (new : List Member) (i : ℕ) (a b : Member) (talker : Talker) → i < length new → slice_get new i ≡ Some a → slice_get plan i ≡ Some talker → Lulls bit spent now next a b →
@@ -201,3 +214,15 @@ chosen_awake old new bit members h rests awake = elim h.chosen [
   | inl same ↦ (λ s. awake (sym same.spent_is ∙ s))
   | inr none ↦ (λ s. not_resting old bit members none rests)
 ]
+
+-- no more nodes are awake where some have come to rest
+pub lain_within : (listener : Listener) (bit : ℕ) (old new : List Member) (span : Span) → AtPlaces (λ k. MayLieDown listener bit) old new → AwakeWithin span old → AwakeWithin span new
+lain_within listener bit old new span lie h = record {
+  within = omega (arith, h.within, lie.size);
+  outside = λ k m e out.
+      let x = some_there old k (let there = slice_get_within new k m e in omega (arith, there, lie.size)) in
+      elim (lie.at k x.0 m x.1 e) [
+        | inl same ↦ ap (λ y. y.rests) same ∙ h.outside k x.0 x.1 out
+        | inr lies ↦ ap (λ y. y.rests) lies.1
+      ];
+}

@@ -6,16 +6,20 @@ use Rattle.can_node.specs.Node.{counters_in}
 use Rattle.can_segment.specs.declared.member.Member.{Member}
 use Rattle.can_segment.specs.declared.plan.Talker.{Talker}
 use Rattle.can_segment.specs.declared.rest.Rest.{Rest}
-use Rattle.can_segment.specs.Rests.{AreResting, AreSpent, IsResting, IsSame, LeavesResting, NoneRests, OthersRest, RestHolds, RestsThrough}
+use Rattle.can_segment.specs.declared.span.Span.{Span}
+use Rattle.can_segment.specs.Rests.{AreResting, AreSpent, AwakeWithin, IsResting, IsSame, LeavesResting, NoneRests, OthersRest, RestHolds, RestsThrough}
 use Rattle.can_segment.proofs.Rests.{next_rests}
 
 -- where none rests
-pub none_rests : (rest : Rest) (bit : ℕ) (plan : List Talker) (talkers controllers : List Member) → rest.few ≡ false → NoneRests talkers → NoneRests controllers → RestHolds rest bit plan talkers controllers
-none_rests rest bit plan talkers controllers many t c = record {
+pub none_rests : (rest : Rest) (bit : ℕ) (plan : List Talker) (talkers controllers : List Member) → rest.few ≡ false → AwakeWithin rest.talkers talkers → AwakeWithin rest.controllers controllers → NoneRests talkers → NoneRests controllers →
+    RestHolds rest bit plan talkers controllers
+none_rests rest bit plan talkers controllers many w w_too t c = record {
   talkers_rest = λ k m e is. absurd (let awake = t k m e in cc (is, awake));
   controllers_rest = λ k m e is. absurd (let awake = c k m e in cc (is, awake));
   talkers_spent = λ s k m talker e f is. absurd (let awake = t k m e in cc (is, awake));
   controllers_awake = λ s. c;
+  talkers_within = w;
+  controllers_within = w_too;
   other_talkers = λ few. absurd (cc (few, many));
   other_controllers = λ few. absurd (cc (few, many));
 }
@@ -26,6 +30,8 @@ none_rests_on rest bit next plan talkers controllers t c h = record {
   controllers_rest = λ k m e is. absurd (let awake = c k m e in cc (is, awake));
   talkers_spent = h.talkers_spent;
   controllers_awake = λ s. c;
+  talkers_within = h.talkers_within;
+  controllers_within = h.controllers_within;
   other_talkers = h.other_talkers;
   other_controllers = h.other_controllers;
 }
@@ -65,24 +71,28 @@ left_awake old new left none k m e = by m.rests refl
 
 -- behind steps of those that are awake
 pub left_holds : (rest : Rest) (bit : ℕ) (plan : List Talker) (t0 t1 c0 c1 : List Member) → LeavesResting t0 t1 → LeavesResting c0 c1 → ((place : ℕ) → OthersRest place t0 → OthersRest place t1) → ((place : ℕ) → OthersRest place c0 → OthersRest place c1) →
-    RestHolds rest bit plan t0 c0 → RestHolds rest bit plan t1 c1
-left_holds rest bit plan t0 t1 c0 c1 t c others others_too h = record {
+    ((span : Span) → AwakeWithin span t0 → AwakeWithin span t1) → ((span : Span) → AwakeWithin span c0 → AwakeWithin span c1) → RestHolds rest bit plan t0 c0 → RestHolds rest bit plan t1 c1
+left_holds rest bit plan t0 t1 c0 c1 t c others others_too w w_too h = record {
   talkers_rest = left_rests rest bit t0 t1 t h.talkers_rest;
   controllers_rest = left_rests rest bit c0 c1 c h.controllers_rest;
   talkers_spent = left_spent rest plan t0 t1 t h.talkers_spent;
   controllers_awake = λ s. left_awake c0 c1 c (h.controllers_awake s);
-  other_talkers = λ few. others rest.talker (h.other_talkers few);
-  other_controllers = λ few. others_too rest.controller (h.other_controllers few);
+  talkers_within = w rest.talkers h.talkers_within;
+  controllers_within = w_too rest.controllers h.controllers_within;
+  other_talkers = λ few. others rest.talkers.from (h.other_talkers few);
+  other_controllers = λ few. others_too rest.controllers.from (h.other_controllers few);
 }
 
 -- where some woke
-pub woken_holds : (old new : Rest) (bit : ℕ) (plan : List Talker) (t0 t1 c0 c1 : List Member) → IsSame old new → new.few ≡ false → LeavesResting t0 t1 → LeavesResting c0 c1 → RestHolds old bit plan t0 c0 →
-    RestHolds new bit plan t1 c1
-woken_holds old new bit plan t0 t1 c0 c1 same many t c h = record {
+pub woken_holds : (old new : Rest) (bit : ℕ) (plan : List Talker) (t0 t1 c0 c1 : List Member) → IsSame old new → new.few ≡ false → AwakeWithin new.talkers t1 → AwakeWithin new.controllers c1 → LeavesResting t0 t1 → LeavesResting c0 c1 →
+    RestHolds old bit plan t0 c0 → RestHolds new bit plan t1 c1
+woken_holds old new bit plan t0 t1 c0 c1 same many w w_too t c h = record {
   talkers_rest = same_rests old new bit t1 same (left_rests old bit t0 t1 t h.talkers_rest);
   controllers_rest = same_rests old new bit c1 same (left_rests old bit c0 c1 c h.controllers_rest);
   talkers_spent = λ s. left_spent old plan t0 t1 t h.talkers_spent (sym same.spent_is ∙ s);
   controllers_awake = λ s. left_awake c0 c1 c (h.controllers_awake (sym same.spent_is ∙ s));
+  talkers_within = w;
+  controllers_within = w_too;
   other_talkers = λ few. absurd (cc (few, many));
   other_controllers = λ few. absurd (cc (few, many));
 }
@@ -97,6 +107,8 @@ through_holds old new bit level plan t c through h = record {
   controllers_rest = through_rests old new bit level c through h.controllers_rest;
   talkers_spent = λ s. h.talkers_spent (sym through.spent_is ∙ s);
   controllers_awake = λ s. h.controllers_awake (sym through.spent_is ∙ s);
-  other_talkers = λ few. subst (λ place. OthersRest place t) (sym through.talker_is) (h.other_talkers (sym through.few_is ∙ few));
-  other_controllers = λ few. subst (λ place. OthersRest place c) (sym through.controller_is) (h.other_controllers (sym through.few_is ∙ few));
+  talkers_within = subst (λ span. AwakeWithin span t) (sym through.talkers_is) h.talkers_within;
+  controllers_within = subst (λ span. AwakeWithin span c) (sym through.controllers_is) h.controllers_within;
+  other_talkers = λ few. subst (λ span. OthersRest span.from t) (sym through.talkers_is) (h.other_talkers (sym through.few_is ∙ few));
+  other_controllers = λ few. subst (λ span. OthersRest span.from c) (sym through.controllers_is) (h.other_controllers (sym through.few_is ∙ few));
 }

@@ -24,6 +24,7 @@ pub mod Copies
 pub mod FaultOrder
 pub mod Woken
 pub mod Wakes
+pub mod Spans
 pub mod Unmoved
 pub mod Rests
 pub mod Holds

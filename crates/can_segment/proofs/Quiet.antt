@@ -10,7 +10,7 @@ use Rattle.can_segment.specs.declared.plan.SegmentPlan.{SegmentPlan}
 use Rattle.can_segment.specs.Tells.{lines, told_start, told_outcome, told_reaped}
 use Rattle.can_segment.specs.Traces.{Bit}
 use Rattle.can_segment.specs.Kept.{no_deed, StandsBehind, IsQuiet, AreQuiet, SegmentKept}
-use Rattle.can_segment.specs.Rests.{AwakeAreQuiet, AwakeQuietBelow}
+use Rattle.can_segment.specs.Rests.{AwakeQuietBelow}
 use Rattle.can_segment.specs.Tellings.{start_of, rest_by, told_by, bit_lines}
 use Rattle.can_segment.proofs.Keeps.{run_length}
 use Rattle.can_segment.proofs.NextBits.{some_there}
@@ -24,9 +24,6 @@ quiet_step bit members i m room here below k x h e awake on = elim (cases_lt k i
       let same : m ≡ x = same_some m x (sym (get_set_same members i m room) ∙ ap (slice_get (set members i m)) (sym is) ∙ e) in
       subst (λ y. IsQuiet y.deed) same (here (subst (λ y. y.rests ≡ false) (sym same) awake) (subst (λ y. y.on ≤ bit) (sym same) on)))
 ]
-
-pub quiet_end : (bit : ℕ) (members : List Member) (i : ℕ) → length members ≤ i → AwakeQuietBelow bit members i → AwakeAreQuiet bit members
-quiet_end bit members i all below k x e awake on = below k x (let within = slice_get_within members k x e in omega (arith, within, all)) e awake on
 
 told_nothing : (tells : Deed → List Told) (bit node : ℕ) (members : List Member) → ((k : ℕ) (m : Member) → slice_get members k ≡ Some m → tells m.deed ≡ []) → told_by tells bit node members ≡ []
 unfolding told_by

@@ -91,10 +91,10 @@ holds_quietly plan made next level old new t0 t1 c0 c1 held quiet h levels_is ev
       size = omega (arith, ap length counters_are, held.size, before.talkers_size, before.controllers_size, behind.talkers_size, behind.controllers_size);
       talkers_shown = subst (AreFrom 0 talkers) (sym counters_are)
           (from_real 0 new (bit + 1) t1 made.counters.items
-          (shown_on 0 old.talker bit old.listener new.listener level t0 t1 made.counters.items h.talkers (from_whole 0 old bit t0 made.counters.items held.talkers_shown)));
+          (shown_on 0 old.talkers.from bit old.listener new.listener level t0 t1 made.counters.items h.talkers (from_whole 0 old bit t0 made.counters.items held.talkers_shown)));
       controllers_shown = subst (AreFrom (length talkers) (members_at new (bit + 1) c1)) (sym counters_are)
           (from_real (length talkers) new (bit + 1) c1 made.counters.items
-          (shown_on (length talkers) old.controller bit old.listener new.listener level c0 c1 made.counters.items h.controllers
+          (shown_on (length talkers) old.controllers.from bit old.listener new.listener level c0 c1 made.counters.items h.controllers
           (subst (λ n. AreFrom n c0 made.counters.items) size (from_whole (length (members_at old bit t0)) old bit c0 made.counters.items held.controllers_shown))));
     })
 

@@ -25,6 +25,7 @@ use Rattle.can_segment.proofs.Holds.{left_holds, through_holds}
 use Rattle.can_segment.proofs.Places.{same_some}
 use Rattle.can_segment.proofs.Rests.{all_drive, all_quiet, controllers_sample, controllers_start, members_length, members_sample, talkers_start, transmits_real, wishes_none}
 use Rattle.can_segment.proofs.Shown.{map_at, map_there}
+use Rattle.can_segment.proofs.Spans.{all_pass, within_places}
 use Rattle.can_segment.proofs.Unmoved.{unmoved_requests, unmoved_settles, unmoved_talks}
 use Rattle.can_segment.proofs.Woken.{awake_woken, left_places, others_places, resting_woken, same_list}
 
@@ -171,10 +172,6 @@ and_only : (b : Bool) → (b && true) ≡ b
 and_only true = refl
 and_only false = refl
 
-all_pass : {M : Type 0} (test : M → Bool) (xs : List M) → ((k : ℕ) (m : M) → slice_get xs k ≡ Some m → test m ≡ true) → list_all test xs ≡ true
-all_pass test [] h = refl
-all_pass test (x ∷ xs) h = ap (λ b. b && list_all test xs) (h zero x refl) ∙ all_pass test xs (λ k m e. h (suc k) m e)
-
 one_passes : {M : Type 0} (test : M → Bool) (place : ℕ) (xs : List M) → ((k : ℕ) (m : M) → slice_get xs k ≡ Some m → k ≢ place → test m ≡ true) → list_all test xs ≡ passes test (slice_get xs place)
 one_passes test place [] h = refl
 one_passes test zero (x ∷ xs) h = ap (λ b. test x && b) (all_pass test xs (λ k m e. h (suc k) m e (λ is. omega (arith, is)))) ∙ and_only (test x)
@@ -194,11 +191,11 @@ sole_awake : (place bit : ℕ) (before after : Listener) (level : Bool) (old new
 sole_awake place bit before after level old new moves m e = (sends_there place bit before after level old new m moves e).2.awake
 
 rests_through_alone : (rest : Rest) (place bit : ℕ) (after : Listener) (level : Bool) (old new : List Member) → OneSends place bit rest.listener level after old new →
-    RestsThrough bit level rest (record { listener = after; resting = rest.resting; known = rest.known; spent = rest.spent; few = rest.few; talker = rest.talker; controller = rest.controller })
+    RestsThrough bit level rest (record { listener = after; resting = rest.resting; known = rest.known; spent = rest.spent; talkers = rest.talkers; controllers = rest.controllers; few = rest.few })
 rests_through_alone rest place bit after level old new h = record {
   resting = refl;
-  talker_is = refl;
-  controller_is = refl;
+  talkers_is = refl;
+  controllers_is = refl;
   few_is = refl;
   known_is = refl;
   spent_is = refl;
@@ -209,42 +206,42 @@ rests_through_alone rest place bit after level old new h = record {
 drives_alone : (rest : Rest) (place bit : ℕ) (after : Listener) (level : Bool) (old new : List Member) → OneSends place bit rest.listener level after old new → Drives rest true
 drives_alone rest place bit after level old new h = λ listening node at. sym (h.step.sends.others_drive node at)
 
-pub talker_alone : (rest : Rest) (bit : ℕ) (after : Listener) (level : Bool) (t0 t1 c : List Member) → rest.few ≡ true → length c ≤ rest.controller → OneSends rest.talker bit rest.listener level after t0 t1 →
-    SendsAlone bit level rest (record { listener = after; resting = rest.resting; known = rest.known; spent = rest.spent; few = rest.few; talker = rest.talker; controller = rest.controller }) t0 t1 c c
+pub talker_alone : (rest : Rest) (bit : ℕ) (after : Listener) (level : Bool) (t0 t1 c : List Member) → rest.few ≡ true → length c ≤ rest.controllers.from → OneSends rest.talkers.from bit rest.listener level after t0 t1 →
+    SendsAlone bit level rest (record { listener = after; resting = rest.resting; known = rest.known; spent = rest.spent; talkers = rest.talkers; controllers = rest.controllers; few = rest.few }) t0 t1 c c
 talker_alone rest bit after level t0 t1 c few past h = record {
   few = few;
   starts_none = inr h.step.sends.others_begin;
-  through = rests_through_alone rest rest.talker bit after level t0 t1 h;
-  drives = drives_alone rest rest.talker bit after level t0 t1 h;
+  through = rests_through_alone rest rest.talkers.from bit after level t0 t1 h;
+  drives = drives_alone rest rest.talkers.from bit after level t0 t1 h;
   talkers = h.moves;
-  controllers = none_moves rest.controller (MemberSends bit rest.listener level after) c past;
-  level_is = sole_level rest.talker bit rest.listener after level t0 t1 h ∙ sym (and_true (passes (drives_at bit) (slice_get t0 rest.talker)))
-      ∙ ap (λ b. passes (drives_at bit) (slice_get t0 rest.talker) && b) (sym (none_passes rest.controller bit c past));
+  controllers = none_moves rest.controllers.from (MemberSends bit rest.listener level after) c past;
+  level_is = sole_level rest.talkers.from bit rest.listener after level t0 t1 h ∙ sym (and_true (passes (drives_at bit) (slice_get t0 rest.talkers.from)))
+      ∙ ap (λ b. passes (drives_at bit) (slice_get t0 rest.talkers.from) && b) (sym (none_passes rest.controllers.from bit c past));
 }
 
-pub controller_alone : (rest : Rest) (bit : ℕ) (after : Listener) (level : Bool) (t c0 c1 : List Member) → rest.few ≡ true → length t ≤ rest.talker → OneSends rest.controller bit rest.listener level after c0 c1 →
-    SendsAlone bit level rest (record { listener = after; resting = rest.resting; known = rest.known; spent = rest.spent; few = rest.few; talker = rest.talker; controller = rest.controller }) t t c0 c1
+pub controller_alone : (rest : Rest) (bit : ℕ) (after : Listener) (level : Bool) (t c0 c1 : List Member) → rest.few ≡ true → length t ≤ rest.talkers.from → OneSends rest.controllers.from bit rest.listener level after c0 c1 →
+    SendsAlone bit level rest (record { listener = after; resting = rest.resting; known = rest.known; spent = rest.spent; talkers = rest.talkers; controllers = rest.controllers; few = rest.few }) t t c0 c1
 controller_alone rest bit after level t c0 c1 few past h = record {
   few = few;
   starts_none = inr h.step.sends.others_begin;
-  through = rests_through_alone rest rest.controller bit after level c0 c1 h;
-  drives = drives_alone rest rest.controller bit after level c0 c1 h;
-  talkers = none_moves rest.talker (MemberSends bit rest.listener level after) t past;
+  through = rests_through_alone rest rest.controllers.from bit after level c0 c1 h;
+  drives = drives_alone rest rest.controllers.from bit after level c0 c1 h;
+  talkers = none_moves rest.talkers.from (MemberSends bit rest.listener level after) t past;
   controllers = h.moves;
-  level_is = sole_level rest.controller bit rest.listener after level c0 c1 h ∙ ap (λ b. b && passes (drives_at bit) (slice_get c0 rest.controller)) (sym (none_passes rest.talker bit t past));
+  level_is = sole_level rest.controllers.from bit rest.listener after level c0 c1 h ∙ ap (λ b. b && passes (drives_at bit) (slice_get c0 rest.controllers.from)) (sym (none_passes rest.talkers.from bit t past));
 }
 
 -- all rest, and the line is recessive
-pub none_alone : (old new : Rest) (bit : ℕ) (level : Bool) (t c : List Member) → old.few ≡ true → length t ≤ old.talker → length c ≤ old.controller → StartsNone old → Drives old level → level ≡ true → RestsThrough bit level old new →
+pub none_alone : (old new : Rest) (bit : ℕ) (level : Bool) (t c : List Member) → old.few ≡ true → length t ≤ old.talkers.from → length c ≤ old.controllers.from → StartsNone old → Drives old level → level ≡ true → RestsThrough bit level old new →
     SendsAlone bit level old new t t c c
 none_alone old new bit level t c few no_talker no_controller starts drives is through = record {
   few = few;
   starts_none = starts;
   through = through;
   drives = subst (Drives old) is drives;
-  talkers = none_moves old.talker (MemberSends bit old.listener level new.listener) t no_talker;
-  controllers = none_moves old.controller (MemberSends bit old.listener level new.listener) c no_controller;
-  level_is = is ∙ ap (λ b. b && true) (sym (none_passes old.talker bit t no_talker)) ∙ ap (λ b. passes (drives_at bit) (slice_get t old.talker) && b) (sym (none_passes old.controller bit c no_controller));
+  talkers = none_moves old.talkers.from (MemberSends bit old.listener level new.listener) t no_talker;
+  controllers = none_moves old.controllers.from (MemberSends bit old.listener level new.listener) c no_controller;
+  level_is = is ∙ ap (λ b. b && true) (sym (none_passes old.talkers.from bit t no_talker)) ∙ ap (λ b. passes (drives_at bit) (slice_get t old.talkers.from) && b) (sym (none_passes old.controllers.from bit c no_controller));
 }
 
 -- counters that are shown of nodes stay shown
@@ -267,12 +264,12 @@ both_if_some P Q R (Some x) h one other = h x one other
 pub talkers_start_alone : (plan : List Talker) (bit : ℕ) (level : Bool) (old new : Rest) (t0 t1 c0 c1 : List Member) → SendsAlone bit level old new t0 t1 c0 c1 → RestHolds old bit plan t0 c0 →
     AtPlaces (TalkerStarts bit plan) (members_at old bit t0) (members_at old bit t0)
 talkers_start_alone plan bit level old new t0 t1 c0 c1 h rests =
-    talkers_start old bit plan t0 t0 h.starts_none rests.talkers_rest rests.talkers_spent (sole_starts old.talker bit plan old.listener new.listener level t0 t1 (rests.other_talkers h.few) h.talkers)
+    talkers_start old bit plan t0 t0 h.starts_none rests.talkers_rest rests.talkers_spent (sole_starts old.talkers.from bit plan old.listener new.listener level t0 t1 (rests.other_talkers h.few) h.talkers)
 
 pub talkers_sample_alone : (plan : List Talker) (bit : ℕ) (level : Bool) (old new : Rest) (t0 t1 c0 c1 : List Member) → SendsAlone bit level old new t0 t1 c0 c1 → RestHolds old bit plan t0 c0 →
     AtPlaces (λ k. Samples bit level) (members_at old bit t0) (members_at new (bit + 1) t1)
 talkers_sample_alone plan bit level old new t0 t1 c0 c1 h rests =
-    members_sample old new bit 0 level [] t0 t1 rests.talkers_rest (λ k m e is. refl) (λ k m e is. h.through) (sole_moves old.talker bit old.listener new.listener level t0 t1 (rests.other_talkers h.few) h.talkers)
+    members_sample old new bit 0 level [] t0 t1 rests.talkers_rest (λ k m e is. refl) (λ k m e is. h.through) (sole_moves old.talkers.from bit old.listener new.listener level t0 t1 (rests.other_talkers h.few) h.talkers)
 
 pub controllers_start_alone : {P : Type 0} (after : P → BusPast → Type 0) (asked : P → List BusCall → Type 0) (transmitting : P → Option Item) (stays : P → P → Type 0) (plan : List Talker) (bit : ℕ) (level : Bool) (old new : Rest)
     (t0 t1 c0 c1 : List Member) (ports : List P) → ((x : P) → stays x x) → SendsAlone bit level old new t0 t1 c0 c1 → RestHolds old bit plan t0 c0 → TransmitsAll transmitting (members_at old bit c0) ports → length ports ≡ length c0 →
@@ -280,7 +277,7 @@ pub controllers_start_alone : {P : Type 0} (after : P → BusPast → Type 0) (a
 controllers_start_alone after asked transmitting stays plan bit level old new t0 t1 c0 c1 ports same h rests whole sizes =
     let sends = transmits_real transmitting old bit c0 ports whole in
     controllers_start after asked transmitting stays old bit c0 c0 ports ports same h.starts_none rests.controllers_rest rests.controllers_awake sends sizes
-    (sole_requests after asked transmitting stays old.controller bit old.listener new.listener level c0 c1 ports same (rests.other_controllers h.few) h.controllers sends)
+    (sole_requests after asked transmitting stays old.controllers.from bit old.listener new.listener level c0 c1 ports same (rests.other_controllers h.few) h.controllers sends)
 
 pub controllers_settle_alone : {P : Type 0} (after : P → BusPast → Type 0) (asked : P → List BusCall → Type 0) (transmitting : P → Option Item) (sink : P → List FrameValue → Type 0) (stays : P → P → Type 0) (plan : List Talker) (bit : ℕ) (level : Bool)
     (old new : Rest) (t0 t1 c0 c1 : List Member) (ports : List P) → ((x : P) → stays x x) → SendsAlone bit level old new t0 t1 c0 c1 → RestHolds old bit plan t0 c0 → TransmitsAll transmitting (members_at old bit c0) ports → length ports ≡ length c0 →
@@ -288,33 +285,34 @@ pub controllers_settle_alone : {P : Type 0} (after : P → BusPast → Type 0) (
 controllers_settle_alone after asked transmitting sink stays plan bit level old new t0 t1 c0 c1 ports same h rests whole sizes =
     let sends = transmits_real transmitting old bit c0 ports whole in
     controllers_sample after asked transmitting sink stays old new bit 0 level [] c0 c1 ports ports same rests.controllers_rest (λ k m e is. refl) (λ k m e is. h.through) sends sizes
-    (sole_settles after asked transmitting sink stays old.controller bit old.listener new.listener level c0 c1 ports same (rests.other_controllers h.few) h.controllers sends)
+    (sole_settles after asked transmitting sink stays old.controllers.from bit old.listener new.listener level c0 c1 ports same (rests.other_controllers h.few) h.controllers sends)
 
 -- the line has the AND of what all drive
 pub level_alone : (plan : List Talker) (bit : ℕ) (level : Bool) (old new : Rest) (t0 t1 c0 c1 : List Member) → SendsAlone bit level old new t0 t1 c0 c1 → RestHolds old bit plan t0 c0 →
     level ≡ (list_all (drives_at bit) (members_at old bit t0) && list_all (drives_at bit) (members_at old bit c0))
 level_alone plan bit level old new t0 t1 c0 c1 h rests =
-    let talkers = sole_drives old.talker bit t0 (rests.other_talkers h.few) (sole_awake old.talker bit old.listener new.listener level t0 t1 h.talkers) in
-    let controllers = sole_drives old.controller bit c0 (rests.other_controllers h.few) (sole_awake old.controller bit old.listener new.listener level c0 c1 h.controllers) in
+    let talkers = sole_drives old.talkers.from bit t0 (rests.other_talkers h.few) (sole_awake old.talkers.from bit old.listener new.listener level t0 t1 h.talkers) in
+    let controllers = sole_drives old.controllers.from bit c0 (rests.other_controllers h.few) (sole_awake old.controllers.from bit old.listener new.listener level c0 c1 h.controllers) in
     h.level_is
-    ∙ ap (λ b. b && passes (drives_at bit) (slice_get c0 old.controller)) (sym talkers ∙ all_drive old bit true t0 h.drives rests.talkers_rest)
+    ∙ ap (λ b. b && passes (drives_at bit) (slice_get c0 old.controllers.from)) (sym talkers ∙ all_drive old bit true t0 h.drives rests.talkers_rest)
     ∙ ap (λ b. list_all (drives_at bit) (members_at old bit t0) && b) (sym controllers ∙ all_drive old bit true c0 h.drives rests.controllers_rest)
 
 -- those that rest still do,
 pub rests_alone : (plan : List Talker) (bit : ℕ) (level : Bool) (old new : Rest) (t0 t1 c0 c1 : List Member) → SendsAlone bit level old new t0 t1 c0 c1 → RestHolds old bit plan t0 c0 → RestHolds new (bit + 1) plan t1 c1
 rests_alone plan bit level old new t0 t1 c0 c1 h rests =
-    let talkers = sole_moves old.talker bit old.listener new.listener level t0 t1 (rests.other_talkers h.few) h.talkers in
-    let controllers = sole_moves old.controller bit old.listener new.listener level c0 c1 (rests.other_controllers h.few) h.controllers in
+    let talkers = sole_moves old.talkers.from bit old.listener new.listener level t0 t1 (rests.other_talkers h.few) h.talkers in
+    let controllers = sole_moves old.controllers.from bit old.listener new.listener level c0 c1 (rests.other_controllers h.few) h.controllers in
     left_holds new (bit + 1) plan t0 t1 c0 c1 (left_places (λ k. Samples bit level) t0 t1 talkers) (left_places (λ k. Samples bit level) c0 c1 controllers)
-    (λ place. others_places (λ k. Samples bit level) place t0 t1 talkers) (λ place. others_places (λ k. Samples bit level) place c0 c1 controllers) (through_holds old new bit level plan t0 c0 h.through rests)
+    (λ place. others_places (λ k. Samples bit level) place t0 t1 talkers) (λ place. others_places (λ k. Samples bit level) place c0 c1 controllers)
+    (λ span. within_places (λ k. Samples bit level) span t0 t1 talkers) (λ span. within_places (λ k. Samples bit level) span c0 c1 controllers) (through_holds old new bit level plan t0 c0 h.through rests)
 
 -- and nothing is told
 pub quiet_alone : (plan : List Talker) (bit : ℕ) (level : Bool) (old new : Rest) (t0 t1 c0 c1 : List Member) → SendsAlone bit level old new t0 t1 c0 c1 → RestHolds old bit plan t0 c0 →
     AreQuiet bit (members_at new (bit + 1) t1) × AreQuiet bit (members_at new (bit + 1) c1)
 quiet_alone plan bit level old new t0 t1 c0 c1 h rests =
     let behind = rests_alone plan bit level old new t0 t1 c0 c1 h rests in (
-      all_quiet new bit t1 behind.talkers_rest (sole_quiet old.talker bit old.listener new.listener level t0 t1 (rests.other_talkers h.few) h.talkers),
-      all_quiet new bit c1 behind.controllers_rest (sole_quiet old.controller bit old.listener new.listener level c0 c1 (rests.other_controllers h.few) h.controllers),
+      all_quiet new bit t1 behind.talkers_rest (sole_quiet old.talkers.from bit old.listener new.listener level t0 t1 (rests.other_talkers h.few) h.talkers),
+      all_quiet new bit c1 behind.controllers_rest (sole_quiet old.controllers.from bit old.listener new.listener level c0 c1 (rests.other_controllers h.few) h.controllers),
     )
 
 and_false : (b : Bool) → (b && false) ≡ false
@@ -334,8 +332,8 @@ wishes_alone plan bit level old new t0 t1 c0 c1 h rests k m e =
     by : (x : Member) → slice_get c0 k ≡ Some x → (b : Bool) → x.rests ≡ b → wants_at bit (woken old.listener bit x) ≡ false
     by x f true is = ap (wants_at bit) (resting_woken old.listener bit x is) ∙ none_at (caught_up old.listener bit x) (wishes_none old c0 h.starts_none rests.controllers_awake k x f is x.station.node bit)
     by x f false is =
-        let here = sole_one old.controller c0 k x (rests.other_controllers h.few) f is in
-        ap (wants_at bit) (awake_woken old.listener bit x is) ∙ none_at x (sends_there old.controller bit old.listener new.listener level c0 c1 x h.controllers (ap (slice_get c0) (sym here) ∙ f)).2.sends.begins_none
+        let here = sole_one old.controllers.from c0 k x (rests.other_controllers h.few) f is in
+        ap (wants_at bit) (awake_woken old.listener bit x is) ∙ none_at x (sends_there old.controllers.from bit old.listener new.listener level c0 c1 x h.controllers (ap (slice_get c0) (sym here) ∙ f)).2.sends.begins_none
 
 -- and each has on the bus what it had
 pub sending_alone : (plan : List Talker) (bit : ℕ) (level : Bool) (old new : Rest) (t0 t1 c0 c1 : List Member) → SendsAlone bit level old new t0 t1 c0 c1 → RestHolds old bit plan t0 c0 →

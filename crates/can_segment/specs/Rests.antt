@@ -12,6 +12,7 @@ use Rattle.can_segment.specs.declared.member.Member.{Member}
 use Rattle.can_segment.specs.declared.plan.NodeFault.{NodeFault}
 use Rattle.can_segment.specs.declared.plan.Talker.{Talker}
 use Rattle.can_segment.specs.declared.rest.Rest.{Rest}
+use Rattle.can_segment.specs.declared.span.Span.{Span}
 use Rattle.can_segment.specs.Faults.{is_inverted}
 use Rattle.can_segment.specs.Kept.{IsQuiet, no_deed}
 use Rattle.can_segment.specs.Members.{drives_at}
@@ -86,14 +87,26 @@ NoneRests members = (k : ℕ) (m : Member) → slice_get members k ≡ Some m �
 abbrev pub OthersRest : ℕ → List Member → Type 0
 OthersRest place members = (k : ℕ) (m : Member) → slice_get members k ≡ Some m → k ≢ place → m.rests ≡ true
 
+-- the first places, so many of them
+pub record IsWhole (len : ℕ) (span : Span) : Type 0 where
+  pub from_is : span.from ≡ 0
+  pub to_is : span.to ≡ len
+
+-- of these nodes only some at the places of the span are awake
+pub record AwakeWithin (span : Span) (members : List Member) : Type 0 where
+  pub within : span.to ≤ length members
+  pub outside : (k : ℕ) (m : Member) → slice_get members k ≡ Some m → (k < span.from) ⊎ (span.to ≤ k) → m.rests ≡ true
+
 -- what stands before a bit of those that rest
 pub record RestHolds (rest : Rest) (bit : ℕ) (plan : List Talker) (talkers controllers : List Member) : Type 0 where
   pub talkers_rest : AreResting rest bit talkers
   pub controllers_rest : AreResting rest bit controllers
   pub talkers_spent : AreSpent rest plan talkers
   pub controllers_awake : rest.spent ≡ true → NoneRests controllers
-  pub other_talkers : rest.few ≡ true → OthersRest rest.talker talkers
-  pub other_controllers : rest.few ≡ true → OthersRest rest.controller controllers
+  pub talkers_within : AwakeWithin rest.talkers talkers
+  pub controllers_within : AwakeWithin rest.controllers controllers
+  pub other_talkers : rest.few ≡ true → OthersRest rest.talkers.from talkers
+  pub other_controllers : rest.few ≡ true → OthersRest rest.controllers.from controllers
 
 -- no node that rests wants to start, or none has anything to
 abbrev pub StartsNone : Rest → Type 0
@@ -106,8 +119,8 @@ Drives rest drive = IsListening rest.listener → (node : Node) (bit : ℕ) → 
 -- the listener follows for those that rest while they sample this level
 pub record RestsThrough (bit : ℕ) (level : Bool) (old new : Rest) : Type 0 where
   pub resting : new.resting ≡ old.resting
-  pub talker_is : new.talker ≡ old.talker
-  pub controller_is : new.controller ≡ old.controller
+  pub talkers_is : new.talkers ≡ old.talkers
+  pub controllers_is : new.controllers ≡ old.controllers
   pub few_is : new.few ≡ old.few
   pub known_is : new.known ≡ old.known
   pub spent_is : new.spent ≡ old.spent
@@ -164,7 +177,9 @@ pub record IsLess (old new : Rest) : Type 0 where
   pub resting_is : new.resting ≡ old.resting
   pub knows : (counters : Counters) → Knows old.known counters → Knows new.known counters
   pub spends : new.spent ≡ true → old.spent ≡ true
-  pub many : old.few ≡ false → new.few ≡ false
+  pub talkers_is : new.talkers ≡ old.talkers
+  pub controllers_is : new.controllers ≡ old.controllers
+  pub few_is : new.few ≡ old.few
 
 -- one that may have come to rest, and what is known of all that rest then
 pub record Lulls (bit : ℕ) (is_spent : Bool) (before after : Rest) (old new : Member) : Type 0 where
@@ -184,6 +199,8 @@ pub record IsSame (old new : Rest) : Type 0 where
 -- where none rests there may be another listener
 pub record Chooses (old new : Rest) : Type 0 where
   pub many : new.few ≡ false
+  pub talkers_is : new.talkers ≡ old.talkers
+  pub controllers_is : new.controllers ≡ old.controllers
   pub chosen : IsSame old new ⊎ (old.resting ≡ false)
 
 -- a member in place of another between two bits
@@ -247,6 +264,6 @@ pub record SendsAlone (bit : ℕ) (level : Bool) (old new : Rest) (t0 t1 c0 c1 :
   pub starts_none : StartsNone old
   pub through : RestsThrough bit level old new
   pub drives : Drives old true
-  pub talkers : MovesOne old.talker (MemberSends bit old.listener level new.listener) t0 t1
-  pub controllers : MovesOne old.controller (MemberSends bit old.listener level new.listener) c0 c1
-  pub level_is : level ≡ (passes (drives_at bit) (slice_get t0 old.talker) && passes (drives_at bit) (slice_get c0 old.controller))
+  pub talkers : MovesOne old.talkers.from (MemberSends bit old.listener level new.listener) t0 t1
+  pub controllers : MovesOne old.controllers.from (MemberSends bit old.listener level new.listener) c0 c1
+  pub level_is : level ≡ (passes (drives_at bit) (slice_get t0 old.talkers.from) && passes (drives_at bit) (slice_get c0 old.controllers.from))

@@ -44,9 +44,16 @@ fn start_all<R, P: RxSink<R>>(
     ensures left { LeavesResting talkers.old talkers.new × LeavesResting controllers.old controllers.new }
 {
     rest.rouse(plan, talkers, controllers, bit);
-    start_talkers(talkers, plan, bit);
-    start_controllers(rt, controllers, ports, bit);
-    driven_by_all(talkers, controllers, bit, rest.drive())
+    start_talkers(talkers, plan, bit, rest.talkers);
+    start_controllers(rt, controllers, ports, bit, rest.controllers);
+    driven_by_all(
+        talkers,
+        controllers,
+        bit,
+        rest.drive(),
+        rest.talkers,
+        rest.controllers,
+    )
 }
 
 /// All nodes sample the line, each with its own faults: those that rest do so as long as the listener can follow for
@@ -82,8 +89,17 @@ fn sample_all<R, P: RxSink<R>>(
     let first = talkers.len() as u32;
     rest.disturb(faults, plan, talkers, controllers, bit);
     rest.go_through(plan, talkers, controllers, bit, level);
-    let talkers_told = sample_nodes(talkers, faults, 0, bit, level);
-    let controllers_told = sample_controllers(rt, controllers, ports, faults, first, bit, level);
+    let talkers_told = sample_nodes(talkers, faults, 0, bit, level, rest.talkers);
+    let controllers_told = sample_controllers(
+        rt,
+        controllers,
+        ports,
+        faults,
+        first,
+        bit,
+        level,
+        rest.controllers,
+    );
     talkers_told | controllers_told
 }
 

@@ -1,73 +1,64 @@
 //! Which nodes are awake.
 
-ghost use Rattle.std.specs.Prelude.{◌≡◌, ◌||◌, true, false};
-ghost use Rattle.can_segment.specs.Rests.{OthersRest};
+ghost use Rattle.std.specs.Prelude.{◌≡◌, ◌≤◌, true, false, length};
+ghost use Rattle.can_segment.specs.Rests.{AwakeWithin};
 
 use crate::member::Member;
+use crate::span::Span;
 
 /// What is counted of nodes of which some rest.
 #[derive(Drop)]
 pub(crate) struct Awake {
-    // how many rest, and how many listen that are awake
-    resting: usize,
+    // how many there are, how many of them are awake, and how many of those listen
+    nodes: usize,
+    awake: usize,
     listening: usize,
-    // whether any is awake, and which one; whether several are
-    any: bool,
-    several: bool,
-    pub(crate) place: usize,
+    // from the first that is awake up to the last
+    pub(crate) span: Span,
 }
 
 impl Awake {
-    /// Counts these nodes before this bit. Where none is awake the place is behind the last.
-    pub(crate) fn of(members: &[Member], bit: u64) -> Awake
-        ensures { result.several ≡ false → OthersRest result.place members.now }
+    /// Counts these nodes before this bit; all but those at the places of the span rest.
+    pub(crate) fn of(members: &[Member], span: Span, bit: u64) -> Awake
+        requires { AwakeWithin span members.now }
+        ensures { AwakeWithin result.span members.now }
     {
         let mut awake = Awake {
-            resting: 0,
+            nodes: members.len(),
+            awake: 0,
             listening: 0,
-            any: false,
-            several: false,
-            place: members.len(),
+            span: Span {
+                from: members.len(),
+                to: members.len(),
+            },
         };
-        for place in 0..members.len() {
-            awake.count(&members[place], place, bit);
+        for place in span.from..span.to {
+            awake.count(&members[place], place, place + 1, bit);
         }
         awake
     }
 
-    /// Counts one node more.
-    fn count(&mut self, member: &Member, place: usize, bit: u64)
-        ensures rests { member.now.rests ≡ true
-            → (self.new.any ≡ self.old.any) × (self.new.several ≡ self.old.several) × (self.new.place ≡ self.old.place) }
-        ensures awake { member.now.rests ≡ false
-            → (self.new.any ≡ true) × (self.new.several ≡ (self.old.several || self.old.any)) × (self.new.place ≡ place) }
+    /// Counts the node at this place, which that one follows.
+    fn count(&mut self, member: &Member, place: usize, next: usize, bit: u64)
+        ensures rests { member.now.rests ≡ true → self.new.span ≡ self.old.span }
+        ensures before { self.new.span.from ≤ self.old.span.from }
+        ensures awake { member.now.rests ≡ false → self.new.span.from ≤ place × (self.new.span.to ≡ next) }
     {
         if member.rests {
-            self.resting = self.resting.saturating_add(1);
             return;
         }
+        self.awake = self.awake.saturating_add(1);
         if member.listens_at(bit) {
             self.listening = self.listening.saturating_add(1);
         }
-        self.several = self.several || self.any;
-        self.any = true;
-        self.place = place;
-    }
-
-    /// Whether of each of both at most one is awake.
-    pub(crate) fn are_few(&self, other: &Awake) -> bool
-        ensures this { result ≡ true → self.now.several ≡ false }
-        ensures other { result ≡ true → other.now.several ≡ false }
-    {
-        if self.several {
-            return false;
-        }
-        !other.several
+        self.span.from = self.span.from.min(place);
+        self.span.to = next;
     }
 
     /// Whether more of both listen that are awake than rest.
     pub(crate) fn outnumber(&self, other: &Awake) -> bool {
-        let resting = self.resting.saturating_add(other.resting);
+        let awake = self.awake.saturating_add(other.awake);
+        let resting = self.nodes.saturating_add(other.nodes).saturating_sub(awake);
         resting < self.listening.saturating_add(other.listening)
     }
 }

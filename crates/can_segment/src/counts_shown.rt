@@ -1,28 +1,39 @@
 //! The counters of a segment's nodes, in its record.
 
 ghost use Rattle.std.specs.Prelude.{◌≡◌, ◌+◌, ◌<◌, ◌≤◌, ℕ, length, slice_get};
+ghost use Rattle.can_segment.specs.Rests.{AwakeWithin};
 ghost use Rattle.can_segment.specs.Segments.{AreFrom, AreFromResting};
 
 use crate::member::Member;
+use crate::rest::Rest;
+use crate::span::Span;
 use can_node::Counters;
 
 /// The counters of those of these nodes that are awake take the places from this one on; those of the others are shown
 /// already.
-fn show(counters: &mut Vec<Counters>, first: usize, members: &[Member])
+fn show(counters: &mut Vec<Counters>, first: usize, members: &[Member], awake: Span)
     requires room { first + length members.now ≤ length counters.old.items }
+    requires awake { AwakeWithin awake members.now }
     requires resting { AreFromResting first members.now counters.old.items }
     ensures shown { AreFrom first members.now counters.new.items }
     ensures before { (k : ℕ) → k < first → slice_get counters.new.items k ≡ slice_get counters.old.items k }
     ensures behind { (k : ℕ) → first + length members.now ≤ k → slice_get counters.new.items k ≡ slice_get counters.old.items k }
     ensures size { length counters.new.items ≡ length counters.old.items }
 {
-    for place in 0..members.len() {
+    for place in awake.from..awake.to {
         members[place].show(&mut counters[first + place]);
     }
 }
 
 /// The counters of all nodes.
-pub(crate) fn show_all(counters: &mut Vec<Counters>, talkers: &[Member], controllers: &[Member])
+pub(crate) fn show_all(
+    counters: &mut Vec<Counters>,
+    talkers: &[Member],
+    controllers: &[Member],
+    rest: &Rest,
+)
+    requires awake_talkers { AwakeWithin rest.now.talkers talkers.now }
+    requires awake_controllers { AwakeWithin rest.now.controllers controllers.now }
     requires size { length counters.old.items ≡ length talkers.now + length controllers.now }
     requires talkers { AreFromResting 0 talkers.now counters.old.items }
     requires controllers { AreFromResting (length talkers.now) controllers.now counters.old.items }
@@ -30,6 +41,6 @@ pub(crate) fn show_all(counters: &mut Vec<Counters>, talkers: &[Member], control
     ensures controllers { AreFrom (length talkers.now) controllers.now counters.new.items }
     ensures size { length counters.new.items ≡ length talkers.now + length controllers.now }
 {
-    show(counters, 0, talkers);
-    show(counters, talkers.len(), controllers);
+    show(counters, 0, talkers, rest.talkers);
+    show(counters, talkers.len(), controllers, rest.controllers);
 }

@@ -19,6 +19,7 @@ mod rx_sink;
 mod seg_fault;
 mod segment;
 mod sole_sender;
+mod span;
 mod station;
 mod tell;
 mod transmission;

@@ -5,7 +5,7 @@ ghost use Rattle.std.specs.List.{list_all};
 ghost use Rattle.can_segment.specs.Faults.{sampled_level};
 ghost use Rattle.can_segment.specs.Ports.{item_of};
 ghost use Rattle.can_segment.specs.Places.{AtPlaces, AtBoth};
-ghost use Rattle.can_segment.specs.Rests.{AwakeAreQuiet, HasRoom, IfAwake, IfAwakeBoth};
+ghost use Rattle.can_segment.specs.Rests.{AwakeAreQuiet, AwakeWithin, HasRoom, IfAwake, IfAwakeBoth};
 ghost use Rattle.can_segment.specs.Members.{
   TalkerStarts,
   NodeSamples,
@@ -21,13 +21,15 @@ use crate::faults::sampled_level;
 use crate::member::Member;
 use crate::plan::{NodeFault, Talker};
 use crate::rx_sink::RxSink;
+use crate::span::Span;
 
 /// The talkers that are awake take their next messages.
-pub(crate) fn start_talkers(members: &mut [Member], talkers: &[Talker], bit: u64)
-    requires { length talkers.now ≡ length members.old }
+pub(crate) fn start_talkers(members: &mut [Member], talkers: &[Talker], bit: u64, awake: Span)
+    requires talkers { length talkers.now ≡ length members.old }
+    requires awake { AwakeWithin awake members.old }
     ensures { AtPlaces (λ k. IfAwake (TalkerStarts bit talkers.now k)) members.old members.new }
 {
-    for place in 0..members.len() {
+    for place in awake.from..awake.to {
         members[place].start_talking(bit, talkers[place].frames.as_slice());
     }
 }
@@ -38,25 +40,37 @@ pub(crate) fn start_controllers<R, P: RxSink<R>>(
     members: &mut [Member],
     ports: &mut [P],
     bit: u64,
+    awake: Span,
 )
     requires size { length ports.old ≡ length members.old }
+    requires awake { AwakeWithin awake members.old }
     requires port { (k : ℕ) (m : Member) (p : P) → slice_get members.old k ≡ Some m
         → slice_get ports.old k ≡ Some p → P.transmitting p ≡ item_of m.station.sending }
     ensures { AtBoth (λ k. IfAwakeBoth (PortStarts P.bus_after P.bus_asked P.transmitting P.bus_stays bit))
         members.old members.new ports.old ports.new }
 {
-    for place in 0..members.len() {
+    for place in awake.from..awake.to {
         members[place].start_request(rt, bit, &mut ports[place]);
     }
 }
 
-/// The AND of what the nodes drive, where each that rests drives this level.
-fn anded(members: &[Member], bit: u64, resting: bool) -> bool
+/// Whether each of these nodes drives recessive, where each that rests drives this level.
+fn all_recessive(members: &[Member], bit: u64, resting: bool, awake: Span) -> bool
+    requires { AwakeWithin awake members.now }
     ensures { result ≡ list_all (λ m. if m.rests then resting else drives_at bit m) members.now }
 {
-    members
-        .iter()
-        .all(|member| member.drives_beside(bit, resting))
+    if !resting {
+        return members
+            .iter()
+            .all(|member| member.drives_beside(bit, resting));
+    }
+    // those elsewhere rest
+    for place in awake.from..awake.to {
+        if !members[place].drives_beside(bit, resting) {
+            return false;
+        }
+    }
+    true
 }
 
 /// The AND of what talkers and controllers drive.
@@ -65,12 +79,16 @@ pub(crate) fn driven_by_all(
     controllers: &[Member],
     bit: u64,
     resting: bool,
+    awake_talkers: Span,
+    awake_controllers: Span,
 ) -> bool
+    requires talkers { AwakeWithin awake_talkers talkers.now }
+    requires controllers { AwakeWithin awake_controllers controllers.now }
     ensures { result ≡ (list_all (λ m. if m.rests then resting else drives_at bit m) talkers.now
         && list_all (λ m. if m.rests then resting else drives_at bit m) controllers.now) }
 {
-    if anded(talkers, bit, resting) {
-        return anded(controllers, bit, resting);
+    if all_recessive(talkers, bit, resting, awake_talkers) {
+        return all_recessive(controllers, bit, resting, awake_controllers);
     }
     false
 }
@@ -85,14 +103,16 @@ pub(crate) fn sample_nodes(
     first: u32,
     bit: u64,
     level: bool,
+    awake: Span,
 ) -> bool
     requires room { HasRoom u64.MAX bit members.old }
     requires few { first + length members.old ≤ 1000 }
+    requires awake { AwakeWithin awake members.old }
     ensures samples { AtPlaces (λ k. IfAwake (NodeSamples first bit level faults.now k)) members.old members.new }
     ensures quiet { result ≡ false → AwakeAreQuiet bit members.new }
 {
     let mut told = false;
-    for place in 0..members.len() {
+    for place in awake.from..awake.to {
         let own = sampled_level(faults, first + place as u32, bit, level);
         told |= members[place].sample(bit, own);
     }
@@ -100,14 +120,21 @@ pub(crate) fn sample_nodes(
 }
 
 /// The ports of controllers, which have sampled the line, learn what became of it.
-fn settle_ports<R, P: RxSink<R>>(rt: &R, members: &mut [Member], ports: &mut [P], bit: u64)
+fn settle_ports<R, P: RxSink<R>>(
+    rt: &R,
+    members: &mut [Member],
+    ports: &mut [P],
+    bit: u64,
+    awake: Span,
+)
     requires size { length ports.old ≡ length members.old }
+    requires awake { AwakeWithin awake members.old }
     requires unsettled { (k : ℕ) (m : Member) (p : P) → slice_get members.old k ≡ Some m
         → slice_get ports.old k ≡ Some p → m.rests ≡ false → IsUnsettled (P.transmitting p) bit m }
     ensures { AtBoth (λ k. IfAwakeBoth (PortSettled P.bus_after P.bus_asked P.transmitting P.sink_after P.port_stays bit))
         members.old members.new ports.old ports.new }
 {
-    for place in 0..members.len() {
+    for place in awake.from..awake.to {
         members[place].settle(rt, bit, &mut ports[place]);
     }
 }
@@ -122,8 +149,10 @@ pub(crate) fn sample_controllers<R, P: RxSink<R>>(
     first: u32,
     bit: u64,
     level: bool,
+    awake: Span,
 ) -> bool
     requires size { length ports.old ≡ length members.old }
+    requires awake { AwakeWithin awake members.old }
     requires room { HasRoom u64.MAX bit members.old }
     requires few { first + length members.old ≤ 1000 }
     requires port { (k : ℕ) (m : Member) (p : P) → slice_get members.old k ≡ Some m
@@ -132,7 +161,7 @@ pub(crate) fn sample_controllers<R, P: RxSink<R>>(
         bit (sampled_level faults.now (first + k) bit level))) members.old members.new ports.old ports.new }
     ensures quiet { result ≡ false → AwakeAreQuiet bit members.new }
 {
-    let told = sample_nodes(members, faults, first, bit, level);
-    settle_ports(rt, members, ports, bit);
+    let told = sample_nodes(members, faults, first, bit, level, awake);
+    settle_ports(rt, members, ports, bit, awake);
     told
 }

@@ -9,6 +9,8 @@ ghost use Rattle.can_segment.specs.Rests.{
   Drives,
   GoesThrough,
   IsLess,
+  IsSame,
+  IsWhole,
   LeavesResting,
   Lulls,
   MayLieDown,
@@ -25,6 +27,7 @@ use crate::awake::Awake;
 use crate::leader::listener_of_most;
 use crate::member::Member;
 use crate::plan::{NodeFault, Talker};
+use crate::span::Span;
 use crate::wake::{wake_all, wake_disturbed, wake_unspent};
 use can_node::{KnownCounts, Listener, Node};
 
@@ -39,26 +42,29 @@ pub(crate) struct Rest {
     pub(crate) known: KnownCounts,
     // no controller rests, and no talker that rests has a frame left
     pub(crate) spent: bool,
-    // all rest but the talker and the controller at these places; behind the last where all do
+    // all talkers rest but some of those at these places, and so do all controllers
+    pub(crate) talkers: Span,
+    pub(crate) controllers: Span,
+    // each of these has one place at most; where all rest it stands behind the last
     pub(crate) few: bool,
-    pub(crate) talker: usize,
-    pub(crate) controller: usize,
 }
 
 impl Rest {
-    /// No node rests.
-    pub(crate) fn none() -> Rest
+    /// None of so many nodes rests.
+    pub(crate) fn none(talkers: usize, controllers: usize) -> Rest
         ensures resting { result.resting ≡ false }
         ensures few { result.few ≡ false }
+        ensures talkers { IsWhole talkers result.talkers }
+        ensures controllers { IsWhole controllers result.controllers }
     {
         Rest {
             listener: Node::new(0).listener(),
             resting: false,
             known: KnownCounts::Any,
             spent: false,
+            talkers: Span::whole(talkers),
+            controllers: Span::whole(controllers),
             few: false,
-            talker: 0,
-            controller: 0,
         }
     }
 
@@ -77,6 +83,18 @@ impl Rest {
             return true;
         }
         !self.listener.wants_start()
+    }
+
+    /// Nodes at any place may be awake.
+    fn look_everywhere(&mut self, talkers: &[Member], controllers: &[Member])
+        ensures same { IsSame self.old self.new }
+        ensures few { self.new.few ≡ false }
+        ensures talkers { IsWhole (length talkers.now) self.new.talkers }
+        ensures controllers { IsWhole (length controllers.now) self.new.controllers }
+    {
+        self.few = false;
+        self.talkers = Span::whole(talkers.len());
+        self.controllers = Span::whole(controllers.len());
     }
 
     /// Those that rest wake before this bit if they may have something to start at it.
@@ -101,7 +119,7 @@ impl Rest {
         wake_unspent(talkers, plan, &self.listener, bit);
         wake_all(controllers, &self.listener, bit);
         self.spent = true;
-        self.few = false;
+        self.look_everywhere(talkers, controllers);
     }
 
     /// Those that rest wake before this bit if they have a fault of their own at it.
@@ -128,7 +146,7 @@ impl Rest {
         let first = talkers.len() as u32;
         wake_disturbed(talkers, faults, 0, &self.listener, bit);
         wake_disturbed(controllers, faults, first, &self.listener, bit);
-        self.few = false;
+        self.look_everywhere(talkers, controllers);
     }
 
     /// All nodes that rest wake before this bit.
@@ -153,7 +171,7 @@ impl Rest {
         wake_all(talkers, &self.listener, bit);
         wake_all(controllers, &self.listener, bit);
         self.resting = false;
-        self.few = false;
+        self.look_everywhere(talkers, controllers);
     }
 
     /// Whether nodes rest, and the listener has followed for them through a bit at which they sample this level.
@@ -222,15 +240,10 @@ impl Rest {
         let Some(listener) = listener_of_most(talkers, controllers, bit) else {
             return;
         };
-        *self = Rest {
-            listener,
-            resting: true,
-            known: KnownCounts::Zero,
-            spent: true,
-            few: false,
-            talker: 0,
-            controller: 0,
-        };
+        self.listener = listener;
+        self.resting = true;
+        self.known = KnownCounts::Zero;
+        self.spent = true;
     }
 
     /// The node comes to rest before this bit if it may. Whether it has nothing to start is told.
@@ -246,13 +259,13 @@ impl Rest {
         }
         self.known = self.known.and(member.known_counts());
         self.spent &= spent;
-        self.few = false;
         member.lie_down();
     }
 
     /// Talkers come to rest before this bit.
     fn lull_talkers(&mut self, plan: &[Talker], members: &mut [Member], bit: u64)
         requires plan { length plan.now ≡ length members.old }
+        requires within { self.old.talkers.to ≤ length members.old }
         requires rests { AreResting self.old bit members.old }
         requires spent { AreSpent self.old plan.now members.old }
         ensures less { IsLess self.old self.new }
@@ -260,7 +273,7 @@ impl Rest {
         ensures rests { AreResting self.new bit members.new }
         ensures spent { AreSpent self.new plan.now members.new }
     {
-        for place in 0..members.len() {
+        for place in self.talkers.from..self.talkers.to {
             let spent = members[place].is_spent(plan[place].frames.as_slice());
             self.lull(&mut members[place], spent, bit);
         }
@@ -268,6 +281,7 @@ impl Rest {
 
     /// So do controllers.
     fn lull_controllers(&mut self, members: &mut [Member], bit: u64)
+        requires within { self.old.controllers.to ≤ length members.old }
         requires rests { AreResting self.old bit members.old }
         requires spent { self.old.spent ≡ true → NoneRests members.old }
         ensures less { IsLess self.old self.new }
@@ -275,13 +289,13 @@ impl Rest {
         ensures rests { AreResting self.new bit members.new }
         ensures spent { self.new.spent ≡ true → NoneRests members.new }
     {
-        for place in 0..members.len() {
+        for place in self.controllers.from..self.controllers.to {
             self.lull(&mut members[place], false, bit);
         }
     }
 
-    /// Keeps which nodes are awake, where few are. Where more listen that are awake than rest, all wake, so that another
-    /// listener is chosen.
+    /// Keeps where nodes are awake. Where more listen that are awake than rest, all wake, so that another listener is
+    /// chosen.
     fn settle(
         &mut self,
         plan: &[Talker],
@@ -294,15 +308,15 @@ impl Rest {
         ensures controllers { members_at self.new bit controllers.new ≡ members_at self.old bit controllers.old }
         ensures holds { RestHolds self.new bit plan.now talkers.new controllers.new }
     {
-        let awake_talkers = Awake::of(talkers, bit);
-        let awake_controllers = Awake::of(controllers, bit);
+        let awake_talkers = Awake::of(talkers, self.talkers, bit);
+        let awake_controllers = Awake::of(controllers, self.controllers, bit);
         if awake_talkers.outnumber(&awake_controllers) {
             self.wake(plan, talkers, controllers, bit);
             return;
         }
-        self.talker = awake_talkers.place;
-        self.controller = awake_controllers.place;
-        self.few = awake_talkers.are_few(&awake_controllers);
+        self.talkers = awake_talkers.span;
+        self.controllers = awake_controllers.span;
+        self.few = are_few(self.talkers, self.controllers);
     }
 }
 
@@ -312,4 +326,15 @@ fn asks_at_each_bit(controllers: &[Member]) -> bool {
         Some(member) => member.station.node.wants_start(),
         None => false,
     }
+}
+
+/// Whether each of these has one place at most.
+fn are_few(talkers: Span, controllers: Span) -> bool
+    ensures talkers { result ≡ true → talkers.to ≤ talkers.from + 1 }
+    ensures controllers { result ≡ true → controllers.to ≤ controllers.from + 1 }
+{
+    if !talkers.is_one_at_most() {
+        return false;
+    }
+    controllers.is_one_at_most()
 }

@@ -64,14 +64,14 @@ fn level_at_rest(
     if !rest.few {
         return None;
     }
-    if rest.controller < controllers.len() {
-        if rest.talker < talkers.len() {
+    if rest.controllers.from < controllers.len() {
+        if rest.talkers.from < talkers.len() {
             return None;
         }
-        return one_sends(controllers, rest.controller, &mut rest.listener, bit);
+        return one_sends(controllers, rest.controllers.from, &mut rest.listener, bit);
     }
-    if rest.talker < talkers.len() {
-        return one_sends(talkers, rest.talker, &mut rest.listener, bit);
+    if rest.talkers.from < talkers.len() {
+        return one_sends(talkers, rest.talkers.from, &mut rest.listener, bit);
     }
     none_sends(rest, bit)
 }

@@ -6,6 +6,7 @@ use Rattle.can_segment.specs.Places.{AtBoth, AtPlaces}
 use Rattle.can_segment.specs.Rests.{HasRoom, TransmitsAll, Undisturbed, members_at}
 use Rattle.can_segment.proofs.Holds.{left_holds, left_rests}
 use Rattle.can_segment.proofs.Rests.{all_quiet, controllers_sample, members_length, members_sample, room_real, transmits_real}
+use Rattle.can_segment.proofs.Spans.{within_both, within_places}
 use Rattle.can_segment.proofs.Woken.{left_both, left_on, left_places, others_both, others_places}
 use Rattle.can_segment.proofs.all_nodes.sample_all.Goals as goal
 
@@ -61,7 +62,9 @@ returns-clause-rests g c =
     left_holds c.go_through.new.self (c.args.bit + 1) c.args.plan.now t c.sample_nodes-talkers_told.new.members cs c.sample_controllers-controllers_told.new.members (left_places _ t c.sample_nodes-talkers_told.new.members samples)
     (left_both _ cs c.sample_controllers-controllers_told.new.members c.args.ports.now c.sample_controllers-controllers_told.new.ports size settles)
     (λ place. others_places _ place t c.sample_nodes-talkers_told.new.members samples)
-    (λ place. others_both _ place cs c.sample_controllers-controllers_told.new.members c.args.ports.now c.sample_controllers-controllers_told.new.ports size settles) c.go_through.ensures.holds
+    (λ place. others_both _ place cs c.sample_controllers-controllers_told.new.members c.args.ports.now c.sample_controllers-controllers_told.new.ports size settles)
+    (λ span. within_places _ span t c.sample_nodes-talkers_told.new.members samples) (λ span. within_both _ span cs c.sample_controllers-controllers_told.new.members c.args.ports.now c.sample_controllers-controllers_told.new.ports size settles)
+    c.go_through.ensures.holds
 
 pub returns-clause-quiet : goal.returns-clause-quiet
 returns-clause-quiet g c none =

@@ -5,12 +5,22 @@ use Rattle.can_segment.specs.Places.{AtBoth, AtPlaces}
 use Rattle.can_segment.specs.Rests.{TransmitsAll, members_at}
 use Rattle.can_segment.proofs.Holds.{left_holds, left_rests}
 use Rattle.can_segment.proofs.Rests.{all_drive, controllers_start, members_length, talkers_start, transmits_real}
+use Rattle.can_segment.proofs.Spans.{within_both, within_places}
 use Rattle.can_segment.proofs.Woken.{left_both, left_on, left_places, others_both, others_places}
 use Rattle.can_segment.proofs.all_nodes.start_all.Goals as goal
 
 pub start_controllers-requires-clause-port : goal.start_controllers-requires-clause-port
 start_controllers-requires-clause-port g c =
     transmits_real g.P.TxBus.transmitting c.rouse.new.self c.args.bit c.rouse.new.controllers c.args.ports.now (subst (λ ms. TransmitsAll g.P.TxBus.transmitting ms c.args.ports.now) (sym c.rouse.ensures.controllers) c.requires.port)
+
+pub driven_by_all-requires-clause-talkers : goal.driven_by_all-requires-clause-talkers
+driven_by_all-requires-clause-talkers g c = within_places _ c.rouse.new.self.talkers c.rouse.new.talkers c.start_talkers.new.members c.start_talkers.ensures c.rouse.ensures.holds.talkers_within
+
+pub driven_by_all-requires-clause-controllers : goal.driven_by_all-requires-clause-controllers
+driven_by_all-requires-clause-controllers g c =
+    let size : length c.args.ports.now ≡ length c.rouse.new.controllers =
+    c.requires.ports ∙ sym (members_length c.args.rest.now c.args.bit c.args.controllers.now) ∙ ap length (sym c.rouse.ensures.controllers) ∙ members_length c.rouse.new.self c.args.bit c.rouse.new.controllers in
+    within_both _ c.rouse.new.self.controllers c.rouse.new.controllers c.start_controllers.new.members c.args.ports.now c.start_controllers.new.ports size c.start_controllers.ensures c.rouse.ensures.holds.controllers_within
 
 pub returns-clause-talkers : goal.returns-clause-talkers
 returns-clause-talkers g c =
@@ -55,7 +65,8 @@ returns-clause-rests g c =
     c.requires.ports ∙ sym (members_length c.args.rest.now bit c.args.controllers.now) ∙ ap length (sym roused.controllers) ∙ members_length rest bit c.rouse.new.controllers in
     left_holds rest bit c.args.plan.now c.rouse.new.talkers t c.rouse.new.controllers after (left_places _ c.rouse.new.talkers t c.start_talkers.ensures)
     (left_both _ c.rouse.new.controllers after c.args.ports.now c.start_controllers.new.ports size c.start_controllers.ensures)
-    (λ place. others_places _ place c.rouse.new.talkers t c.start_talkers.ensures) (λ place. others_both _ place c.rouse.new.controllers after c.args.ports.now c.start_controllers.new.ports size c.start_controllers.ensures) roused.holds
+    (λ place. others_places _ place c.rouse.new.talkers t c.start_talkers.ensures) (λ place. others_both _ place c.rouse.new.controllers after c.args.ports.now c.start_controllers.new.ports size c.start_controllers.ensures)
+    (λ span. within_places _ span c.rouse.new.talkers t c.start_talkers.ensures) (λ span. within_both _ span c.rouse.new.controllers after c.args.ports.now c.start_controllers.new.ports size c.start_controllers.ensures) roused.holds
 
 pub returns-clause-left : goal.returns-clause-left
 returns-clause-left g c =

@@ -2,8 +2,12 @@ use Rattle.std.proofs.Common.{◌+◌, arith}
 use Rattle.std.proofs.lemmas.Option.{slice_get_within}
 use Rattle.can_segment.specs.Faults.{sampled_level}
 use Rattle.can_segment.proofs.NextBits.{some_there}
+use Rattle.can_segment.proofs.Spans.{within_places}
 use Rattle.can_segment.proofs.Settles.{quiet_both, settles_both, unsettled_awake}
 use Rattle.can_segment.proofs.members.sample_controllers.Goals as goal
+
+pub settle_ports-requires-clause-awake : goal.settle_ports-requires-clause-awake
+settle_ports-requires-clause-awake g c = within_places _ c.args.awake c.args.members.now c.sample_nodes-told.new.members c.sample_nodes-told.ensures.samples c.requires.awake
 
 pub settle_ports-requires-clause-unsettled : goal.settle_ports-requires-clause-unsettled
 settle_ports-requires-clause-unsettled g c k m p e f awake =

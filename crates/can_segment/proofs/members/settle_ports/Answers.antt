@@ -1,9 +1,13 @@
 use Rattle.std.proofs.Common.{arith, ◌∙◌}
 use Rattle.std.proofs.lemmas.Option.{slice_get-get_or}
-use Rattle.can_segment.proofs.Places.{both_step, both_end}
+use Rattle.can_segment.proofs.Places.{both_step}
+use Rattle.can_segment.proofs.Spans.{both_from, both_to}
 use Rattle.can_segment.specs.Members.{PortSettled}
 use Rattle.can_segment.specs.Rests.{IfAwakeBoth}
 use Rattle.can_segment.proofs.members.settle_ports.Goals as goal
+
+pub loop-place-init : goal.loop-place-init
+loop-place-init g c = both_from (λ k. PortSettled g.P.TxBus.bus_after g.P.TxBus.bus_asked g.P.TxBus.transmitting g.P.RxSink.sink_after g.P.RxSink.port_stays c.args.bit) c.args.members.now c.args.ports.now c.args.awake c.requires.awake
 
 pub loop-place-preserved : goal.loop-place-preserved
 loop-place-preserved g c =
@@ -13,9 +17,9 @@ loop-place-preserved g c =
     let settle = c.settle.ensures in
     both_step (λ k. IfAwakeBoth (PortSettled g.P.TxBus.bus_after g.P.TxBus.bus_asked g.P.TxBus.transmitting g.P.RxSink.sink_after g.P.RxSink.port_stays c.args.bit)) c.args.members.now members c.args.ports.now ports place
     _ c.settle.new.self _ c.settle.new.port
-    (omega (arith, c.loop-place-test.true, c.loop-place.invariant.size)) c.requires.size
-    (slice_get-get_or members place c.index-members-place.result (omega (arith, c.loop-place-test.true)))
-    (slice_get-get_or ports place c.index-ports-place.result (omega (arith, c.loop-place-test.true, c.loop-place.invariant.size, c.loop-place.invariant.size_too, c.requires.size)))
+    (omega (arith, c.loop-place-test.true, c.requires.awake.within)) c.requires.size
+    (slice_get-get_or members place c.index-members-place.result (omega (arith, c.loop-place-test.true, c.requires.awake.within, c.loop-place.invariant.size)))
+    (slice_get-get_or ports place c.index-ports-place.result (omega (arith, c.loop-place-test.true, c.requires.awake.within, c.loop-place.invariant.size_too, c.requires.size)))
     (record {
       rests_on = settle.rests;
       stays_awake = λ e. settle.awake ∙ e;
@@ -23,5 +27,6 @@ loop-place-preserved g c =
     }) c.loop-place.invariant
 
 pub returns : goal.returns
-returns g c = both_end (λ k. IfAwakeBoth (PortSettled g.P.TxBus.bus_after g.P.TxBus.bus_asked g.P.TxBus.transmitting g.P.RxSink.sink_after g.P.RxSink.port_stays c.args.bit)) c.args.members.now c.loop-place.members c.args.ports.now c.loop-place.ports c.loop-place.place
-    (omega (arith, c.loop-place-test.false, c.loop-place.invariant.size)) c.loop-place.invariant
+returns g c =
+    both_to (λ k. PortSettled g.P.TxBus.bus_after g.P.TxBus.bus_asked g.P.TxBus.transmitting g.P.RxSink.sink_after g.P.RxSink.port_stays c.args.bit) c.args.members.now c.loop-place.members c.args.ports.now c.loop-place.ports c.args.awake c.loop-place.place
+    (omega (arith, c.loop-place-test.false)) c.requires.awake c.loop-place.invariant

@@ -1,6 +1,6 @@
-use Rattle.std.proofs.Common.{refl, subst, sym, ap, ◌∙◌}
-use Rattle.can_segment.specs.Rests.{AreAlike, members_at}
-use Rattle.can_segment.proofs.ComesToRest.{alike_at_rest, alike_self, chosen_awake, chosen_rests, chosen_same, chosen_spent, less_rests}
+use Rattle.std.proofs.Common.{◌≤◌, length, refl, subst, sym, ap, ◌∙◌}
+use Rattle.can_segment.specs.Rests.{AreAlike, AwakeWithin, members_at}
+use Rattle.can_segment.proofs.ComesToRest.{alike_at_rest, alike_self, chosen_awake, chosen_rests, chosen_same, chosen_spent, lain_within, less_rests}
 use Rattle.can_segment.proofs.rest.Rest.come_to_rest.Goals as goal
 
 pub returns-then-asks_at_each_bit-clause-talkers : goal.returns-then-asks_at_each_bit-clause-talkers
@@ -8,6 +8,13 @@ returns-then-asks_at_each_bit-clause-talkers c = alike_self _ _ refl
 
 pub returns-then-asks_at_each_bit-clause-controllers : goal.returns-then-asks_at_each_bit-clause-controllers
 returns-then-asks_at_each_bit-clause-controllers c = alike_self _ _ refl
+
+pub lull_talkers-requires-clause-within : goal.lull_talkers-requires-clause-within
+lull_talkers-requires-clause-within c = subst (λ span. span.to ≤ length c.args.talkers.now) (sym c.choose.ensures.talkers_is) c.requires.holds.talkers_within.within
+
+pub lull_controllers-requires-clause-within : goal.lull_controllers-requires-clause-within
+lull_controllers-requires-clause-within c =
+    subst (λ span. span.to ≤ length c.args.controllers.now) (sym (c.lull_talkers.ensures.less.controllers_is ∙ c.choose.ensures.controllers_is)) c.requires.holds.controllers_within.within
 
 pub lull_talkers-requires-clause-rests : goal.lull_talkers-requires-clause-rests
 lull_talkers-requires-clause-rests c = chosen_rests c.args.self.now c.choose.new.self c.args.bit c.args.talkers.now c.choose.ensures c.requires.holds.talkers_rest
@@ -26,14 +33,19 @@ lull_controllers-requires-clause-spent c is =
 
 pub settle-requires : goal.settle-requires
 settle-requires c =
-    let many = c.lull_controllers.ensures.less.many (c.lull_talkers.ensures.less.many c.choose.ensures.many) in
+    let few_is = c.lull_controllers.ensures.less.few_is ∙ c.lull_talkers.ensures.less.few_is ∙ c.choose.ensures.many in
+    let talkers_is = c.lull_controllers.ensures.less.talkers_is ∙ c.lull_talkers.ensures.less.talkers_is ∙ c.choose.ensures.talkers_is in
+    let controllers_is = c.lull_controllers.ensures.less.controllers_is ∙ c.lull_talkers.ensures.less.controllers_is ∙ c.choose.ensures.controllers_is in
     record { holds = record {
       talkers_rest = less_rests c.lull_talkers.new.self c.lull_controllers.new.self c.args.bit c.lull_talkers.new.members c.lull_controllers.ensures.less c.lull_talkers.ensures.rests;
       controllers_rest = c.lull_controllers.ensures.rests;
       talkers_spent = λ s. c.lull_talkers.ensures.spent (c.lull_controllers.ensures.less.spends s);
       controllers_awake = c.lull_controllers.ensures.spent;
-      other_talkers = λ few. absurd (cc (few, many));
-      other_controllers = λ few. absurd (cc (few, many));
+      talkers_within = subst (λ span. AwakeWithin span c.lull_talkers.new.members) (sym talkers_is) (lain_within c.choose.new.self.listener c.args.bit c.args.talkers.now c.lull_talkers.new.members c.args.self.now.talkers c.lull_talkers.ensures.lie c.requires.holds.talkers_within);
+      controllers_within = subst (λ span. AwakeWithin span c.lull_controllers.new.members) (sym controllers_is)
+          (lain_within c.lull_talkers.new.self.listener c.args.bit c.args.controllers.now c.lull_controllers.new.members c.args.self.now.controllers c.lull_controllers.ensures.lie c.requires.holds.controllers_within);
+      other_talkers = λ few. absurd (cc (few, few_is));
+      other_controllers = λ few. absurd (cc (few, few_is));
     } }
 
 pub returns-clause-talkers : goal.returns-clause-talkers
@@ -47,6 +59,6 @@ pub returns-clause-controllers : goal.returns-clause-controllers
 returns-clause-controllers c =
     let mid = c.lull_talkers.new.self in
     let lain = alike_at_rest mid.listener c.lull_controllers.new.self.listener c.args.bit c.args.controllers.now c.lull_controllers.new.members c.lull_controllers.ensures.less.listener_is c.lull_controllers.ensures.lie in
-    let same = ap (λ listener. members_at (record { listener = listener; resting = mid.resting; known = mid.known; spent = mid.spent; few = mid.few; talker = mid.talker; controller = mid.controller }) c.args.bit c.args.controllers.now) c.lull_talkers.ensures.less.listener_is
+    let same = ap (λ listener. members_at (record { listener = listener; resting = mid.resting; known = mid.known; spent = mid.spent; talkers = mid.talkers; controllers = mid.controllers; few = mid.few }) c.args.bit c.args.controllers.now) c.lull_talkers.ensures.less.listener_is
     ∙ chosen_same c.args.self.now c.choose.new.self c.args.bit c.args.controllers.now c.choose.ensures c.requires.holds.controllers_rest in
     subst (λ ms. AreAlike ms (members_at c.settle.new.self c.args.bit c.settle.new.controllers)) same (subst (AreAlike (members_at mid c.args.bit c.args.controllers.now)) (sym c.settle.ensures.controllers) lain)

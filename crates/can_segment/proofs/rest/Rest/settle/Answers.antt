@@ -1,3 +1,4 @@
+use Rattle.can_segment.proofs.Spans.{others_within}
 use Rattle.can_segment.proofs.rest.Rest.settle.Goals as goal
 
 pub returns-then-outnumber-clause-holds : goal.returns-then-outnumber-clause-holds
@@ -11,6 +12,8 @@ returns-clause-holds c =
       controllers_rest = λ k m e is. let h = held.controllers_rest k m e is in record { some_rest = h.some_rest; is_on = h.is_on; quiet = h.quiet; known = h.known; listening = h.listening };
       talkers_spent = held.talkers_spent;
       controllers_awake = held.controllers_awake;
-      other_talkers = λ few. c.of-awake_talkers.ensures (c.are_few-self.ensures.this few);
-      other_controllers = λ few. c.of-awake_controllers.ensures (c.are_few-self.ensures.other few);
+      talkers_within = c.of-awake_talkers.ensures;
+      controllers_within = c.of-awake_controllers.ensures;
+      other_talkers = λ few. others_within c.of-awake_talkers.result.span c.args.talkers.now (c.are_few-self.ensures.talkers few) c.of-awake_talkers.ensures;
+      other_controllers = λ few. others_within c.of-awake_controllers.result.span c.args.controllers.now (c.are_few-self.ensures.controllers few) c.of-awake_controllers.ensures;
     }

@@ -1,5 +1,7 @@
-use Rattle.std.proofs.Common.{rules, ◌≡◌, inr, refl, false}
+use Rattle.std.proofs.Common.{rules, ◌≡◌, map, inr, refl, ap, false, ◌∙◌}
 use Rattle.can_segment.proofs.Holds.{none_rests, none_rests_on, not_resting}
+use Rattle.can_segment.specs.Rests.{woken}
+use Rattle.can_segment.proofs.Spans.{whole_within}
 use Rattle.can_segment.proofs.Woken.{all_woken, wakes_same}
 use Rattle.can_segment.proofs.rest.Rest.wake.Goals as goal
 
@@ -15,10 +17,14 @@ returns-then-not-self-clause-holds c next =
     (not_resting c.args.self.now c.args.bit c.args.controllers.now (search rules) c.requires.holds.controllers_rest) c.requires.holds
 
 pub returns-clause-talkers : goal.returns-clause-talkers
-returns-clause-talkers c = wakes_same _ c.args.self.now.listener c.args.bit c.args.talkers.now c.wake_all.new.members (λ k a b h. inr h) c.wake_all.ensures
+returns-clause-talkers c =
+    ap (λ listener. map (woken listener c.args.bit) c.wake_all.new.members) c.look_everywhere.ensures.same.listener_is
+    ∙ wakes_same _ c.args.self.now.listener c.args.bit c.args.talkers.now c.wake_all.new.members (λ k a b h. inr h) c.wake_all.ensures
 
 pub returns-clause-controllers : goal.returns-clause-controllers
-returns-clause-controllers c = wakes_same _ c.args.self.now.listener c.args.bit c.args.controllers.now c.wake_all-2.new.members (λ k a b h. inr h) c.wake_all-2.ensures
+returns-clause-controllers c =
+    ap (λ listener. map (woken listener c.args.bit) c.wake_all-2.new.members) c.look_everywhere.ensures.same.listener_is
+    ∙ wakes_same _ c.args.self.now.listener c.args.bit c.args.controllers.now c.wake_all-2.new.members (λ k a b h. inr h) c.wake_all-2.ensures
 
 pub returns-clause-talkers_awake : goal.returns-clause-talkers_awake
 returns-clause-talkers_awake c = all_woken c.args.self.now.listener c.args.bit c.args.talkers.now c.wake_all.new.members c.wake_all.ensures
@@ -27,4 +33,5 @@ pub returns-clause-controllers_awake : goal.returns-clause-controllers_awake
 returns-clause-controllers_awake c = all_woken c.args.self.now.listener c.args.bit c.args.controllers.now c.wake_all-2.new.members c.wake_all-2.ensures
 
 pub returns-clause-holds : goal.returns-clause-holds
-returns-clause-holds c next = none_rests _ next c.args.plan.now c.wake_all.new.members c.wake_all-2.new.members refl (returns-clause-talkers_awake c) (returns-clause-controllers_awake c)
+returns-clause-holds c next = none_rests c.look_everywhere.new.self next c.args.plan.now c.wake_all.new.members c.wake_all-2.new.members c.look_everywhere.ensures.few
+    (whole_within c.look_everywhere.new.self.talkers _ c.wake_all.new.members c.look_everywhere.ensures.talkers refl) (whole_within c.look_everywhere.new.self.controllers _ c.wake_all-2.new.members c.look_everywhere.ensures.controllers refl) (returns-clause-talkers_awake c) (returns-clause-controllers_awake c)

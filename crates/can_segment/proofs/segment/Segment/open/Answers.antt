@@ -1,4 +1,4 @@
-use Rattle.std.proofs.Common.{length, arith, sym, ap, subst, refl, ◌≡◌, ◌∙◌}
+use Rattle.std.proofs.Common.{rules, length, arith, sym, ap, subst, refl, ◌≡◌, ◌∙◌}
 use Rattle.std.proofs.lemmas.List.{length-map}
 use Rattle.can_segment.specs.declared.record.Record.{Record}
 use Rattle.can_segment.specs.Ports.{item_of}
@@ -8,6 +8,7 @@ use Rattle.can_segment.specs.Rests.{members_at}
 use Rattle.can_segment.specs.Segments.{SegmentHolds}
 use Rattle.can_segment.proofs.Fresh.{fresh_awake, fresh_shown, kept_fresh, idle_fresh}
 use Rattle.can_segment.proofs.Holds.{none_rests}
+use Rattle.can_segment.proofs.Spans.{whole_within}
 use Rattle.can_segment.proofs.Woken.{none_resting}
 use Rattle.can_segment.proofs.Wholes.{holds_awake}
 use Rattle.can_segment.proofs.segment.Segment.open.Goals as goal
@@ -37,17 +38,18 @@ invariant_of-result c =
       talkers_shown = rw c.as_slice-3.ensures.value at c.show_all.ensures.talkers;
       controllers_shown = rw (c.as_slice-3.ensures.value, c.as_slice-4.ensures.value) at c.show_all.ensures.controllers;
     } in (
-      holds_awake c.args.plan made c.none.result (length made.levels.items) talkers controllers awake awake_too held,
+      holds_awake c.args.plan made c.none-rest.result (length made.levels.items) talkers controllers awake awake_too held,
       subst (λ n. StandsAt c.args.plan n c.in_ok-faults.faults) (sym (ap length c.new-2.ensures.items)) c.in_ok-faults.ensures,
-      none_rests c.none.result (length made.levels.items) c.args.plan.talkers.items talkers controllers c.none.ensures.few awake awake_too,
+      none_rests c.none-rest.result (length made.levels.items) c.args.plan.talkers.items talkers controllers c.none-rest.ensures.few
+      (whole_within c.none-rest.result.talkers _ talkers c.none-rest.ensures.talkers (search rules)) (whole_within c.none-rest.result.controllers _ controllers c.none-rest.ensures.controllers (search rules)) awake awake_too,
     )
 
 pub returns : goal.returns
 returns c =
     let controllers = c.in_ok-controllers.controllers.items in
     let fresh : AreFresh (λ controller. controller.on) c.args.plan.controllers.items controllers = rw c.as_slice-2.ensures.value at c.in_ok-controllers.ensures in
-    let same : members_at c.none.result (length c.new-2.result.items) controllers ≡ controllers =
-    none_resting c.none.result.listener (length c.new-2.result.items) controllers (fresh_awake (λ controller. controller.on) c.args.plan.controllers.items controllers fresh) in
+    let same : members_at c.none-rest.result (length c.new-2.result.items) controllers ≡ controllers =
+    none_resting c.none-rest.result.listener (length c.new-2.result.items) controllers (fresh_awake (λ controller. controller.on) c.args.plan.controllers.items controllers fresh) in
     record {
       plan_is = refl;
       no_levels = c.new-2.ensures.items;
