@@ -8,7 +8,7 @@ use Rattle.can_frame.specs.Spelling.{Spells, tail_levels}
 use Rattle.can_frame.proofs.Numbers.{head_same}
 use Rattle.can_frame.proofs.OneStuffing.{grows}
 use Rattle.can_frame.proofs.Spellings.{slot_stands_alone}
-use Rattle.can_node.specs.declared.confinement.ErrorEvent.{ErrorEvent}
+use Rattle.can_confinement.specs.declared.confinement.ErrorEvent.{ErrorEvent}
 use Rattle.can_node.specs.declared.outcome.Outcome.TheVariants.{Nothing}
 use Rattle.can_node.specs.declared.state.State.{State}
 use Rattle.can_node.specs.declared.state.State.TheVariants.{Taking, Sending}
@@ -28,8 +28,8 @@ use Rattle.can_node.specs.Histories.Whole.{then}
 use Rattle.can_node.specs.Machine.{Agrees, Begins, InState, ReaderStands, may_start, sof_of}
 use Rattle.can_node.specs.Machine.Agrees.{in_sync, in_idle, in_take, in_send, in_last, in_active, in_overload, in_passive, in_wait, in_delimiter, in_rest, in_suspend, in_off}
 use Rattle.can_node.specs.Node.{StandsAfter, with_begin}
-use Rattle.can_node.specs.Confinement.{counts_after}
-use Rattle.can_node.specs.Counters.{counts_of}
+use Rattle.can_confinement.specs.Confinement.{counts_after}
+use Rattle.can_confinement.specs.Counters.{counts_of}
 use Rattle.can_node.proofs.Bits.{same_past}
 
 -- a text that is not empty

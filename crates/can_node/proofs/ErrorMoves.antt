@@ -2,11 +2,11 @@
 use Rattle.std.proofs.Common.{◌≡◌, ℕ, ◌+◌, ◌<◌, ◌≤◌, cond, Bool, true, false, not, Some, None, List, [], ◌∷◌, ◌++◌, length, replicate, refl, ap, subst, arith, length-append}
 use Rattle.std.proofs.lemmas.List.{append_assoc, append-nil, replicate_more}
 use Rattle.std.specs.List.{list_any}
-use Rattle.can_node.specs.declared.confinement.Role.{Role}
-use Rattle.can_node.specs.declared.confinement.Role.TheVariants.{Sender}
-use Rattle.can_node.specs.declared.confinement.ErrorEvent.{ErrorEvent}
-use Rattle.can_node.specs.declared.confinement.ErrorEvent.TheVariants.{SenderError}
-use Rattle.can_node.specs.declared.confinement.ErrorState.{ErrorState}
+use Rattle.can_confinement.specs.declared.confinement.Role.{Role}
+use Rattle.can_confinement.specs.declared.confinement.Role.TheVariants.{Sender}
+use Rattle.can_confinement.specs.declared.confinement.ErrorEvent.{ErrorEvent}
+use Rattle.can_confinement.specs.declared.confinement.ErrorEvent.TheVariants.{SenderError}
+use Rattle.can_confinement.specs.declared.confinement.ErrorState.{ErrorState}
 use Rattle.can_node.specs.declared.flag.FlagKind.TheVariants.{ActiveError, Overload}
 use Rattle.can_node.specs.declared.outcome.ErrorKind.TheVariants.{Form}
 use Rattle.can_node.specs.declared.outcome.Outcome.TheVariants.{Errored}

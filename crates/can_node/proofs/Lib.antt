@@ -14,7 +14,6 @@ pub mod Samples
 pub mod Begins
 pub mod Listens
 pub mod Texts
-pub mod Bounds
 pub mod ActiveFlags
 pub mod BitsOf
 pub mod Heard

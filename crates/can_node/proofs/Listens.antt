@@ -5,14 +5,14 @@ use Rattle.can_frame.specs.Reading.{IsPush, ReadsOn, StandsAs, StandsAfter as Re
 use Rattle.can_frame.specs.declared.step.Step.{Step}
 use Rattle.can_frame.specs.declared.step.Step.TheVariants.{More, StuffBit, Tail}
 use Rattle.can_frame.specs.declared.reader.Reader.{Reader}
-use Rattle.can_node.specs.declared.confinement.ErrorEvent.{ErrorEvent}
-use Rattle.can_node.specs.declared.confinement.ErrorEvent.TheVariants.{Received}
-use Rattle.can_node.specs.declared.confinement.ErrorState.{ErrorState}
-use Rattle.can_node.specs.declared.confinement.ErrorState.TheVariants.{Active as ErrorActive, Passive, Off}
-use Rattle.can_node.specs.declared.known_counts.KnownCounts.{KnownCounts}
-use Rattle.can_node.specs.declared.known_counts.KnownCounts.TheVariants.{Any, Active, Zero}
-use Rattle.can_node.specs.KnownCounts.{Admits, Knows}
-use Rattle.can_node.specs.declared.counters.Counters.{Counters}
+use Rattle.can_confinement.specs.declared.confinement.ErrorEvent.{ErrorEvent}
+use Rattle.can_confinement.specs.declared.confinement.ErrorEvent.TheVariants.{Received}
+use Rattle.can_confinement.specs.declared.confinement.ErrorState.{ErrorState}
+use Rattle.can_confinement.specs.declared.confinement.ErrorState.TheVariants.{Active as ErrorActive, Passive, Off}
+use Rattle.can_confinement.specs.declared.known_counts.KnownCounts.{KnownCounts}
+use Rattle.can_confinement.specs.declared.known_counts.KnownCounts.TheVariants.{Any, Active, Zero}
+use Rattle.can_confinement.specs.KnownCounts.{Admits, Knows}
+use Rattle.can_confinement.specs.declared.counters.Counters.{Counters}
 use Rattle.can_node.specs.declared.outcome.Outcome.TheVariants.{Nothing}
 use Rattle.can_node.specs.declared.state.State.{State}
 use Rattle.can_node.specs.declared.state.State.TheVariants.{Idling, Taking, Sending}
@@ -22,8 +22,8 @@ use Rattle.can_node.specs.declared.state.Turn.{Turn}
 use Rattle.can_node.specs.declared.spelling.Spelling.{Spelling}
 use Rattle.can_node.specs.declared.node.Node.{Node}
 use Rattle.can_node.specs.declared.listener.Listener.{Listener}
-use Rattle.can_node.specs.Confinement.{no_counts, is_off, after_event, counts_after, state_of}
-use Rattle.can_node.specs.Counters.{StandsAfter as CountersStandAfter, counts_of}
+use Rattle.can_confinement.specs.Confinement.{no_counts, is_off, after_event, counts_after, state_of}
+use Rattle.can_confinement.specs.Counters.{StandsAfter as CountersStandAfter, counts_of}
 use Rattle.can_node.specs.Machine.{Advances, behind_end, Counts, Goes, GoesReading, ReaderStands, Steps, is_in_region, is_sending, is_taking, level_in, may_start, quiet}
 use Rattle.can_node.specs.Sending.{level_at}
 use Rattle.can_node.specs.Machine.LeadsTo.{stays_on}

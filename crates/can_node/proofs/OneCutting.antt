@@ -4,7 +4,7 @@ use Rattle.std.specs.List.{Contains}
 use Rattle.std.proofs.lemmas.List.{append_assoc, append-nil, append_cancel_left, length-append, length-map, length-replicate}
 use Rattle.std.proofs.lemmas.List.Elements.{Contains-append_cases}
 use Rattle.can_frame.specs.Frames.{FrameValue}
-use Rattle.can_node.specs.declared.confinement.ErrorEvent.{ErrorEvent}
+use Rattle.can_confinement.specs.declared.confinement.ErrorEvent.{ErrorEvent}
 use Rattle.can_node.specs.declared.outcome.Outcome.{Outcome}
 use Rattle.can_node.specs.declared.outcome.Outcome.TheVariants.{Nothing}
 use Rattle.can_node.specs.Pairs.{Pair, listening, recessive}

@@ -2,7 +2,7 @@
 use Rattle.std.proofs.Common.{◌≡◌, ◌⊎◌, inl, inr, ℕ, ◌+◌, Bool, true, List, [], ◌∷◌, ◌++◌, length, refl, sym, ap, subst, arith, ◌∙◌}
 use Rattle.std.proofs.lemmas.List.{append_assoc, append-nil, length-append}
 use Rattle.can_frame.specs.Frames.{FrameValue}
-use Rattle.can_node.specs.declared.confinement.ErrorEvent.{ErrorEvent}
+use Rattle.can_confinement.specs.declared.confinement.ErrorEvent.{ErrorEvent}
 use Rattle.can_node.specs.declared.outcome.Outcome.{Outcome}
 use Rattle.can_node.specs.declared.outcome.Outcome.TheVariants.{Nothing, WentOff}
 use Rattle.can_node.specs.Pairs.{Pair, listening, recessive}

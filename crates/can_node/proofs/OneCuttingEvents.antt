@@ -3,16 +3,16 @@ use Rattle.std.proofs.Common.{◌≡◌, ℕ, zero, suc, ◌+◌, cond, Bool, tr
 use Rattle.std.proofs.lemmas.List.{append_assoc, append-nil}
 use Rattle.std.proofs.lemmas.List.Sums.{fold-append}
 use Rattle.can_frame.specs.Frames.{IsFrameValue}
-use Rattle.can_node.specs.declared.confinement.Role.{Role}
-use Rattle.can_node.specs.declared.confinement.Role.TheVariants.{Sender, Receiver}
-use Rattle.can_node.specs.declared.confinement.ErrorEvent.{ErrorEvent}
-use Rattle.can_node.specs.declared.confinement.ErrorEvent.TheVariants.{ReceiverError, ReceiverDominant, SenderError, FlagBit, DominantRun, Sent, Received, Recovered}
-use Rattle.can_node.specs.declared.confinement.ErrorState.{ErrorState}
-use Rattle.can_node.specs.declared.confinement.ErrorState.TheVariants.{Active, Passive, Off}
+use Rattle.can_confinement.specs.declared.confinement.Role.{Role}
+use Rattle.can_confinement.specs.declared.confinement.Role.TheVariants.{Sender, Receiver}
+use Rattle.can_confinement.specs.declared.confinement.ErrorEvent.{ErrorEvent}
+use Rattle.can_confinement.specs.declared.confinement.ErrorEvent.TheVariants.{ReceiverError, ReceiverDominant, SenderError, FlagBit, DominantRun, Sent, Received, Recovered}
+use Rattle.can_confinement.specs.declared.confinement.ErrorState.{ErrorState}
+use Rattle.can_confinement.specs.declared.confinement.ErrorState.TheVariants.{Active, Passive, Off}
 use Rattle.can_node.specs.declared.flag.FlagKind.{FlagKind}
 use Rattle.can_node.specs.declared.flag.FlagKind.TheVariants.{ActiveError, PassiveError, Overload}
 use Rattle.can_node.specs.declared.outcome.Outcome.{Outcome}
-use Rattle.can_node.specs.Confinement.{Counts, no_counts, is_off, effect, after_event, counts_after}
+use Rattle.can_confinement.specs.Confinement.{Counts, no_counts, is_off, effect, after_event, counts_after}
 use Rattle.can_node.specs.Pairs.{Pair}
 use Rattle.can_node.specs.Takes.{acknowledged}
 use Rattle.can_node.specs.Flags.{flag_bit, flag_bits, behind_flag, dominant_event, dominant_events}

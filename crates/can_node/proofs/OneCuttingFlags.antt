@@ -4,13 +4,13 @@ use Rattle.std.specs.List.{list_any}
 use Rattle.std.proofs.lemmas.List.{append_assoc, append_cancel_left, length-append, length-replicate}
 use Rattle.std.proofs.lemmas.List.Folds.{list_any-append}
 use Rattle.std.proofs.lemmas.Grind.{flat_map-append}
-use Rattle.can_node.specs.declared.confinement.Role.{Role}
-use Rattle.can_node.specs.declared.confinement.ErrorEvent.{ErrorEvent}
+use Rattle.can_confinement.specs.declared.confinement.Role.{Role}
+use Rattle.can_confinement.specs.declared.confinement.ErrorEvent.{ErrorEvent}
 use Rattle.can_node.specs.declared.flag.FlagKind.{FlagKind}
 use Rattle.can_node.specs.declared.outcome.ErrorKind.TheVariants.{Form}
 use Rattle.can_node.specs.declared.outcome.Outcome.{Outcome}
 use Rattle.can_node.specs.declared.outcome.Outcome.TheVariants.{Nothing, Errored}
-use Rattle.can_node.specs.Confinement.{state_after}
+use Rattle.can_confinement.specs.Confinement.{state_after}
 use Rattle.can_node.specs.Pairs.{Pair, listening, recessive, dominant}
 use Rattle.can_node.specs.Flags.{flag_bit, flag_bits, owed_events, dominant_end, dominant_events}
 use Rattle.can_node.specs.Phases.{Phase, flag_of, suspends}

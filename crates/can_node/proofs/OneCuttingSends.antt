@@ -4,13 +4,13 @@ use Rattle.std.proofs.lemmas.List.{append_assoc, append-nil, append_cancel_left,
 use Rattle.can_frame.specs.Frames.{FrameValue, IsFrameValue}
 use Rattle.can_frame.specs.Fields.{senders_choice}
 use Rattle.can_frame.proofs.Spellings.{one_spelling, one_frame}
-use Rattle.can_node.specs.declared.confinement.Role.TheVariants.{Sender}
-use Rattle.can_node.specs.declared.confinement.ErrorEvent.{ErrorEvent}
-use Rattle.can_node.specs.declared.confinement.ErrorEvent.TheVariants.{SenderError, Sent}
+use Rattle.can_confinement.specs.declared.confinement.Role.TheVariants.{Sender}
+use Rattle.can_confinement.specs.declared.confinement.ErrorEvent.{ErrorEvent}
+use Rattle.can_confinement.specs.declared.confinement.ErrorEvent.TheVariants.{SenderError, Sent}
 use Rattle.can_node.specs.declared.outcome.ErrorKind.TheVariants.{Bit, Stuff, Ack}
 use Rattle.can_node.specs.declared.outcome.Outcome.{Outcome}
 use Rattle.can_node.specs.declared.outcome.Outcome.TheVariants.{Completed, Lost, Errored}
-use Rattle.can_node.specs.Confinement.{state_after}
+use Rattle.can_confinement.specs.Confinement.{state_after}
 use Rattle.can_node.specs.Pairs.{Pair, driving}
 use Rattle.can_node.specs.Sends.{IsSend, IsSendBit, IsArbitration, IsArbitrationStuffBit}
 use Rattle.can_node.specs.Phases.{Phase, flag_of}

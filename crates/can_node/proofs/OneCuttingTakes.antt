@@ -10,7 +10,7 @@ use Rattle.can_frame.proofs.Numbers.{append_same}
 use Rattle.can_frame.proofs.FrontLaws.{no_front_begins, no_dominant_end}
 use Rattle.can_frame.proofs.Undecided.{rough_before}
 use Rattle.can_frame.proofs.ReaderLaws.{one_answer}
-use Rattle.can_node.specs.declared.confinement.ErrorEvent.{ErrorEvent}
+use Rattle.can_confinement.specs.declared.confinement.ErrorEvent.{ErrorEvent}
 use Rattle.can_node.specs.Pairs.{Pair, listening, dominating}
 use Rattle.can_node.specs.Takes.{IsReadOn, IsBeforeSlot, Reads, acknowledged, IsFirstFault}
 use Rattle.can_node.specs.Takes.Reads.{no_slot, with_slot}

@@ -4,10 +4,10 @@ use Rattle.std.specs.List.{prefix_len, suffix_len, list_any}
 use Rattle.std.proofs.lemmas.List.{append_assoc, append-nil, reverse-append, reverse-reverse}
 use Rattle.std.proofs.lemmas.List.Folds.{list_any-append}
 use Rattle.can_frame.proofs.Numbers.{tail_same}
-use Rattle.can_node.specs.declared.confinement.Role.{Role}
-use Rattle.can_node.specs.declared.confinement.ErrorEvent.{ErrorEvent}
-use Rattle.can_node.specs.declared.confinement.ErrorEvent.TheVariants.{SenderError}
-use Rattle.can_node.specs.declared.confinement.ErrorState.{ErrorState}
+use Rattle.can_confinement.specs.declared.confinement.Role.{Role}
+use Rattle.can_confinement.specs.declared.confinement.ErrorEvent.{ErrorEvent}
+use Rattle.can_confinement.specs.declared.confinement.ErrorEvent.TheVariants.{SenderError}
+use Rattle.can_confinement.specs.declared.confinement.ErrorState.{ErrorState}
 use Rattle.can_node.specs.declared.flag.FlagKind.TheVariants.{PassiveError}
 use Rattle.can_node.specs.declared.state.State.TheVariants.{PassiveFlagging, Waiting}
 use Rattle.can_node.specs.Flags.{dominant_end, dominant_events, owed_events, EndsInSix, IsWithoutSix}

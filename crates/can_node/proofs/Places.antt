@@ -14,7 +14,7 @@ use Rattle.can_frame.proofs.Tails.{next_tail, next_slot, begins_rough, no_part, 
 use Rattle.can_node.specs.Pairs.{Pair, listening, dominating}
 use Rattle.can_node.specs.Takes.{IsBeforeSlot, Reads, acknowledged}
 use Rattle.can_node.specs.Takes.Reads.{no_slot, with_slot}
-use Rattle.can_node.specs.declared.confinement.ErrorEvent.{ErrorEvent}
+use Rattle.can_confinement.specs.declared.confinement.ErrorEvent.{ErrorEvent}
 use Rattle.can_node.specs.declared.state.Stage.{Stage}
 use Rattle.can_node.specs.declared.state.Stage.TheVariants.{Region, AfterRegion, Slot, AfterSlot}
 use Rattle.can_node.specs.Machine.{IsAt, is_own_slot}

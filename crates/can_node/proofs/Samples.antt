@@ -9,9 +9,9 @@ use Rattle.can_frame.proofs.Regions.{completes}
 use Rattle.can_frame.proofs.ReaderLaws.{one_answer}
 use Rattle.can_frame.specs.declared.reader.Reader.{Reader}
 use Rattle.can_frame.specs.declared.step.Step.{Step}
-use Rattle.can_node.specs.declared.confinement.ErrorEvent.{ErrorEvent}
-use Rattle.can_node.specs.declared.confinement.ErrorEvent.TheVariants.{Recovered}
-use Rattle.can_node.specs.declared.confinement.ErrorState.{ErrorState}
+use Rattle.can_confinement.specs.declared.confinement.ErrorEvent.{ErrorEvent}
+use Rattle.can_confinement.specs.declared.confinement.ErrorEvent.TheVariants.{Recovered}
+use Rattle.can_confinement.specs.declared.confinement.ErrorState.{ErrorState}
 use Rattle.can_node.specs.declared.outcome.Outcome.{Outcome}
 use Rattle.can_node.specs.declared.outcome.Outcome.TheVariants.{Nothing, WentOff}
 use Rattle.can_node.specs.declared.state.State.{State}
@@ -21,9 +21,9 @@ use Rattle.can_node.specs.declared.state.Stage.{Stage}
 use Rattle.can_node.specs.declared.state.Stage.TheVariants.{Region}
 use Rattle.can_node.specs.declared.state.Turn.{Turn}
 use Rattle.can_node.specs.declared.node.Node.{Node}
-use Rattle.can_node.specs.Confinement.{no_counts, is_off, after_event, counts_after, state_of, state_after}
-use Rattle.can_node.specs.declared.counters.Counters.{Counters}
-use Rattle.can_node.specs.Counters.{StandsAfter as CountersStandAfter, counts_of}
+use Rattle.can_confinement.specs.Confinement.{no_counts, is_off, after_event, counts_after, state_of, state_after}
+use Rattle.can_confinement.specs.declared.counters.Counters.{Counters}
+use Rattle.can_confinement.specs.Counters.{StandsAfter as CountersStandAfter, counts_of}
 use Rattle.can_node.specs.Pairs.{Pair}
 use Rattle.can_node.specs.Waits.Broken.{none}
 use Rattle.can_node.specs.Phases.{Phase, wants_start, sent_from}

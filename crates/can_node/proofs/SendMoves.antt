@@ -7,10 +7,10 @@ use Rattle.can_frame.specs.Fields.{senders_choice}
 use Rattle.can_frame.specs.Spelling.{Spells}
 use Rattle.can_frame.specs.Stuffing.{unstuffed}
 use Rattle.can_frame.specs.Reading.{Inside}
-use Rattle.can_node.specs.declared.confinement.Role.TheVariants.{Sender}
-use Rattle.can_node.specs.declared.confinement.ErrorEvent.{ErrorEvent}
-use Rattle.can_node.specs.declared.confinement.ErrorEvent.TheVariants.{SenderError, Sent}
-use Rattle.can_node.specs.declared.confinement.ErrorState.{ErrorState}
+use Rattle.can_confinement.specs.declared.confinement.Role.TheVariants.{Sender}
+use Rattle.can_confinement.specs.declared.confinement.ErrorEvent.{ErrorEvent}
+use Rattle.can_confinement.specs.declared.confinement.ErrorEvent.TheVariants.{SenderError, Sent}
+use Rattle.can_confinement.specs.declared.confinement.ErrorState.{ErrorState}
 use Rattle.can_node.specs.declared.outcome.ErrorKind.TheVariants.{Bit, Stuff, Ack}
 use Rattle.can_node.specs.declared.outcome.Outcome.TheVariants.{Completed, Lost, Errored}
 use Rattle.can_node.specs.declared.state.State.{State}
@@ -20,7 +20,7 @@ use Rattle.can_node.specs.declared.state.Turn.{Turn}
 use Rattle.can_node.specs.declared.spelling.Spelling.{Spelling}
 use Rattle.can_node.specs.declared.spelling.SendBit.{SendBit}
 use Rattle.can_node.specs.declared.spelling.SendBit.TheVariants.{Arbitration, ArbitrationStuffBit, Other}
-use Rattle.can_node.specs.Confinement.{state_after}
+use Rattle.can_confinement.specs.Confinement.{state_after}
 use Rattle.can_node.specs.Pairs.{Pair, driving}
 use Rattle.can_node.specs.Sends.{IsSendBit, IsArbitration, IsArbitrationStuffBit, rtr_place}
 use Rattle.can_node.specs.Sending.{Holds, IsSpelling, IsBitAt, SaysBit, level_at}

@@ -4,10 +4,10 @@
 use Rattle.std.proofs.Common.{◌≡◌, inl, inr, ◌⊎◌, ℕ, zero, suc, ◌+◌, ◌-◌, ◌<◌, Bool, true, false, Some, List, [], ◌∷◌, ◌++◌, length, slice_get, refl, sym, ap, subst, arith, ◌∙◌}
 use Rattle.std.proofs.lemmas.List.{append-nil, append_assoc, length-append, length-map}
 use Rattle.can_frame.specs.Frames.{FrameValue}
-use Rattle.can_node.specs.declared.confinement.Role.{Role}
-use Rattle.can_node.specs.declared.confinement.ErrorEvent.{ErrorEvent}
-use Rattle.can_node.specs.declared.confinement.ErrorState.{ErrorState}
-use Rattle.can_node.specs.declared.confinement.ErrorState.TheVariants.{Active, Passive, Off}
+use Rattle.can_confinement.specs.declared.confinement.Role.{Role}
+use Rattle.can_confinement.specs.declared.confinement.ErrorEvent.{ErrorEvent}
+use Rattle.can_confinement.specs.declared.confinement.ErrorState.{ErrorState}
+use Rattle.can_confinement.specs.declared.confinement.ErrorState.TheVariants.{Active, Passive, Off}
 use Rattle.can_node.specs.declared.outcome.Outcome.{Outcome}
 use Rattle.can_node.specs.Pairs.{Pair, listening, recessive}
 use Rattle.can_node.specs.Phases.{Phase, flag_of, sent_from}

@@ -11,16 +11,16 @@ use Rattle.can_frame.specs.declared.step.Step.TheVariants as answer
 use Rattle.can_frame.proofs.ReaderLaws.{reading_is_undecided}
 use Rattle.can_frame.proofs.Tails.{begins_rough, next_slot}
 use Rattle.can_frame.proofs.Undecided.{part_rough}
-use Rattle.can_node.specs.declared.confinement.Role.TheVariants.{Receiver}
-use Rattle.can_node.specs.declared.confinement.ErrorEvent.{ErrorEvent}
-use Rattle.can_node.specs.declared.confinement.ErrorEvent.TheVariants.{ReceiverError, Received}
-use Rattle.can_node.specs.declared.confinement.ErrorState.{ErrorState}
+use Rattle.can_confinement.specs.declared.confinement.Role.TheVariants.{Receiver}
+use Rattle.can_confinement.specs.declared.confinement.ErrorEvent.{ErrorEvent}
+use Rattle.can_confinement.specs.declared.confinement.ErrorEvent.TheVariants.{ReceiverError, Received}
+use Rattle.can_confinement.specs.declared.confinement.ErrorState.{ErrorState}
 use Rattle.can_node.specs.declared.outcome.Outcome.TheVariants.{Took, Errored}
 use Rattle.can_node.specs.declared.state.State.{State}
 use Rattle.can_node.specs.declared.state.State.TheVariants.{Taking, Closing}
 use Rattle.can_node.specs.declared.state.Stage.{Stage}
 use Rattle.can_node.specs.declared.state.Stage.TheVariants.{Region, AfterRegion, Slot, AfterSlot}
-use Rattle.can_node.specs.Confinement.{state_after}
+use Rattle.can_confinement.specs.Confinement.{state_after}
 use Rattle.can_node.specs.Pairs.{Pair}
 use Rattle.can_node.specs.Takes.{IsReadOn, IsBeforeSlot, Reads, acknowledged, name_of}
 use Rattle.can_node.specs.Phases.{Phase, flag_of, wants_start}

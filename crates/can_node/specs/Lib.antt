@@ -1,6 +1,3 @@
-pub mod Confinement
-pub mod Counters
-pub mod KnownCounts
 pub mod Pairs
 pub mod Sends
 pub mod Takes

@@ -1,13 +1,13 @@
 -- One that follows a line in place of nodes that listen to it and have come equally far.
 use Rattle.std.specs.Prelude.{◌≡◌, ◌⊎◌, ℕ, ◌+◌, Bool, true, false, None, Some}
-use Rattle.can_node.specs.declared.confinement.ErrorEvent.TheVariants.{Received}
+use Rattle.can_confinement.specs.declared.confinement.ErrorEvent.TheVariants.{Received}
 use Rattle.can_node.specs.declared.outcome.Outcome.TheVariants.{Nothing}
 use Rattle.can_node.specs.declared.state.Turn.{Turn}
 use Rattle.can_node.specs.declared.node.Node.{Node}
 use Rattle.can_node.specs.declared.listener.Listener.{Listener}
-use Rattle.can_node.specs.KnownCounts.{Knows}
-use Rattle.can_node.specs.declared.known_counts.KnownCounts.{KnownCounts}
-use Rattle.can_node.specs.declared.known_counts.KnownCounts.TheVariants.{Zero}
+use Rattle.can_confinement.specs.KnownCounts.{Knows}
+use Rattle.can_confinement.specs.declared.known_counts.KnownCounts.{KnownCounts}
+use Rattle.can_confinement.specs.declared.known_counts.KnownCounts.TheVariants.{Zero}
 use Rattle.can_node.specs.Histories.{Past, IsHistory}
 use Rattle.can_node.specs.Machine.{is_sending, listens}
 use Rattle.can_node.specs.Node.{StandsAfter, IsSample, bit_of, counters_in, driven_by, may_begin}

@@ -8,11 +8,11 @@ use Rattle.can_frame.specs.Reading.{InTail, Next, StandsAfter as ReaderStandsAft
 use Rattle.can_frame.specs.declared.step.Step.{Step}
 use Rattle.can_frame.specs.declared.step.Step.TheVariants.{More, StuffBit}
 use Rattle.can_frame.specs.declared.reader.Reader.{Reader}
-use Rattle.can_node.specs.declared.confinement.Role.{Role}
-use Rattle.can_node.specs.declared.confinement.Role.TheVariants.{Sender, Receiver}
-use Rattle.can_node.specs.declared.confinement.ErrorEvent.{ErrorEvent}
-use Rattle.can_node.specs.declared.confinement.ErrorEvent.TheVariants.{SenderError}
-use Rattle.can_node.specs.declared.confinement.ErrorState.{ErrorState}
+use Rattle.can_confinement.specs.declared.confinement.Role.{Role}
+use Rattle.can_confinement.specs.declared.confinement.Role.TheVariants.{Sender, Receiver}
+use Rattle.can_confinement.specs.declared.confinement.ErrorEvent.{ErrorEvent}
+use Rattle.can_confinement.specs.declared.confinement.ErrorEvent.TheVariants.{SenderError}
+use Rattle.can_confinement.specs.declared.confinement.ErrorState.{ErrorState}
 use Rattle.can_node.specs.declared.flag.FlagKind.{FlagKind}
 use Rattle.can_node.specs.declared.flag.FlagKind.TheVariants.{ActiveError, Overload}
 use Rattle.can_node.specs.declared.outcome.Outcome.{Outcome}
@@ -24,9 +24,9 @@ use Rattle.can_node.specs.declared.state.Stage.{Stage}
 use Rattle.can_node.specs.declared.state.Stage.TheVariants.{Region, AfterRegion, Slot, AfterSlot}
 use Rattle.can_node.specs.declared.state.Turn.{Turn}
 use Rattle.can_node.specs.declared.spelling.Spelling.{Spelling}
-use Rattle.can_node.specs.declared.counters.Counters.{Counters}
-use Rattle.can_node.specs.Counters.{StandsAfter}
-use Rattle.can_node.specs.Confinement.{state_after}
+use Rattle.can_confinement.specs.declared.counters.Counters.{Counters}
+use Rattle.can_confinement.specs.Counters.{StandsAfter}
+use Rattle.can_confinement.specs.Confinement.{state_after}
 use Rattle.can_node.specs.Pairs.{Pair, listening, dominating, driving, recessive, dominant}
 use Rattle.can_node.specs.Sends.{IsSendBit}
 use Rattle.can_node.specs.Sending.{Holds, IsBitAt, level_at}

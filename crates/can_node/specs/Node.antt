@@ -1,11 +1,11 @@
 -- What a node holds after what it has done since its first bit, and what a sampled bit does.
 use Rattle.std.specs.Prelude.{◌≡◌, ℕ, ◌+◌, Bool, Option, List, [], ◌∷◌, ◌++◌, length}
 use Rattle.can_frame.specs.Frames.{FrameValue}
-use Rattle.can_node.specs.declared.confinement.ErrorEvent.{ErrorEvent}
+use Rattle.can_confinement.specs.declared.confinement.ErrorEvent.{ErrorEvent}
 use Rattle.can_node.specs.declared.outcome.Outcome.{Outcome}
-use Rattle.can_node.specs.declared.counters.Counters.{Counters}
+use Rattle.can_confinement.specs.declared.counters.Counters.{Counters}
 use Rattle.can_node.specs.declared.node.Node.{Node}
-use Rattle.can_node.specs.Counters.{StandsAfter as CountersStandAfter}
+use Rattle.can_confinement.specs.Counters.{StandsAfter as CountersStandAfter}
 use Rattle.can_node.specs.Phases.{wants_start, sent_from}
 use Rattle.can_node.specs.Histories.{Past, IsHistory}
 use Rattle.can_node.specs.Machine.{InState, ReaderStands, level_in, may_start, sof_of, with_bit}

@@ -9,8 +9,8 @@ use Rattle.can_frame.specs.declared.step.FaultKind.TheVariants as fault
 use Rattle.can_node.specs.Pairs.{Pair, listening, dominating}
 use Rattle.can_node.specs.declared.outcome.ErrorKind.{ErrorKind}
 use Rattle.can_node.specs.declared.outcome.ErrorKind.TheVariants.{Bit, Stuff, Form, Crc}
-use Rattle.can_node.specs.declared.confinement.ErrorEvent.{ErrorEvent}
-use Rattle.can_node.specs.declared.confinement.ErrorEvent.TheVariants.{Received}
+use Rattle.can_confinement.specs.declared.confinement.ErrorEvent.{ErrorEvent}
+use Rattle.can_confinement.specs.declared.confinement.ErrorEvent.TheVariants.{Received}
 
 -- a receiver reads on behind this text: frames begin with it, and it is neither a front, whose frame is
 -- taken, nor an error

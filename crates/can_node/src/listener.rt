@@ -2,21 +2,20 @@
 
 ghost use Rattle.std.specs.Prelude.{◌≡◌, ◌≢◌, ℕ, Bool, true, false, IfSome};
 ghost use Rattle.can_node.specs.declared.node.Node.{Node};
-ghost use Rattle.can_node.specs.KnownCounts.{Admits};
+ghost use Rattle.can_confinement.specs.KnownCounts.{Admits};
 ghost use Rattle.can_node.specs.Machine.{Goes, GoesReading, is_sending, is_taking, quiet};
 ghost use Rattle.can_node.specs.Node.{driven_by, may_begin};
 ghost use Rattle.can_node.specs.Listener.{IsListening, IsUnseen, Follows, ReadsAlong, caught_up};
-ghost use Rattle.can_node.specs.declared.confinement.ErrorState.{ErrorState as ErrorStateValue};
-ghost use Rattle.can_node.specs.declared.confinement.ErrorState.TheVariants.{Active as ErrorActive};
+ghost use Rattle.can_confinement.specs.declared.confinement.ErrorState.{ErrorState as ErrorStateValue};
+ghost use Rattle.can_confinement.specs.declared.confinement.ErrorState.TheVariants.{Active as ErrorActive};
 
-use crate::confinement::{ErrorEvent, ErrorState};
-use crate::known_counts::KnownCounts;
 use crate::machine::{
     behind_end, is_in_region, is_taking, level_of, may_start, reader_after_sof, turn_of,
 };
 use crate::outcome::Outcome;
 use crate::state::{Stage, State, Turn};
 use crate::takes::after_taking;
+use can_confinement::{ErrorEvent, ErrorState, KnownCounts};
 use can_frame::{Reader, Step};
 
 /// What all nodes hold alike that listen to a line and have come equally far: one follows the line for them,

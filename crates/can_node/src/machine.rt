@@ -21,8 +21,6 @@ ghost use Rattle.can_node.specs.Machine.{
   sof_of,
 };
 
-use crate::confinement::{ErrorEvent, ErrorState, Role};
-use crate::counters::Counters;
 use crate::outcome::Outcome;
 use crate::sends::after_sending;
 use crate::spelling::Spelling;
@@ -32,6 +30,7 @@ use crate::turns::{
     after_closing, after_delimiting, after_flag, after_idle, after_passive_flag, after_recovering,
     after_resting, after_suspending, after_sync, after_waiting, plain,
 };
+use can_confinement::{Counters, ErrorEvent, ErrorState, Role};
 use can_frame::{Reader, Step};
 
 /// The level that a node drives in this state, if it sends no frame.

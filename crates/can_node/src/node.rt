@@ -1,10 +1,10 @@
 //! A node of one segment.
 
 ghost use Rattle.std.specs.Prelude.{◌≡◌, ℕ, ◌+◌, ◌<◌, true, IsSome, IfSome, IfNone};
-ghost use Rattle.can_node.specs.Counters.{StandsAfter as CountersStandAfter, counts_of};
+ghost use Rattle.can_confinement.specs.Counters.{StandsAfter as CountersStandAfter, counts_of};
 ghost use Rattle.can_node.specs.Histories.{Past, no_past, IsHistory};
 ghost use Rattle.can_node.specs.Listener.{SendsTo, StandsWith, caught_up, listener_of, listens_in};
-ghost use Rattle.can_node.specs.KnownCounts.{Knows, known_of};
+ghost use Rattle.can_confinement.specs.KnownCounts.{Knows, known_of};
 ghost use Rattle.can_node.specs.Node.{
   StandsAfter,
   IsSample,
@@ -18,13 +18,12 @@ ghost use Rattle.can_node.specs.Node.{
   with_begin,
 };
 
-use crate::counters::Counters;
-use crate::known_counts::KnownCounts;
 use crate::listener::Listener;
 use crate::machine::{advance, begin, level_in, listens, may_start, sof_of};
 use crate::outcome::Outcome;
 use crate::spelled::Spelled;
 use crate::state::State;
+use can_confinement::{Counters, KnownCounts};
 use can_frame::{Frame, Reader};
 
 /// A node of classical CAN, bit by bit (Bosch CAN Specification 2.0, part B; ISO 11898-1). At each bit it

@@ -3,9 +3,9 @@
 ghost use Rattle.std.specs.Prelude.{◌≡◌};
 ghost use Rattle.can_node.specs.Machine.{is_own_slot};
 
-use crate::confinement::{ErrorEvent, Role};
 use crate::flag::FlagKind;
 use crate::outcome::Outcome;
+use can_confinement::{ErrorEvent, Role};
 
 /// Where the next level stands in a frame that is read.
 #[derive(Clone, Copy, PartialEq, Eq)]

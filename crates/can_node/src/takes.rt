@@ -5,10 +5,10 @@ ghost use Rattle.can_frame.specs.declared.step.Step.TheVariants.{Tail};
 ghost use Rattle.can_node.specs.Machine.{GoesReading};
 ghost use Rattle.can_node.specs.Takes.{name_of};
 
-use crate::confinement::{ErrorEvent, ErrorState, Role};
 use crate::outcome::{ErrorKind, Outcome};
 use crate::state::{Stage, State, Turn};
 use crate::turns::{counted, error_flag, plain};
+use can_confinement::{ErrorEvent, ErrorState, Role};
 use can_frame::{FaultKind, Step};
 
 /// What a receiver calls its error.

@@ -6,10 +6,10 @@ ghost use Rattle.can_node.specs.Flags.{behind_flag};
 ghost use Rattle.can_node.specs.Machine.{Agrees, Goes, listed};
 ghost use Rattle.can_node.specs.Episodes.{error_of};
 
-use crate::confinement::{ErrorEvent, ErrorState, Role};
 use crate::flag::FlagKind;
 use crate::outcome::{ErrorKind, Outcome};
 use crate::state::{Stage, State, Turn};
+use can_confinement::{ErrorEvent, ErrorState, Role};
 
 /// A turn that counts nothing and ends nothing that is told.
 pub(crate) fn plain(state: State) -> Turn

@@ -5,7 +5,7 @@ use Rattle.std.specs.List.{Contains}
 use Rattle.std.proofs.lemmas.Bool.{cases_lt}
 use Rattle.std.proofs.lemmas.List.Sums.{fold-append}
 use Rattle.can_frame.specs.Frames.{FrameValue}
-use Rattle.can_node.specs.declared.confinement.ErrorState.{ErrorState}
+use Rattle.can_confinement.specs.declared.confinement.ErrorState.{ErrorState}
 use Rattle.can_node.specs.declared.outcome.Outcome.{Outcome}
 use Rattle.can_node.specs.declared.outcome.Outcome.TheVariants.{Nothing, Took, Completed, Lost, Errored, WentOff, CameBack}
 use Rattle.can_node.specs.Histories.{Past, no_past, noted}

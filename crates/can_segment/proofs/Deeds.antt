@@ -1,7 +1,7 @@
 -- What one node does at a bit makes an act of it.
 use Rattle.std.proofs.Common.{◌≡◌, ℕ, ◌+◌, ◌<◌, ◌≤◌, Bool, true, inl, inr, Option, Some, None, List, [], ◌∷◌, ◌++◌, length, cond, sym, ap, subst, arith, ◌∙◌, length-append}
 use Rattle.std.proofs.lemmas.List.Sums.{fold-append}
-use Rattle.can_node.specs.declared.confinement.ErrorEvent.{ErrorEvent}
+use Rattle.can_confinement.specs.declared.confinement.ErrorEvent.{ErrorEvent}
 use Rattle.can_node.specs.Histories.{no_past, IsHistory}
 use Rattle.can_node.specs.Node.{StandsAfter, bit_of, driven_by}
 use Rattle.can_segment.specs.declared.event.Label.{Label}

@@ -11,7 +11,7 @@ use Rattle.bx_core.proofs.Words.{pushed}
 use Rattle.can_segment.specs.Ports.{item_of}
 use Rattle.can_segment.specs.Segments.{AreFromResting, sending_of_all}
 use Rattle.can_segment.specs.Rests.{NoneRests}
-use Rattle.can_node.specs.declared.counters.Counters.{Counters}
+use Rattle.can_confinement.specs.declared.counters.Counters.{Counters}
 use Rattle.can_segment.proofs.NextBits.{some_there}
 use Rattle.can_segment.proofs.Places.{same_some}
 use Rattle.can_segment.proofs.Shown.{map_at}

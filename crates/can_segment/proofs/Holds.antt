@@ -1,6 +1,6 @@
 -- What stands of nodes that rest stands on where fewer do.
 use Rattle.std.proofs.Common.{◌≡◌, ◌⊎◌, ℕ, ◌+◌, ◌≤◌, Bool, true, false, Some, None, List, length, slice_get, refl, sym, ap, subst, arith, ◌∙◌}
-use Rattle.can_node.specs.KnownCounts.{Knows}
+use Rattle.can_confinement.specs.KnownCounts.{Knows}
 use Rattle.can_node.specs.Listener.{IsListening}
 use Rattle.can_node.specs.Node.{counters_in}
 use Rattle.can_segment.specs.declared.member.Member.{Member}

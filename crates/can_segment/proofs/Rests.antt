@@ -7,7 +7,7 @@ use Rattle.std.proofs.lemmas.Option.{slice_get_within}
 use Rattle.can_frame.specs.Frames.{FrameValue}
 use Rattle.bx_core.specs.TxBus.{Item, BusPast, BusCall}
 use Rattle.can_node.specs.Histories.{Past}
-use Rattle.can_node.specs.KnownCounts.{Knows}
+use Rattle.can_confinement.specs.KnownCounts.{Knows}
 use Rattle.can_node.specs.Listener.{caught_up as node_caught_up}
 use Rattle.can_node.specs.Node.{IsSample, IsWanting, StandsAfter, bit_of, counters_in, driven_by, may_begin}
 use Rattle.can_node.specs.declared.node.Node.{Node}

@@ -8,7 +8,7 @@ use Rattle.std.proofs.lemmas.Option.{slice_get_past, slice_get_within}
 use Rattle.bx_core.specs.TxBus.{Item, BusPast, BusCall}
 use Rattle.can_frame.specs.Frames.{FrameValue}
 use Rattle.can_node.specs.Node.{IsSample, driven_by, may_begin}
-use Rattle.can_node.specs.declared.counters.Counters.{Counters}
+use Rattle.can_confinement.specs.declared.counters.Counters.{Counters}
 use Rattle.can_node.specs.declared.listener.Listener.{Listener}
 use Rattle.can_segment.specs.declared.member.Member.{Member}
 use Rattle.can_segment.specs.declared.plan.Talker.{Talker}

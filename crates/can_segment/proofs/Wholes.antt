@@ -1,7 +1,7 @@
 -- What stands of the nodes of a segment stands of those for which they stand while some rest.
 use Rattle.std.proofs.Common.{◌≡◌, ◌≢◌, ℕ, zero, suc, ◌+◌, ◌≤◌, Bool, true, false, cond, List, [], ◌∷◌, ◌++◌, length, map, slice_get, refl, sym, ap, subst, arith, ◌∙◌}
 use Rattle.std.proofs.lemmas.Option.{slice_get_within}
-use Rattle.can_node.specs.declared.counters.Counters.{Counters}
+use Rattle.can_confinement.specs.declared.counters.Counters.{Counters}
 use Rattle.can_node.specs.declared.listener.Listener.{Listener}
 use Rattle.can_segment.specs.declared.event.Event.{Event}
 use Rattle.can_segment.specs.declared.event.Told.{Told}

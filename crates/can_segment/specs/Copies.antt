@@ -3,8 +3,8 @@
 use Rattle.std.specs.Prelude.{◌≡◌, ℕ, ◌<◌, ◌≤◌, ◌+◌, ◌==◌, ◌||◌, Bool, true, false, Some, List, slice_get, take}
 use Rattle.std.specs.List.{list_any}
 use Rattle.can_frame.specs.Frames.{FrameValue}
-use Rattle.can_node.specs.declared.confinement.ErrorState.{ErrorState}
-use Rattle.can_node.specs.declared.confinement.ErrorState.TheVariants.{Active}
+use Rattle.can_confinement.specs.declared.confinement.ErrorState.{ErrorState}
+use Rattle.can_confinement.specs.declared.confinement.ErrorState.TheVariants.{Active}
 use Rattle.can_node.specs.declared.outcome.ErrorKind.{ErrorKind}
 use Rattle.can_node.specs.declared.outcome.Outcome.{Outcome}
 use Rattle.can_node.specs.declared.outcome.Outcome.TheVariants.{Nothing, Took, Completed, Errored}

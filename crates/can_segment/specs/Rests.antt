@@ -2,11 +2,11 @@
 use Rattle.std.specs.Prelude.{◌≡◌, ◌≢◌, ◌⊎◌, ℕ, ◌+◌, ◌≤◌, ◌<◌, ◌&&◌, Bool, true, false, Option, None, Some, List, length, map, slice_get, if◌then◌else◌}
 use Rattle.bx_core.specs.TxBus.{Item}
 use Rattle.can_node.specs.Histories.{Past}
-use Rattle.can_node.specs.KnownCounts.{Knows}
+use Rattle.can_confinement.specs.KnownCounts.{Knows}
 use Rattle.can_node.specs.Listener.{Follows, IsListening, SendsTo, StandsWith, caught_up as node_caught_up}
 use Rattle.can_node.specs.Node.{StandsAfter, bit_of, counters_in, driven_by, may_begin}
 use Rattle.can_node.specs.declared.listener.Listener.{Listener}
-use Rattle.can_node.specs.declared.counters.Counters.{Counters}
+use Rattle.can_confinement.specs.declared.counters.Counters.{Counters}
 use Rattle.can_node.specs.declared.node.Node.{Node}
 use Rattle.can_segment.specs.declared.member.Member.{Member}
 use Rattle.can_segment.specs.declared.plan.NodeFault.{NodeFault}

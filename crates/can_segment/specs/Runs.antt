@@ -8,8 +8,8 @@ use Rattle.can_node.specs.Node.{with_begin, IsWanting, IsSending}
 use Rattle.can_segment.specs.declared.plan.Talker.{Talker}
 use Rattle.can_segment.specs.declared.plan.Controller.{Controller}
 use Rattle.can_segment.specs.declared.plan.SegmentPlan.{SegmentPlan}
-use Rattle.can_node.specs.declared.counters.Counters.{Counters}
-use Rattle.can_node.specs.Counters.{StandsAfter as CountersStandAfter}
+use Rattle.can_confinement.specs.declared.counters.Counters.{Counters}
+use Rattle.can_confinement.specs.Counters.{StandsAfter as CountersStandAfter}
 use Rattle.can_segment.specs.declared.event.Event.{Event}
 use Rattle.can_segment.specs.declared.event.Label.{Label}
 use Rattle.can_segment.specs.declared.record.Record.{Record}

@@ -1,7 +1,7 @@
 -- What the nodes of a segment do, bit by bit. A trace is a list of bits; at each one every node that is on does
 -- one act.
 use Rattle.std.specs.Prelude.{ℕ, ◌+◌, Bool, true, false, Option, Some, None, List, fold, slice_get, if◌then◌else◌}
-use Rattle.can_node.specs.declared.confinement.ErrorEvent.{ErrorEvent}
+use Rattle.can_confinement.specs.declared.confinement.ErrorEvent.{ErrorEvent}
 use Rattle.can_node.specs.declared.outcome.Outcome.{Outcome}
 use Rattle.can_node.specs.declared.outcome.Outcome.TheVariants.{Nothing, Took, Completed, Lost, Errored, WentOff, CameBack}
 use Rattle.can_node.specs.Histories.{Past, no_past}

@@ -2,12 +2,12 @@
 use Rattle.std.specs.Prelude.{ℕ, List, [], ◌∷◌, ◌++◌, vec_len, codes, slice_get, Option, Some, None, option_and_then, unwrap_or}
 use Rattle.std.specs.List.{flat_map}
 use Rattle.std.specs.Fmt.{decimal}
-use Rattle.can_node.specs.declared.confinement.ErrorState.{ErrorState}
-use Rattle.can_node.specs.declared.confinement.ErrorState.TheVariants.{Active, Passive, Off}
+use Rattle.can_confinement.specs.declared.confinement.ErrorState.{ErrorState}
+use Rattle.can_confinement.specs.declared.confinement.ErrorState.TheVariants.{Active, Passive, Off}
 use Rattle.can_node.specs.declared.outcome.ErrorKind.{ErrorKind}
 use Rattle.can_node.specs.declared.outcome.ErrorKind.TheVariants.{Bit, Stuff, Form, Ack, Crc}
-use Rattle.can_node.specs.Confinement.{Counts, state_of}
-use Rattle.can_node.specs.Counters.{counts_of}
+use Rattle.can_confinement.specs.Confinement.{Counts, state_of}
+use Rattle.can_confinement.specs.Counters.{counts_of}
 use Rattle.can_segment.specs.declared.event.Event.{Event}
 use Rattle.can_segment.specs.declared.event.Label.{Label}
 use Rattle.can_segment.specs.declared.event.Told.{Told}

@@ -3,8 +3,8 @@
 ghost use Rattle.std.specs.Prelude.{◌≡◌, ◌<◌, ◌≤◌, [], ◌∷◌, ◌++◌, length, vec_len, codes, IfOk, OnOk};
 ghost use Rattle.std.specs.Fmt.{decimal};
 ghost use Rattle.bx_core.specs.Lists.{Each};
-ghost use Rattle.can_node.specs.Confinement.{state_of};
-ghost use Rattle.can_node.specs.Counters.{counts_of};
+ghost use Rattle.can_confinement.specs.Confinement.{state_of};
+ghost use Rattle.can_confinement.specs.Counters.{counts_of};
 ghost use Rattle.gw_script.specs.Lines.{line, lines_from};
 ghost use Rattle.gw_config.specs.Nodes.{names_of_nodes};
 ghost use Rattle.gw_script.specs.NamedPlaces.{NamesNodes, Names};

@@ -1,6 +1,6 @@
 use Rattle.std.proofs.Common.{◌≡◌, [], true, false, not, ap, sym, ◌∙◌}
 use Rattle.can_node.proofs.SendMoves.{send_acknowledged, send_unacknowledged, send_echoed, send_completed, send_undriven, equal_levels, other_level}
-use Rattle.can_node.specs.declared.confinement.Role.TheVariants.{Sender}
+use Rattle.can_confinement.specs.declared.confinement.Role.TheVariants.{Sender}
 use Rattle.can_node.proofs.Readers.{flag_reads_nothing}
 use Rattle.can_node.proofs.sends.after_sending.Goals as goal
 

@@ -1,6 +1,6 @@
 use Rattle.std.proofs.Common.{[]}
 use Rattle.can_node.proofs.SendMoves.{send_lost, send_stuff_lost, send_overruled}
-use Rattle.can_node.specs.declared.confinement.Role.TheVariants.{Sender}
+use Rattle.can_confinement.specs.declared.confinement.Role.TheVariants.{Sender}
 use Rattle.can_node.proofs.Readers.{flag_reads_nothing}
 use Rattle.can_node.proofs.sends.overruled.Goals as goal
 

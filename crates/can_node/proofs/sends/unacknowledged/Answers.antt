@@ -1,5 +1,5 @@
 use Rattle.can_node.proofs.ErrorMoves.{active_begins, owing_begins, off_begins}
-use Rattle.can_node.specs.declared.confinement.Role.TheVariants.{Sender}
+use Rattle.can_confinement.specs.declared.confinement.Role.TheVariants.{Sender}
 use Rattle.can_node.proofs.sends.unacknowledged.Goals as goal
 
 pub returns-in-Active-clause-flags : goal.returns-in-Active-clause-flags

@@ -1,5 +1,5 @@
 use Rattle.std.proofs.Common.{◌≡◌, ◌++◌, drop}
-use Rattle.can_node.specs.Counters.{counts_of}
+use Rattle.can_confinement.specs.Counters.{counts_of}
 use Rattle.gw_script.specs.Lines.{lines_from}
 use Rattle.gw_script.specs.ReportTexts.{node_line}
 use Rattle.gw_script.proofs.report_text.push_nodes.Given as goal

@@ -1,12 +1,12 @@
 -- What is known of a node's error counts, by what an event changes of them.
 use Rattle.std.specs.Prelude.{◌≡◌, ◌==◌, ◌&&◌, if◌then◌else◌}
-use Rattle.can_node.specs.declared.confinement.ErrorState.{ErrorState}
-use Rattle.can_node.specs.declared.confinement.ErrorState.TheVariants.{Active as ErrorActive, Passive, Off}
-use Rattle.can_node.specs.declared.counters.Counters.{Counters}
-use Rattle.can_node.specs.declared.known_counts.KnownCounts.{KnownCounts}
-use Rattle.can_node.specs.declared.known_counts.KnownCounts.TheVariants.{Any, Active, Zero}
-use Rattle.can_node.specs.Confinement.{Counts, no_counts, state_of}
-use Rattle.can_node.specs.Counters.{counts_of}
+use Rattle.can_confinement.specs.declared.confinement.ErrorState.{ErrorState}
+use Rattle.can_confinement.specs.declared.confinement.ErrorState.TheVariants.{Active as ErrorActive, Passive, Off}
+use Rattle.can_confinement.specs.declared.counters.Counters.{Counters}
+use Rattle.can_confinement.specs.declared.known_counts.KnownCounts.{KnownCounts}
+use Rattle.can_confinement.specs.declared.known_counts.KnownCounts.TheVariants.{Any, Active, Zero}
+use Rattle.can_confinement.specs.Confinement.{Counts, no_counts, state_of}
+use Rattle.can_confinement.specs.Counters.{counts_of}
 
 -- so much is known of these counters
 abbrev pub Knows : KnownCounts → Counters → Type 0

@@ -1,13 +1,13 @@
 -- Fault confinement: the error counts and the state after a list of events. Bosch CAN Specification 2.0,
 -- part B, 8 FAULT CONFINEMENT; ISO 11898-1. The table is this project's profile of the counting rules there.
--- It speaks of events alone: which bits bring them is said in Episodes.
+-- It speaks of events alone: which bits bring them is said in can_node's Episodes.
 use Rattle.std.specs.Prelude.{ℕ, ◌+◌, ◌-◌, ◌||◌, min, nat_lt, nat_le, Bool, List, fold, if◌then◌else◌}
-use Rattle.can_node.specs.declared.confinement.Role.{Role}
-use Rattle.can_node.specs.declared.confinement.Role.TheVariants.{Sender, Receiver}
-use Rattle.can_node.specs.declared.confinement.ErrorEvent.{ErrorEvent}
-use Rattle.can_node.specs.declared.confinement.ErrorEvent.TheVariants.{ReceiverError, ReceiverDominant, SenderError, FlagBit, DominantRun, Sent, Received, Recovered}
-use Rattle.can_node.specs.declared.confinement.ErrorState.{ErrorState}
-use Rattle.can_node.specs.declared.confinement.ErrorState.TheVariants.{Active, Passive, Off}
+use Rattle.can_confinement.specs.declared.confinement.Role.{Role}
+use Rattle.can_confinement.specs.declared.confinement.Role.TheVariants.{Sender, Receiver}
+use Rattle.can_confinement.specs.declared.confinement.ErrorEvent.{ErrorEvent}
+use Rattle.can_confinement.specs.declared.confinement.ErrorEvent.TheVariants.{ReceiverError, ReceiverDominant, SenderError, FlagBit, DominantRun, Sent, Received, Recovered}
+use Rattle.can_confinement.specs.declared.confinement.ErrorState.{ErrorState}
+use Rattle.can_confinement.specs.declared.confinement.ErrorState.TheVariants.{Active, Passive, Off}
 
 -- the transmit error count and the receive error count
 pub record Counts : Type 0 where

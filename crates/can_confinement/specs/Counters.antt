@@ -1,8 +1,8 @@
 -- What a node's counters hold after a list of events.
 use Rattle.std.specs.Prelude.{◌≡◌, List}
-use Rattle.can_node.specs.declared.confinement.ErrorEvent.{ErrorEvent}
-use Rattle.can_node.specs.declared.counters.Counters.{Counters}
-use Rattle.can_node.specs.Confinement.{Counts, counts_after}
+use Rattle.can_confinement.specs.declared.confinement.ErrorEvent.{ErrorEvent}
+use Rattle.can_confinement.specs.declared.counters.Counters.{Counters}
+use Rattle.can_confinement.specs.Confinement.{Counts, counts_after}
 
 -- the counts that the counters show
 abbrev pub counts_of : Counters → Counts

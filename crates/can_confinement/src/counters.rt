@@ -1,7 +1,7 @@
 //! The two error counters of a node.
 
 ghost use Rattle.std.specs.Prelude.{◌≡◌, ◌<◌, ◌∷◌, ◌++◌, [], List};
-ghost use Rattle.can_node.specs.Confinement.{
+ghost use Rattle.can_confinement.specs.Confinement.{
   counts_after,
   state_after,
   state_of,
@@ -9,7 +9,7 @@ ghost use Rattle.can_node.specs.Confinement.{
   effect,
   is_off,
 };
-ghost use Rattle.can_node.specs.Counters.{StandsAfter, counts_of};
+ghost use Rattle.can_confinement.specs.Counters.{StandsAfter, counts_of};
 
 use crate::confinement::{ErrorEvent, ErrorState, Role};
 
@@ -42,9 +42,12 @@ impl Counters {
         }
     }
 
-    /// Whether a node with these counts is in bus off.
-    pub(crate) fn is_off(&self) -> bool
-        ensures { result ≡ is_off (counts_of self.now) }
+    /// Whether a node with these counts is in bus off: TEC is 256 or more (Bosch CAN Specification 2.0, part B,
+    /// 8 FAULT CONFINEMENT). It is so just where `state` is `Off`.
+    pub fn is_off(&self) -> bool
+        ensures shown { result ≡ is_off (counts_of self.now) }
+        ensures counted { (events : List ErrorEvent) → StandsAfter self.now events
+            → result ≡ is_off (counts_after events) }
     {
         self.tec >= 256
     }

@@ -1,9 +1,9 @@
 //! What is known of the error counts of nodes.
 
 ghost use Rattle.std.specs.Prelude.{◌≡◌, ◌⊎◌};
-ghost use Rattle.can_node.specs.KnownCounts.{Knows, known_of};
-ghost use Rattle.can_node.specs.Counters.{counts_of};
-ghost use Rattle.can_node.specs.declared.counters.Counters.{Counters as CountersValue};
+ghost use Rattle.can_confinement.specs.KnownCounts.{Knows, known_of};
+ghost use Rattle.can_confinement.specs.Counters.{counts_of};
+ghost use Rattle.can_confinement.specs.declared.counters.Counters.{Counters as CountersValue};
 
 use crate::confinement::ErrorState;
 use crate::counters::Counters;
@@ -21,8 +21,9 @@ pub enum KnownCounts {
 }
 
 impl KnownCounts {
-    /// What is known of these counters, as much as there is to be known.
-    pub(crate) fn of(counters: Counters) -> KnownCounts
+    /// What is known of these counters, as much as there is to be known: that both counts are 0 where they are, else
+    /// that they make a node error active where they do (Bosch CAN Specification 2.0, part B, 8 FAULT CONFINEMENT).
+    pub fn of(counters: Counters) -> KnownCounts
         ensures known { Knows result counters }
         ensures most { result ≡ known_of (counts_of counters) }
     {

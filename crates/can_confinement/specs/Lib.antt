@@ -1,0 +1,3 @@
+pub mod Confinement
+pub mod Counters
+pub mod KnownCounts
