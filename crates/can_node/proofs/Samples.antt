@@ -1,5 +1,5 @@
 -- One bit of a node: its state and its reader, its counters, and the past that it stands after.
-use Rattle.std.proofs.Common.{◌≡◌, ◌⊎◌, inl, inr, ℕ, ◌+◌, Bool, true, false, Option, Some, None, List, [], ◌∷◌, ◌++◌, length, take, refl, sym, ap, subst, arith, ◌∙◌, length-append}
+use Rattle.std.proofs.Common.{◌≡◌, ◌⊎◌, inl, inr, ℕ, ◌+◌, ◌<◌, Bool, true, false, Option, Some, None, List, [], ◌∷◌, ◌++◌, length, take, refl, sym, ap, subst, arith, ◌∙◌, length-append}
 use Rattle.std.proofs.lemmas.List.{append_assoc, append-nil}
 use Rattle.std.proofs.lemmas.List.Sums.{fold-append}
 use Rattle.can_frame.specs.Answers.{Answers}
@@ -39,7 +39,7 @@ use Rattle.can_node.specs.Machine.Lands.{goes_on, is_over}
 use Rattle.can_node.specs.Machine.LeadsTo.{no_event, stays_on, goes_off}
 use Rattle.can_node.specs.Node.{StandsAfter, IsSample, IsWanting, IsSending}
 use Rattle.can_node.proofs.Starts.{sof_inside}
-use Rattle.can_node.proofs.Moves.{idle_on}
+use Rattle.can_node.proofs.Moves.{idle_on, off_broken, off_longer}
 use Rattle.can_node.proofs.TakeMoves.{take_more, take_stuff}
 use Rattle.can_node.proofs.Readers.{still_reading, reads_on}
 use Rattle.can_node.proofs.SendMoves.{lost_text}
@@ -102,6 +102,15 @@ other_advances state old new spelling now errors level turn no_send goes stands 
 -- an idle bus
 pub idle_advances : (old : Reader) (spelling : Spelling) (now : ℕ) (errors : ErrorState) → Advances Idling old spelling now errors true (quiet Idling) old
 idle_advances old spelling now errors = other_advances Idling old old spelling now errors true (quiet Idling) refl (idle_on now errors) (λ is. absurd (cc is)) (λ is. absurd (cc is))
+
+-- in bus off a dominant bit breaks a run of recessive ones, and a recessive one makes it longer
+pub broken_advances : (runs ones : ℕ) (old : Reader) (spelling : Spelling) (now : ℕ) (errors : ErrorState) → Advances (Recovering runs ones) old spelling now errors false (quiet (Recovering runs 0)) old
+broken_advances runs ones old spelling now errors =
+    other_advances (Recovering runs ones) old old spelling now errors false (quiet (Recovering runs 0)) refl (off_broken runs ones now errors) (λ is. absurd (cc is)) (λ is. absurd (cc is))
+
+pub longer_advances : (runs ones : ℕ) (old : Reader) (spelling : Spelling) (now : ℕ) (errors : ErrorState) → ones < 10 → Advances (Recovering runs ones) old spelling now errors true (quiet (Recovering runs (ones + 1))) old
+longer_advances runs ones old spelling now errors few =
+    other_advances (Recovering runs ones) old old spelling now errors true (quiet (Recovering runs (ones + 1))) refl (off_longer runs ones now errors few) (λ is. absurd (cc is)) (λ is. absurd (cc is))
 
 -- either the counts are not those of bus off, or the node is in bus off
 pub on_or_off : (phase : Phase) (events : List ErrorEvent) → IsOnOutside phase events → AreOn events ⊎ (phase ≡ BusOff)

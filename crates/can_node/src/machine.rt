@@ -326,6 +326,14 @@ pub(crate) fn advance(
             turn_sending(state, counters, reader, spelling, start, place, level)
         }
         State::Idling if level => Outcome::Nothing,
+        State::Recovering(runs, _) if !level => {
+            *state = State::Recovering(runs, 0);
+            Outcome::Nothing
+        }
+        State::Recovering(runs, ones) if ones < 10 => {
+            *state = State::Recovering(runs, ones + 1);
+            Outcome::Nothing
+        }
         _ => turn_outside(state, counters, reader, now, level),
     }
 }

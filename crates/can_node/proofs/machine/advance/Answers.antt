@@ -1,8 +1,8 @@
-use Rattle.std.proofs.Common.{arith}
-use Rattle.can_node.specs.declared.state.State.TheVariants.{Idling, Taking, Sending}
+use Rattle.std.proofs.Common.{◌+◌, arith}
+use Rattle.can_node.specs.declared.state.State.TheVariants.{Idling, Recovering, Taking, Sending}
 use Rattle.can_node.specs.Machine.{quiet}
 use Rattle.can_node.proofs.SendMoves.{send_echoed}
-use Rattle.can_node.proofs.Samples.{steady_advances, idle_advances, sending_advances, quiet_steps}
+use Rattle.can_node.proofs.Samples.{broken_advances, idle_advances, longer_advances, quiet_steps, sending_advances, steady_advances}
 use Rattle.can_node.proofs.machine.advance.Goals as goal
 
 pub returns-then-is_steady : goal.returns-then-is_steady
@@ -26,3 +26,19 @@ pub returns-in-Idling : goal.returns-in-Idling
 returns-in-Idling c =
     rw (c.in-Idling.is, c.if-level.true)
     (quiet_steps Idling Idling c.args.counters.now c.args.reader.now c.args.reader.now c.args.spelling.now c.args.now _ (λ errors. idle_advances c.args.reader.now c.args.spelling.now c.args.now errors))
+
+pub returns-in-Recovering : goal.returns-in-Recovering
+returns-in-Recovering c =
+    let runs = c.in-Recovering.runs in
+    let ones = c.in-Recovering.field-1 in
+    let reader = c.args.reader.now in
+    rw (c.in-Recovering.is, c.if-not-level.true)
+    (quiet_steps (Recovering runs ones) (Recovering runs 0) c.args.counters.now reader reader c.args.spelling.now c.args.now _ (λ errors. broken_advances runs ones reader c.args.spelling.now c.args.now errors))
+
+pub returns-in-Recovering-2 : goal.returns-in-Recovering-2
+returns-in-Recovering-2 c =
+    let runs = c.in-Recovering-2.runs in
+    let ones = c.in-Recovering-2.ones in
+    let reader = c.args.reader.now in
+    rw (c.in-Recovering-2.is, c.if-not-level.false)
+    (quiet_steps (Recovering runs ones) (Recovering runs (ones + 1)) c.args.counters.now reader reader c.args.spelling.now c.args.now _ (λ errors. longer_advances runs ones reader c.args.spelling.now c.args.now errors c.if-ones-lt10.true))
