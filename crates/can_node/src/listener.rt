@@ -43,6 +43,12 @@ impl Listener {
         may_start(self.state)
     }
 
+    /// Whether they read within the stuffed region of a frame, and need not choose any more between reading and sending.
+    #[inline(always)]
+    pub fn is_reading(&self) -> bool {
+        is_in_region(self.state)
+    }
+
     /// Follows the line through a bit at which all of them sample this level, and tells whether it did: then each
     /// has told nothing and counted nothing that changes a count. Of their counts so much is `known`: where all are 0
     /// it follows a frame that is acknowledged too. Else it is as it was, and the nodes have to sample that level

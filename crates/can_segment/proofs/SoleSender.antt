@@ -191,7 +191,7 @@ sole_awake : (place bit : ℕ) (before after : Listener) (level : Bool) (old new
 sole_awake place bit before after level old new moves m e = (sends_there place bit before after level old new m moves e).2.awake
 
 rests_through_alone : (rest : Rest) (place bit : ℕ) (after : Listener) (level : Bool) (old new : List Member) → OneSends place bit rest.listener level after old new →
-    RestsThrough bit level rest (record { listener = after; resting = rest.resting; known = rest.known; spent = rest.spent; talkers = rest.talkers; controllers = rest.controllers; few = rest.few })
+    RestsThrough bit level rest (record { listener = after; resting = rest.resting; known = rest.known; spent = rest.spent; talkers = rest.talkers; controllers = rest.controllers; few = rest.few; steady = rest.steady })
 rests_through_alone rest place bit after level old new h = record {
   resting = refl;
   talkers_is = refl;
@@ -207,7 +207,7 @@ drives_alone : (rest : Rest) (place bit : ℕ) (after : Listener) (level : Bool)
 drives_alone rest place bit after level old new h = λ listening node at. sym (h.step.sends.others_drive node at)
 
 pub talker_alone : (rest : Rest) (bit : ℕ) (after : Listener) (level : Bool) (t0 t1 c : List Member) → rest.few ≡ true → length c ≤ rest.controllers.from → OneSends rest.talkers.from bit rest.listener level after t0 t1 →
-    SendsAlone bit level rest (record { listener = after; resting = rest.resting; known = rest.known; spent = rest.spent; talkers = rest.talkers; controllers = rest.controllers; few = rest.few }) t0 t1 c c
+    SendsAlone bit level rest (record { listener = after; resting = rest.resting; known = rest.known; spent = rest.spent; talkers = rest.talkers; controllers = rest.controllers; few = rest.few; steady = rest.steady }) t0 t1 c c
 talker_alone rest bit after level t0 t1 c few past h = record {
   few = few;
   starts_none = inr h.step.sends.others_begin;
@@ -220,7 +220,7 @@ talker_alone rest bit after level t0 t1 c few past h = record {
 }
 
 pub controller_alone : (rest : Rest) (bit : ℕ) (after : Listener) (level : Bool) (t c0 c1 : List Member) → rest.few ≡ true → length t ≤ rest.talkers.from → OneSends rest.controllers.from bit rest.listener level after c0 c1 →
-    SendsAlone bit level rest (record { listener = after; resting = rest.resting; known = rest.known; spent = rest.spent; talkers = rest.talkers; controllers = rest.controllers; few = rest.few }) t t c0 c1
+    SendsAlone bit level rest (record { listener = after; resting = rest.resting; known = rest.known; spent = rest.spent; talkers = rest.talkers; controllers = rest.controllers; few = rest.few; steady = rest.steady }) t t c0 c1
 controller_alone rest bit after level t c0 c1 few past h = record {
   few = few;
   starts_none = inr h.step.sends.others_begin;

@@ -44,7 +44,8 @@ fn tell(events: &mut Vec<Event>, bit: u64, talkers: &[Member], controllers: &[Me
     tell_rests(events, bit, first, controllers);
 }
 
-/// The nodes make one more bit, and the record grows by its level and its lines.
+/// The nodes make one more bit, and the record grows by its level and its lines. Whether something may be told of one of
+/// them.
 pub(crate) fn make_bit<R, P: RxSink<R>>(
     rt: &R,
     plan: &SegmentPlan,
@@ -55,7 +56,7 @@ pub(crate) fn make_bit<R, P: RxSink<R>>(
     levels: &mut Vec<bool>,
     events: &mut Vec<Event>,
     faults: &FaultOrder,
-)
+) -> bool
     requires stands { StandsAt plan.now (length levels.old.items) faults.now }
     requires kept { SegmentKept plan.now levels.old.items events.old.items
         (members_at rest.old (length levels.old.items) talkers.old)
@@ -98,4 +99,5 @@ pub(crate) fn make_bit<R, P: RxSink<R>>(
     );
     tell(events, bit, talkers, controllers, told);
     keep(levels, level);
+    told
 }

@@ -47,6 +47,8 @@ pub(crate) struct Rest {
     pub(crate) controllers: Span,
     // each of these has one place at most; where all rest it stands behind the last
     pub(crate) few: bool,
+    // those that rest read on in the stuffed region at the last bit, and before it
+    steady: bool,
 }
 
 impl Rest {
@@ -65,6 +67,7 @@ impl Rest {
             talkers: Span::whole(talkers),
             controllers: Span::whole(controllers),
             few: false,
+            steady: false,
         }
     }
 
@@ -93,6 +96,7 @@ impl Rest {
         ensures controllers { IsWhole (length controllers.now) self.new.controllers }
     {
         self.few = false;
+        self.steady = false;
         self.talkers = Span::whole(talkers.len());
         self.controllers = Span::whole(controllers.len());
     }
@@ -183,7 +187,12 @@ impl Rest {
         if !self.resting {
             return false;
         }
-        self.listener.follow(bit, level, self.known)
+        let reading = self.listener.is_reading();
+        if !self.listener.follow(bit, level, self.known) {
+            return false;
+        }
+        self.steady = reading & self.listener.is_reading();
+        true
     }
 
     /// The listener follows through a bit at which those that rest sample this level; where it can't they wake before it.
@@ -206,13 +215,15 @@ impl Rest {
         self.wake(plan, talkers, controllers, bit);
     }
 
-    /// Nodes come to rest before this bit that listen and have come equally far.
+    /// Nodes come to rest before this bit that listen and have come equally far. At the bit before something was told of
+    /// a node, or nothing.
     pub(crate) fn come_to_rest(
         &mut self,
         plan: &[Talker],
         talkers: &mut [Member],
         controllers: &mut [Member],
         bit: u64,
+        told: bool,
     )
         requires plan { length plan.now ≡ length talkers.old }
         requires holds { RestHolds self.old bit plan.now talkers.old controllers.old }
@@ -223,10 +234,31 @@ impl Rest {
         if asks_at_each_bit(controllers) {
             return;
         }
+        if self.stays_so(talkers, controllers, bit, told) {
+            return;
+        }
         self.choose(talkers, controllers, bit);
         self.lull_talkers(plan, talkers, bit);
         self.lull_controllers(controllers, bit);
         self.settle(plan, talkers, controllers, bit);
+    }
+
+    /// Whether none that is awake can have come as far as the listener at the last bit, as far as that is seen at once.
+    fn stays_so(
+        &self,
+        talkers: &[Member],
+        controllers: &[Member],
+        bit: u64,
+        told: bool,
+    ) -> bool {
+        if self.steady && !told {
+            return true;
+        }
+        if !self.resting || !self.few {
+            return false;
+        }
+        !listens_there(talkers, self.talkers.from, bit)
+            && !listens_there(controllers, self.controllers.from, bit)
     }
 
     /// Where none rests, those may come to rest that have come as far as most of those that listen.
@@ -324,6 +356,14 @@ impl Rest {
 fn asks_at_each_bit(controllers: &[Member]) -> bool {
     match controllers.first() {
         Some(member) => member.station.node.wants_start(),
+        None => false,
+    }
+}
+
+/// Whether the node at this place is awake and listens, if there is one.
+fn listens_there(members: &[Member], place: usize, bit: u64) -> bool {
+    match members.get(place) {
+        Some(member) => member.listens_at(bit),
         None => false,
     }
 }

@@ -14,8 +14,8 @@ use Rattle.can_segment.proofs.Rests.{members_length}
 use Rattle.can_segment.proofs.Wholes.{from_left, from_real, from_whole, holds_alike}
 use Rattle.can_segment.proofs.segment.grow_any.Goals as goal
 
-pub make_bit-requires-clause-few : goal.make_bit-requires-clause-few
-make_bit-requires-clause-few g c =
+pub make_bit-told-requires-clause-few : goal.make_bit-told-requires-clause-few
+make_bit-told-requires-clause-few g c =
     let rest = c.args.rest.now in
     let bit = length c.args.made.now.levels.items in
     omega (arith, c.requires.holds.few, members_length rest bit c.args.talkers.now, members_length rest bit c.args.controllers.now)
@@ -23,9 +23,9 @@ make_bit-requires-clause-few g c =
 pub show_all-requires-clause-size : goal.show_all-requires-clause-size
 show_all-requires-clause-size g c =
     let bit = length c.args.made.now.levels.items in
-    let new = c.make_bit.new.rest in
+    let new = c.make_bit-told.new.rest in
     let before = c.requires.holds.kept.stands in
-    let behind = c.make_bit.ensures.kept.stands in
+    let behind = c.make_bit-told.ensures.kept.stands in
     omega (
       arith,
       c.requires.holds.size,
@@ -33,50 +33,50 @@ show_all-requires-clause-size g c =
       before.controllers_size,
       behind.talkers_size,
       behind.controllers_size,
-      members_length new (bit + 1) c.make_bit.new.talkers,
-      members_length new (bit + 1) c.make_bit.new.controllers,
+      members_length new (bit + 1) c.make_bit-told.new.talkers,
+      members_length new (bit + 1) c.make_bit-told.new.controllers,
     )
 
 pub show_all-requires-clause-talkers : goal.show_all-requires-clause-talkers
 show_all-requires-clause-talkers g c =
     let old = c.args.rest.now in
     let counters = c.args.made.now.counters.items in
-    from_left 0 c.args.talkers.now c.make_bit.new.talkers counters (from_whole 0 old (length c.args.made.now.levels.items) c.args.talkers.now counters c.requires.holds.talkers_shown) c.make_bit.ensures.left.0
+    from_left 0 c.args.talkers.now c.make_bit-told.new.talkers counters (from_whole 0 old (length c.args.made.now.levels.items) c.args.talkers.now counters c.requires.holds.talkers_shown) c.make_bit-told.ensures.left.0
 
 pub show_all-requires-clause-controllers : goal.show_all-requires-clause-controllers
 show_all-requires-clause-controllers g c =
     let old = c.args.rest.now in
-    let new = c.make_bit.new.rest in
+    let new = c.make_bit-told.new.rest in
     let bit = length c.args.made.now.levels.items in
     let counters = c.args.made.now.counters.items in
-    let size : length (members_at old bit c.args.talkers.now) ≡ length c.make_bit.new.talkers =
-    omega (arith, c.requires.holds.kept.stands.talkers_size, c.make_bit.ensures.kept.stands.talkers_size, members_length new (bit + 1) c.make_bit.new.talkers) in
-    from_left (length c.make_bit.new.talkers) c.args.controllers.now c.make_bit.new.controllers counters
-    (subst (λ first. AreFrom first c.args.controllers.now counters) size (from_whole _ old bit c.args.controllers.now counters c.requires.holds.controllers_shown)) c.make_bit.ensures.left.1
+    let size : length (members_at old bit c.args.talkers.now) ≡ length c.make_bit-told.new.talkers =
+    omega (arith, c.requires.holds.kept.stands.talkers_size, c.make_bit-told.ensures.kept.stands.talkers_size, members_length new (bit + 1) c.make_bit-told.new.talkers) in
+    from_left (length c.make_bit-told.new.talkers) c.args.controllers.now c.make_bit-told.new.controllers counters
+    (subst (λ first. AreFrom first c.args.controllers.now counters) size (from_whole _ old bit c.args.controllers.now counters c.requires.holds.controllers_shown)) c.make_bit-told.ensures.left.1
 
 pub come_to_rest-requires-clause-plan : goal.come_to_rest-requires-clause-plan
 come_to_rest-requires-clause-plan g c =
     let bit = length c.args.made.now.levels.items in
-    let behind = c.make_bit.ensures.kept.stands in
-    omega (arith, ap length c.as_slice.ensures.value, behind.talkers_size, members_length c.make_bit.new.rest (bit + 1) c.make_bit.new.talkers)
+    let behind = c.make_bit-told.ensures.kept.stands in
+    omega (arith, ap length c.as_slice.ensures.value, behind.talkers_size, members_length c.make_bit-told.new.rest (bit + 1) c.make_bit-told.new.talkers)
 
 pub returns-clause-holds : goal.returns-clause-holds
 returns-clause-holds g c =
-    let made = c.make_bit.ensures in
+    let made = c.make_bit-told.ensures in
     let old = c.args.rest.now in
-    let mid = c.make_bit.new.rest in
+    let mid = c.make_bit-told.new.rest in
     let new = c.come_to_rest.new.self in
     let bit = length c.args.made.now.levels.items in
-    let next = length c.make_bit.new.levels.items in
+    let next = length c.make_bit-told.new.levels.items in
     let longer : bit + 1 ≡ next = sym (ap length made.level.1 ∙ length-append c.args.made.now.levels.items (made.level.0 ∷ [])) in
     let here : c.len.result ≡ next = search rules in
-    let t1 = c.make_bit.new.talkers in
-    let c1 = c.make_bit.new.controllers in
-    let kept = subst (λ n. SegmentKept c.args.plan.now c.make_bit.new.levels.items c.make_bit.new.events.items (members_at mid n t1) (members_at mid n c1)) longer made.kept in
+    let t1 = c.make_bit-told.new.talkers in
+    let c1 = c.make_bit-told.new.controllers in
+    let kept = subst (λ n. SegmentKept c.args.plan.now c.make_bit-told.new.levels.items c.make_bit-told.new.events.items (members_at mid n t1) (members_at mid n c1)) longer made.kept in
     let talkers_size = members_length mid next t1 in
     let controllers_size = members_length mid next c1 in
     let before = c.requires.holds.kept.stands in
-    holds_alike c.args.plan.now (record { levels = c.make_bit.new.levels; events = c.make_bit.new.events; counters = c.show_all.new.counters }) (members_at mid next t1) (members_at new next c.come_to_rest.new.talkers)
+    holds_alike c.args.plan.now (record { levels = c.make_bit-told.new.levels; events = c.make_bit-told.new.events; counters = c.show_all.new.counters }) (members_at mid next t1) (members_at new next c.come_to_rest.new.talkers)
     (members_at mid next c1) (members_at new next c.come_to_rest.new.controllers)
     (subst (λ n. AreAlike (members_at mid n t1) (members_at new n c.come_to_rest.new.talkers)) here c.come_to_rest.ensures.talkers)
     (subst (λ n. AreAlike (members_at mid n c1) (members_at new n c.come_to_rest.new.controllers)) here c.come_to_rest.ensures.controllers) kept
@@ -86,19 +86,19 @@ returns-clause-holds g c =
 
 pub returns-clause-bit : goal.returns-clause-bit
 returns-clause-bit g c =
-    let made = c.make_bit.ensures in
-    let mid = c.make_bit.new.rest in
+    let made = c.make_bit-told.ensures in
+    let mid = c.make_bit-told.new.rest in
     let new = c.come_to_rest.new.self in
     let bit = length c.args.made.now.levels.items in
-    let next = length c.make_bit.new.levels.items in
+    let next = length c.make_bit-told.new.levels.items in
     let longer : bit + 1 ≡ next = sym (ap length made.level.1 ∙ length-append c.args.made.now.levels.items (made.level.0 ∷ [])) in
     let here : c.len.result ≡ next = search rules in
-    let talkers = members_at mid (bit + 1) c.make_bit.new.talkers in
-    let controllers = members_at mid (bit + 1) c.make_bit.new.controllers in
+    let talkers = members_at mid (bit + 1) c.make_bit-told.new.talkers in
+    let controllers = members_at mid (bit + 1) c.make_bit-told.new.controllers in
     let lines = bit_lines bit talkers controllers in
     let stands = made.kept.stands in
-    let alike = subst (λ n. AreAlike (members_at mid n c.make_bit.new.controllers) (members_at new next c.come_to_rest.new.controllers)) (sym longer)
-    (subst (λ n. AreAlike (members_at mid n c.make_bit.new.controllers) (members_at new n c.come_to_rest.new.controllers)) here c.come_to_rest.ensures.controllers) in
+    let alike = subst (λ n. AreAlike (members_at mid n c.make_bit-told.new.controllers) (members_at new next c.come_to_rest.new.controllers)) (sym longer)
+    (subst (λ n. AreAlike (members_at mid n c.make_bit-told.new.controllers) (members_at new n c.come_to_rest.new.controllers)) here c.come_to_rest.ensures.controllers) in
     record {
       level = made.level.0;
       lines = lines;
