@@ -36,3 +36,4 @@ pub mod OneCuttingEnds
 pub mod OneCuttingEpisodes
 pub mod OneCutting
 pub mod OneCuttingPlaces
+pub mod Recovery

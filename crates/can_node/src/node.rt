@@ -5,6 +5,7 @@ ghost use Rattle.can_confinement.specs.Counters.{StandsAfter as CountersStandAft
 ghost use Rattle.can_node.specs.Histories.{Past, no_past, IsHistory};
 ghost use Rattle.can_node.specs.Listener.{SendsTo, StandsWith, caught_up, listener_of, listens_in};
 ghost use Rattle.can_confinement.specs.KnownCounts.{Knows, known_of};
+ghost use Rattle.can_node.specs.Recovery.{IsRecovering, Recovers};
 ghost use Rattle.can_node.specs.Node.{
   StandsAfter,
   IsSample,
@@ -181,6 +182,36 @@ impl Node {
             now,
             level,
         )
+    }
+
+    /// Whether the node is in bus off, and no run of eleven recessive bits ends with its next bit, whatever its level is.
+    #[inline(always)]
+    pub fn is_recovering(&self) -> bool
+        ensures { result ≡ true → IsRecovering self.now }
+    {
+        match self.state {
+            State::Recovering(_, ones) => ones < 10,
+            _ => false,
+        }
+    }
+
+    /// One bit of bus off with which no run of eleven recessive bits ends, at which the node samples this level: what
+    /// `sample` does there. Nothing is told and nothing counted.
+    #[inline(always)]
+    pub fn recover(&mut self, level: bool)
+        requires recovering { IsRecovering self.old }
+        requires room { bit_of self.old < u64.MAX }
+        ensures { Recovers self.old level self.new }
+    {
+        let State::Recovering(_runs, ones) = &mut self.state else {
+            return;
+        };
+        self.clock += 1;
+        if !level {
+            *ones = 0;
+            return;
+        }
+        *ones = ones.saturating_add(1);
     }
 
     /// One bit of a frame that the node sends while all others listen: what `drive`, `sample` and `Listener::follow`

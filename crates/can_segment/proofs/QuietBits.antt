@@ -12,7 +12,7 @@ use Rattle.can_segment.specs.Kept.{SegmentKept}
 use Rattle.can_segment.specs.Members.{Samples, SamplesAndSettles}
 use Rattle.can_segment.specs.Moves.{NodesMove}
 use Rattle.can_segment.specs.Ports.{item_of}
-use Rattle.can_segment.specs.Rests.{RestHolds, SendsAlone, TransmitsAll, members_at}
+use Rattle.can_segment.specs.Rests.{RestHolds, GoesQuietly, TransmitsAll, members_at}
 use Rattle.can_segment.specs.Segments.{AreFrom, SegmentHolds, SegmentValue, sending_of_all}
 use Rattle.can_segment.specs.Tellings.{bit_lines}
 use Rattle.can_segment.specs.QuietBits.{GrowsQuietly, MakesQuietBit, MakeQuietBits}
@@ -22,11 +22,11 @@ use Rattle.can_segment.proofs.Places.{same_some}
 use Rattle.can_segment.proofs.Quiet.{quiet_lines}
 use Rattle.can_segment.proofs.Rests.{members_length}
 use Rattle.can_segment.proofs.Shown.{map_there}
-use Rattle.can_segment.proofs.SoleSender.{controllers_settle_alone, controllers_start_alone, level_alone, quiet_alone, rests_alone, shown_on, talkers_sample_alone, talkers_start_alone}
+use Rattle.can_segment.proofs.SoleSender.{controllers_settle_alone, controllers_start_alone, level_alone, quiet_alone, rests_alone, shown_alone, talkers_sample_alone, talkers_start_alone}
 use Rattle.can_segment.proofs.Wholes.{from_real, from_whole}
 
 -- what all nodes do at such a bit, whatever their ports are
-nodes_move_alone : (plan : SegmentPlan) (bit : ℕ) (level : Bool) (old new : Rest) (t0 t1 c0 c1 : List Member) → SendsAlone bit level old new t0 t1 c0 c1 → RestHolds old bit plan.talkers.items t0 c0 → IsFaultless plan bit →
+nodes_move_alone : (plan : SegmentPlan) (bit : ℕ) (level : Bool) (old new : Rest) (t0 t1 c0 c1 : List Member) → GoesQuietly bit level old new t0 t1 c0 c1 → RestHolds old bit plan.talkers.items t0 c0 → IsFaultless plan bit →
     NodesMove plan bit level (members_at old bit t0) (members_at new (bit + 1) t1) (members_at old bit c0) (members_at new (bit + 1) c1)
 nodes_move_alone plan bit level old new t0 t1 c0 c1 h rests faultless =
     let whole = members_at old bit c0 in
@@ -57,7 +57,7 @@ pub record KeptQuietly (plan : SegmentPlan) (levels : List Bool) (events : List 
   pub kept : SegmentKept plan (levels ++ level ∷ []) events (members_at new (length levels + 1) t) (members_at new (length levels + 1) c)
 
 pub kept_quietly : (plan : SegmentPlan) (levels : List Bool) (events : List Event) (level : Bool) (old new : Rest) (t0 t1 c0 c1 : List Member) →
-    SegmentKept plan levels events (members_at old (length levels) t0) (members_at old (length levels) c0) → length levels < plan.bits → SendsAlone (length levels) level old new t0 t1 c0 c1 →
+    SegmentKept plan levels events (members_at old (length levels) t0) (members_at old (length levels) c0) → length levels < plan.bits → GoesQuietly (length levels) level old new t0 t1 c0 c1 →
     RestHolds old (length levels) plan.talkers.items t0 c0 → IsFaultless plan (length levels) → KeptQuietly plan levels events level new t1 c1
 kept_quietly plan levels events level old new t0 t1 c0 c1 kept still h rests faultless =
     let bit = length levels in
@@ -74,9 +74,9 @@ kept_quietly plan levels events level old new t0 t1 c0 c1 kept still h rests fau
 -- and all else stands as it stood
 pub holds_quietly : (plan : SegmentPlan) (made next : Record) (level : Bool) (old new : Rest) (t0 t1 c0 c1 : List Member) →
     SegmentHolds plan made (members_at old (length made.levels.items) t0) (members_at old (length made.levels.items) c0) → KeptQuietly plan made.levels.items made.events.items level new t1 c1 →
-    SendsAlone (length made.levels.items) level old new t0 t1 c0 c1 → next.levels.items ≡ made.levels.items ++ level ∷ [] → next.events.items ≡ made.events.items → next.counters.items ≡ made.counters.items →
+    GoesQuietly (length made.levels.items) level old new t0 t1 c0 c1 → RestHolds old (length made.levels.items) plan.talkers.items t0 c0 → next.levels.items ≡ made.levels.items ++ level ∷ [] → next.events.items ≡ made.events.items → next.counters.items ≡ made.counters.items →
     SegmentHolds plan next (members_at new (length next.levels.items) t1) (members_at new (length next.levels.items) c1)
-holds_quietly plan made next level old new t0 t1 c0 c1 held quiet h levels_is events_are counters_are =
+holds_quietly plan made next level old new t0 t1 c0 c1 held quiet h rests levels_is events_are counters_are =
     let bit = length made.levels.items in
     let talkers = members_at new (bit + 1) t1 in
     let before = held.kept.stands in
@@ -91,10 +91,10 @@ holds_quietly plan made next level old new t0 t1 c0 c1 held quiet h levels_is ev
       size = omega (arith, ap length counters_are, held.size, before.talkers_size, before.controllers_size, behind.talkers_size, behind.controllers_size);
       talkers_shown = subst (AreFrom 0 talkers) (sym counters_are)
           (from_real 0 new (bit + 1) t1 made.counters.items
-          (shown_on 0 old.talkers.from bit old.listener new.listener level t0 t1 made.counters.items h.talkers (from_whole 0 old bit t0 made.counters.items held.talkers_shown)));
+          ((shown_alone 0 plan.talkers.items bit level old new t0 t1 c0 c1 made.counters.items h rests).0 (from_whole 0 old bit t0 made.counters.items held.talkers_shown)));
       controllers_shown = subst (AreFrom (length talkers) (members_at new (bit + 1) c1)) (sym counters_are)
           (from_real (length talkers) new (bit + 1) c1 made.counters.items
-          (shown_on (length talkers) old.controllers.from bit old.listener new.listener level c0 c1 made.counters.items h.controllers
+          ((shown_alone (length talkers) plan.talkers.items bit level old new t0 t1 c0 c1 made.counters.items h rests).1
           (subst (λ n. AreFrom n c0 made.counters.items) size (from_whole (length (members_at old bit t0)) old bit c0 made.counters.items held.controllers_shown))));
     })
 
@@ -110,7 +110,7 @@ pub grown_holds : (plan : SegmentPlan) (faults : FaultOrder) (made next : Record
     RestHolds old (length made.levels.items) plan.talkers.items t0 c0 →
     SegmentHolds plan next (members_at new (length next.levels.items) t1) (members_at new (length next.levels.items) c1)
 grown_holds plan faults made next old new t0 t1 c0 c1 h holds still stands rests =
-    holds_quietly plan made next h.level old new t0 t1 c0 c1 holds (grown_kept plan faults made next old new t0 t1 c0 c1 h holds still stands rests) h.sends h.levels_is (ap (λ v. v.items) h.events_is) (ap (λ v. v.items) h.counters_is)
+    holds_quietly plan made next h.level old new t0 t1 c0 c1 holds (grown_kept plan faults made next old new t0 t1 c0 c1 h holds still stands rests) h.sends rests h.levels_is (ap (λ v. v.items) h.events_is) (ap (λ v. v.items) h.counters_is)
 
 -- and its nodes rest on
 pub grown_rests : (plan : SegmentPlan) (faults : FaultOrder) (made next : Record) (old new : Rest) (t0 t1 c0 c1 : List Member) → GrowsQuietly faults made next old new t0 t1 c0 c1 →

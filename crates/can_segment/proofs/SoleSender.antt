@@ -1,13 +1,15 @@
--- A bit at which one node alone sends, and all others rest.
-use Rattle.std.proofs.Common.{◌≡◌, ◌≢◌, ◌⊎◌, ℕ, zero, suc, ◌+◌, ◌≤◌, ◌&&◌, nat_le, cond, Bool, true, false, Some, None, IfSome, Option, List, [], ◌∷◌, length, slice_get, refl, sym, ap, subst, arith, inl, inr, ◌∙◌}
+-- A bit at which one node alone sends, and all others rest but one that is in bus off.
+use Rattle.std.proofs.Common.{◌≡◌, ◌≢◌, ◌⊎◌, ℕ, zero, suc, ◌+◌, ◌<◌, ◌≤◌, ◌&&◌, nat_le, cond, Bool, true, false, Some, None, IfSome, Option, List, [], ◌∷◌, length, slice_get, set, refl, sym, ap, subst, arith, inl, inr, ◌∙◌}
 use Rattle.std.specs.List.{list_all}
 use Rattle.std.proofs.lemmas.Bool.{cases_eq}
 use Rattle.std.proofs.lemmas.Bool.Decides.{leb_tells}
-use Rattle.std.proofs.lemmas.List.{length-map}
+use Rattle.std.proofs.lemmas.List.{length-map, length-set}
 use Rattle.std.proofs.lemmas.Option.{slice_get_past, slice_get_within}
 use Rattle.bx_core.specs.TxBus.{Item, BusPast, BusCall}
 use Rattle.can_frame.specs.Frames.{FrameValue}
-use Rattle.can_node.specs.Node.{IsSample, driven_by, may_begin}
+use Rattle.can_node.specs.Histories.{Past, IsHistory}
+use Rattle.can_node.specs.Node.{IsSample, StandsAfter, bit_of, counters_in, driven_by, may_begin}
+use Rattle.can_node.specs.declared.outcome.Outcome.TheVariants.{Nothing}
 use Rattle.can_confinement.specs.declared.counters.Counters.{Counters}
 use Rattle.can_node.specs.declared.listener.Listener.{Listener}
 use Rattle.can_segment.specs.declared.member.Member.{Member}
@@ -17,86 +19,149 @@ use Rattle.can_segment.specs.Kept.{AreQuiet, IsQuiet}
 use Rattle.can_segment.specs.Members.{PortSettles, PortStarts, Samples, SamplesOn, TalkerStarts, drives_at, is_on, wants_at}
 use Rattle.can_segment.specs.Places.{AtPlaces, AtBoth, MovesOne}
 use Rattle.can_segment.specs.Ports.{item_of}
-use Rattle.can_segment.specs.Rests.{AreResting, AwakeAreQuiet, Drives, IfAwake, IfAwakeBoth, MemberSends, NoneRests, OneSends, OthersRest, RestHolds, RestsThrough, SendsAlone, StartsNone, TransmitsAll, caught_up, members_at, passes, woken}
+use Rattle.can_segment.specs.Rests.{AreApart, AwakeAreQuiet, Drives, GoesQuietly, IfAwake, IfAwakeBoth, MayRecover, MemberRecovers, MemberSends, OneSends, OthersRest, RestHolds, RestsThrough, SendsAlone, StartsNone, TransmitsAll, caught_up, members_at, passes, woken}
 use Rattle.can_segment.specs.Segments.{AreFrom, sending_of_all}
 use Rattle.can_segment.specs.Traces.{completed_by, sending_after}
 use Rattle.can_segment.proofs.NextBits.{some_there}
 use Rattle.can_segment.proofs.Holds.{left_holds, through_holds}
-use Rattle.can_segment.proofs.Places.{same_some}
+use Rattle.can_segment.proofs.Places.{get_set_other, get_set_same, same_some}
 use Rattle.can_segment.proofs.Rests.{all_drive, all_quiet, controllers_sample, controllers_start, members_length, members_sample, talkers_start, transmits_real, wishes_none}
 use Rattle.can_segment.proofs.Shown.{map_at, map_there}
 use Rattle.can_segment.proofs.Spans.{all_pass, within_places}
 use Rattle.can_segment.proofs.Unmoved.{unmoved_requests, unmoved_settles, unmoved_talks}
 use Rattle.can_segment.proofs.Woken.{awake_woken, left_places, others_places, resting_woken, same_list}
 
-still_quiet : (bit : ℕ) (before after : Listener) (level : Bool) (old new : Member) → MemberSends bit before level after old new → IsQuiet new.deed
-still_quiet bit before after level old new h = subst IsQuiet (sym h.deed_is) h.quiet
+-- One that is awake goes on with this level, and nothing is told of it.
+pub record MemberGoes (bit : ℕ) (level : Bool) (old new : Member) : Type 0 where
+  pub awake : old.rests ≡ false
+  pub is_on : old.on ≤ bit
+  pub quiet : IsQuiet old.deed
+  pub begins_none : may_begin old.station.node ≡ false
+  pub samples : IsSample old.station.node level Nothing new.station.node
+  pub history : (past : Past) → StandsAfter new.station.node past → IsHistory past
+  pub bit_is : bit_of new.station.node ≡ bit_of old.station.node + 1
+  pub counts_none : counters_in new.station.node ≡ counters_in old.station.node
+  pub awake_too : new.rests ≡ false
+  pub on_is : new.on ≡ old.on
+  pub deed_is : new.deed ≡ old.deed
+  pub sending_is : new.station.sending ≡ old.station.sending
+  pub completed_is : new.station.completed ≡ old.station.completed
 
-sole_samples_on : (bit : ℕ) (before after : Listener) (level : Bool) (old new : Member) → MemberSends bit before level after old new → SamplesOn level old new
-sole_samples_on bit before after level old new h =
-    let quiet = still_quiet bit before after level old new h in
+goes_sending : (bit : ℕ) (before after : Listener) (level : Bool) (old new : Member) → MemberSends bit before level after old new → MemberGoes bit level old new
+goes_sending bit before after level old new h = record {
+  awake = h.awake;
+  is_on = h.is_on;
+  quiet = h.quiet;
+  begins_none = h.sends.begins_none;
+  samples = h.sends.samples;
+  history = h.sends.history;
+  bit_is = h.sends.bit_is;
+  counts_none = h.sends.counts_none;
+  awake_too = h.awake_too;
+  on_is = h.on_is;
+  deed_is = h.deed_is;
+  sending_is = h.sending_is;
+  completed_is = h.completed_is;
+}
+
+goes_recovering : (bit : ℕ) (level : Bool) (old new : Member) → MemberRecovers bit level old new → MemberGoes bit level old new
+goes_recovering bit level old new h = record {
+  awake = h.may.awake;
+  is_on = h.may.is_on;
+  quiet = h.may.quiet;
+  begins_none = h.recovers.begins_none;
+  samples = h.recovers.samples;
+  history = h.recovers.history;
+  bit_is = h.recovers.bit_is;
+  counts_none = h.recovers.counts_none;
+  awake_too = h.awake_too;
+  on_is = h.on_is;
+  deed_is = h.deed_is;
+  sending_is = h.sending_is;
+  completed_is = h.completed_is;
+}
+
+still_quiet : (bit : ℕ) (level : Bool) (old new : Member) → MemberGoes bit level old new → IsQuiet new.deed
+still_quiet bit level old new h = subst IsQuiet (sym h.deed_is) h.quiet
+
+goes_samples_on : (bit : ℕ) (level : Bool) (old new : Member) → MemberGoes bit level old new → SamplesOn level old new
+goes_samples_on bit level old new h =
+    let quiet = still_quiet bit level old new h in
     let none = quiet.no_end in
     record {
       began_is = ap (λ deed. deed.began) h.deed_is;
       names = inl quiet;
-      stands = subst (λ o. IsSample old.station.node level o new.station.node) (sym none) h.sends.samples;
-      history = h.sends.history;
+      stands = subst (λ o. IsSample old.station.node level o new.station.node) (sym none) h.samples;
+      history = h.history;
       sending_is = h.sending_is ∙ sym (ap (sending_after old.station.sending) none);
       completed_is = omega (arith, h.completed_is, ap completed_by none);
-      bit_is = h.sends.bit_is;
+      bit_is = h.bit_is;
     }
 
-sole_samples : (bit : ℕ) (before after : Listener) (level : Bool) (old new : Member) → MemberSends bit before level after old new → Samples bit level old new
-sole_samples bit before after level old new h = record {
+goes_samples : (bit : ℕ) (level : Bool) (old new : Member) → MemberGoes bit level old new → Samples bit level old new
+goes_samples bit level old new h = record {
   off = λ early. absurd (omega (arith, early, h.is_on));
   on_is = h.on_is;
-  samples = λ late. sole_samples_on bit before after level old new h;
-  reaps_none = λ late. (still_quiet bit before after level old new h).no_reaping;
+  samples = λ late. goes_samples_on bit level old new h;
+  reaps_none = λ late. (still_quiet bit level old new h).no_reaping;
 }
 
--- the one that sends, which is there before and behind
-sends_there : (place bit : ℕ) (before after : Listener) (level : Bool) (old new : List Member) (m : Member) → MovesOne place (MemberSends bit before level after) old new → slice_get old place ≡ Some m →
-    (n : Member) × (slice_get new place ≡ Some n) × MemberSends bit before level after m n
-sends_there place bit before after level old new m moves e =
-    let n = some_there new place (let within = slice_get_within old place m e in omega (arith, within, moves.size)) in
-    (n.0, n.1, moves.at m n.0 e n.1)
+-- those that are awake go on
+abbrev pub AllGo : ℕ → Bool → List Member → List Member → Type 0
+AllGo bit level = AtPlaces (λ k. IfAwake (MemberGoes bit level))
 
--- all others rest, so it alone is awake
-sole_one : (place : ℕ) (members : List Member) (k : ℕ) (m : Member) → OthersRest place members → slice_get members k ≡ Some m → m.rests ≡ false → k ≡ place
-sole_one place members k m others e awake = elim (cases_eq k place) [ inl here ↦ here | inr other ↦ absurd (let is = others k m e other in cc (is, awake)) ]
+going : (bit : ℕ) (level : Bool) (old new : Member) → MemberGoes bit level old new → IfAwake (MemberGoes bit level) old new
+going bit level old new h = let awake = h.awake in record { rests_on = λ e. absurd (cc (e, awake)); stays_awake = λ e. h.awake_too; steps = λ e. h }
 
-pub sole_starts : (place bit : ℕ) (plan : List Talker) (before after : Listener) (level : Bool) (old new : List Member) → OthersRest place old → MovesOne place (MemberSends bit before level after) old new →
-    AtPlaces (λ k. IfAwake (TalkerStarts bit plan k)) old old
-sole_starts place bit plan before after level old new others moves = record {
+resting_on : (bit : ℕ) (level : Bool) (old new : Member) → new ≡ old → old.rests ≡ true → IfAwake (MemberGoes bit level) old new
+resting_on bit level old new same is = record { rests_on = λ e. same; stays_awake = λ e. absurd (cc (e, is)); steps = λ e. absurd (cc (e, is)) }
+
+pub controllers_go : (place bit : ℕ) (before after : Listener) (level : Bool) (old new : List Member) → OthersRest place place old → MovesOne place (MemberSends bit before level after) old new → AllGo bit level old new
+controllers_go place bit before after level old new others moves = record {
+  at = λ k a b p q. elim (cases_eq k place) [
+    | inl here ↦ going bit level a b (goes_sending bit before after level a b (moves.at a b (ap (slice_get old) (sym here) ∙ p) (ap (slice_get new) (sym here) ∙ q)))
+    | inr other ↦ resting_on bit level a b (same_some b a (sym q ∙ moves.others k other ∙ p)) (others k a p other other)
+  ];
+  size = moves.size;
+}
+
+pub talkers_go : (sender off bit : ℕ) (before after : Listener) (level : Bool) (old mid new : List Member) → OthersRest sender off old → AreApart sender off old → MovesOne sender (MemberSends bit before level after) old mid →
+    MovesOne off (MemberRecovers bit level) mid new → AllGo bit level old new
+talkers_go sender off bit before after level old mid new others apart sends recovers = record {
+  at = λ k a b p q.
+      let there = slice_get_within old k a p in
+      let x = some_there mid k (omega (arith, there, sends.size)) in
+      elim (cases_eq k sender) [
+        | inl here ↦ (let not : k ≢ off = λ is. elim apart [ inl apart ↦ apart (sym here ∙ is) | inr past ↦ omega (arith, there, is, past) ] in
+            let same : b ≡ x.0 = same_some b x.0 (sym q ∙ recovers.others k not ∙ x.1) in
+            going bit level a b (goes_sending bit before after level a b (subst (MemberSends bit before level after a) (sym same) (sends.at a x.0 (ap (slice_get old) (sym here) ∙ p) (ap (slice_get mid) (sym here) ∙ x.1)))))
+        | inr other ↦ (let still = sends.others k other ∙ p in elim (cases_eq k off) [
+          | inl here ↦ going bit level a b (goes_recovering bit level a b (recovers.at a b (ap (slice_get mid) (sym here) ∙ still) (ap (slice_get new) (sym here) ∙ q)))
+          | inr not ↦ resting_on bit level a b (same_some b a (sym q ∙ recovers.others k not ∙ still)) (others k a p other not)
+        ])
+      ];
+  size = recovers.size ∙ sends.size;
+}
+
+-- so they start nothing,
+pub go_starts : (bit : ℕ) (level : Bool) (plan : List Talker) (old new : List Member) → AllGo bit level old new → AtPlaces (λ k. IfAwake (TalkerStarts bit plan k)) old old
+go_starts bit level plan old new go = record {
   at = λ k a b p q.
       let same : b ≡ a = same_some b a (sym q ∙ p) in
       record {
         rests_on = λ e. same;
         stays_awake = λ e. ap (λ m. m.rests) same ∙ e;
         steps = λ e.
-            let here = sole_one place old k a others p e in
-            let h = (sends_there place bit before after level old new a moves (ap (slice_get old) (sym here) ∙ p)).2 in
-            subst (TalkerStarts bit plan k a) (sym same) (unmoved_talks bit plan k a h.sends.begins_none h.quiet);
+            let n = some_there new k (let there = slice_get_within old k a p in omega (arith, there, go.size)) in
+            let h = (go.at k a n.0 p n.1).steps e in
+            subst (TalkerStarts bit plan k a) (sym same) (unmoved_talks bit plan k a h.begins_none h.quiet);
       };
   size = refl;
 }
 
-pub sole_moves : (place bit : ℕ) (before after : Listener) (level : Bool) (old new : List Member) → OthersRest place old → MovesOne place (MemberSends bit before level after) old new → AtPlaces (λ k. IfAwake (Samples bit level)) old new
-sole_moves place bit before after level old new others moves = record {
-  at = λ k a b p q. elim (cases_eq k place) [
-    | inl here ↦ (let h = moves.at a b (ap (slice_get old) (sym here) ∙ p) (ap (slice_get new) (sym here) ∙ q) in
-        let awake = h.awake in
-        record { rests_on = λ e. absurd (cc (e, awake)); stays_awake = λ e. h.awake_too; steps = λ e. sole_samples bit before after level a b h })
-    | inr other ↦ (let same : b ≡ a = same_some b a (sym q ∙ moves.others k other ∙ p) in
-        let is = others k a p other in
-        record { rests_on = λ e. same; stays_awake = λ e. absurd (cc (e, is)); steps = λ e. absurd (cc (e, is)) })
-  ];
-  size = moves.size;
-}
-
-pub sole_requests : {P : Type 0} (after : P → BusPast → Type 0) (asked : P → List BusCall → Type 0) (transmitting : P → Option Item) (stays : P → P → Type 0) (place bit : ℕ) (before behind : Listener) (level : Bool) (old new : List Member) (ports : List P) →
-    ((x : P) → stays x x) → OthersRest place old → MovesOne place (MemberSends bit before level behind) old new → TransmitsAll transmitting old ports → AtBoth (λ k. IfAwakeBoth (PortStarts after asked transmitting stays bit)) old old ports ports
-sole_requests after asked transmitting stays place bit before behind level old new ports same others moves sends = record {
+pub go_requests : {P : Type 0} (after : P → BusPast → Type 0) (asked : P → List BusCall → Type 0) (transmitting : P → Option Item) (stays : P → P → Type 0) (bit : ℕ) (level : Bool) (old new : List Member) (ports : List P) → ((x : P) → stays x x) →
+    AllGo bit level old new → TransmitsAll transmitting old ports → AtBoth (λ k. IfAwakeBoth (PortStarts after asked transmitting stays bit)) old old ports ports
+go_requests after asked transmitting stays bit level old new ports same go sends = record {
   at = λ k a b p q ea eb ep eq.
       let same_member : b ≡ a = same_some b a (sym eb ∙ ea) in
       let same_port : q ≡ p = same_some q p (sym eq ∙ ep) in
@@ -104,48 +169,59 @@ sole_requests after asked transmitting stays place bit before behind level old n
         rests_on = λ e. (same_member, same_port);
         stays_awake = λ e. ap (λ m. m.rests) same_member ∙ e;
         steps = λ e.
-            let here = sole_one place old k a others ea e in
-            let h = (sends_there place bit before behind level old new a moves (ap (slice_get old) (sym here) ∙ ea)).2 in
+            let n = some_there new k (let there = slice_get_within old k a ea in omega (arith, there, go.size)) in
+            let h = (go.at k a n.0 ea n.1).steps e in
             subst (λ m. PortStarts after asked transmitting stays bit a m p q) (sym same_member)
-            (subst (PortStarts after asked transmitting stays bit a a p) (sym same_port) (unmoved_requests after asked transmitting stays bit a p h.sends.begins_none h.quiet (sends k a p ea ep) (same p)));
+            (subst (PortStarts after asked transmitting stays bit a a p) (sym same_port) (unmoved_requests after asked transmitting stays bit a p h.begins_none h.quiet (sends k a p ea ep) (same p)));
       };
   size = refl;
   size_too = refl;
 }
 
-pub sole_settles : {P : Type 0} (after : P → BusPast → Type 0) (asked : P → List BusCall → Type 0) (transmitting : P → Option Item) (sink : P → List FrameValue → Type 0) (stays : P → P → Type 0) (place bit : ℕ) (before behind : Listener) (level : Bool)
-    (old new : List Member) (ports : List P) → ((x : P) → stays x x) → OthersRest place old → MovesOne place (MemberSends bit before level behind) old new → TransmitsAll transmitting old ports →
-    AtBoth (λ k. IfAwakeBoth (PortSettles after asked transmitting sink stays bit level)) old new ports ports
-sole_settles after asked transmitting sink stays place bit before behind level old new ports same others moves sends = record {
+-- sample the level,
+pub go_samples : (bit : ℕ) (level : Bool) (old new : List Member) → AllGo bit level old new → AtPlaces (λ k. IfAwake (Samples bit level)) old new
+go_samples bit level old new go = record {
+  at = λ k a b p q. let s = go.at k a b p q in record { rests_on = s.rests_on; stays_awake = s.stays_awake; steps = λ e. goes_samples bit level a b (s.steps e) };
+  size = go.size;
+}
+
+pub go_settles : {P : Type 0} (after : P → BusPast → Type 0) (asked : P → List BusCall → Type 0) (transmitting : P → Option Item) (sink : P → List FrameValue → Type 0) (stays : P → P → Type 0) (bit : ℕ) (level : Bool) (old new : List Member) (ports : List P) →
+    ((x : P) → stays x x) → AllGo bit level old new → TransmitsAll transmitting old ports → AtBoth (λ k. IfAwakeBoth (PortSettles after asked transmitting sink stays bit level)) old new ports ports
+go_settles after asked transmitting sink stays bit level old new ports same go sends = record {
   at = λ k a b p q ea eb ep eq.
       let same_port : q ≡ p = same_some q p (sym eq ∙ ep) in
-      elim (cases_eq k place) [
-        | inl here ↦ (let h = moves.at a b (ap (slice_get old) (sym here) ∙ ea) (ap (slice_get new) (sym here) ∙ eb) in
-            let awake = h.awake in
-            record {
-              rests_on = λ e. absurd (cc (e, awake));
-              stays_awake = λ e. h.awake_too;
-              steps = λ e.
-                  subst (PortSettles after asked transmitting sink stays bit level a b p) (sym same_port)
-                  (unmoved_settles after asked transmitting sink stays bit level a b p h.is_on h.on_is (sole_samples_on bit before behind level a b h) (still_quiet bit before behind level a b h)
-                  (sends k a p ea ep ∙ ap item_of (sym h.sending_is)) (same p));
-            })
-        | inr other ↦ (let same_member : b ≡ a = same_some b a (sym eb ∙ moves.others k other ∙ ea) in
-            let is = others k a ea other in
-            record { rests_on = λ e. (same_member, same_port); stays_awake = λ e. absurd (cc (e, is)); steps = λ e. absurd (cc (e, is)) })
-      ];
-  size = moves.size;
+      let s = go.at k a b ea eb in
+      record {
+        rests_on = λ e. (s.rests_on e, same_port);
+        stays_awake = s.stays_awake;
+        steps = λ e.
+            let h = s.steps e in
+            subst (PortSettles after asked transmitting sink stays bit level a b p) (sym same_port)
+            (unmoved_settles after asked transmitting sink stays bit level a b p h.is_on h.on_is (goes_samples_on bit level a b h) (still_quiet bit level a b h) (sends k a p ea ep ∙ ap item_of (sym h.sending_is)) (same p));
+      };
+  size = go.size;
   size_too = refl;
 }
 
--- nothing is told of it
-pub sole_quiet : (place bit : ℕ) (before after : Listener) (level : Bool) (old new : List Member) → OthersRest place old → MovesOne place (MemberSends bit before level after) old new → AwakeAreQuiet bit new
-sole_quiet place bit before after level old new others moves k m e awake on =
-    let a = some_there old k (let within = slice_get_within new k m e in omega (arith, within, moves.size)) in
-    elim (cases_eq k place) [
-      | inl here ↦ still_quiet bit before after level a.0 m (moves.at a.0 m (ap (slice_get old) (sym here) ∙ a.1) (ap (slice_get new) (sym here) ∙ e))
-      | inr other ↦ absurd (let is = others k m (sym (moves.others k other) ∙ e) other in cc (is, awake))
-    ]
+-- nothing is told of them,
+pub go_quiet : (bit : ℕ) (level : Bool) (old new : List Member) → AllGo bit level old new → AwakeAreQuiet bit new
+go_quiet bit level old new go k m e awake on =
+    let a = some_there old k (let there = slice_get_within new k m e in omega (arith, there, go.size)) in
+    by a.0 (go.at k a.0 m a.1 e) a.0.rests refl
+  where
+    by : (a : Member) → IfAwake (MemberGoes bit level) a m → (b : Bool) → a.rests ≡ b → IsQuiet m.deed
+    by a s true is = let same = ap (λ y. y.rests) (s.rests_on is) in absurd (cc (awake, same, is))
+    by a s false is = still_quiet bit level a m (s.steps is)
+
+-- and counters that are shown of them stay shown
+pub go_shown : (first bit : ℕ) (level : Bool) (old new : List Member) (counters : List Counters) → AllGo bit level old new → AreFrom first old counters → AreFrom first new counters
+go_shown first bit level old new counters go h k m shown e f =
+    let a = some_there old k (let there = slice_get_within new k m e in omega (arith, there, go.size)) in
+    h k a.0 shown a.1 f ∙ by a.0 (go.at k a.0 m a.1 e) a.0.rests refl
+  where
+    by : (a : Member) → IfAwake (MemberGoes bit level) a m → (b : Bool) → a.rests ≡ b → counters_in a.station.node ≡ counters_in m.station.node
+    by a s true is = ap (λ y. counters_in y.station.node) (sym (s.rests_on is))
+    by a s false is = sym (s.steps is).counts_none
 
 -- the one's level is that of the line
 sole_level : (place bit : ℕ) (before after : Listener) (level : Bool) (old new : List Member) → OneSends place bit before level after old new → level ≡ passes (drives_at bit) (slice_get old place)
@@ -177,26 +253,51 @@ one_passes test place [] h = refl
 one_passes test zero (x ∷ xs) h = ap (λ b. test x && b) (all_pass test xs (λ k m e. h (suc k) m e (λ is. omega (arith, is)))) ∙ and_only (test x)
 one_passes test (suc place) (x ∷ xs) h = ap (λ b. b && list_all test xs) (h zero x refl (λ is. omega (arith, is))) ∙ one_passes test place xs (λ k m e not. h (suc k) m e (λ is. not (omega (arith, is))))
 
-sole_drives : (place bit : ℕ) (members : List Member) → OthersRest place members → ((m : Member) → slice_get members place ≡ Some m → m.rests ≡ false) →
-    list_all (λ m. cond m.rests true (drives_at bit m)) members ≡ passes (drives_at bit) (slice_get members place)
-sole_drives place bit members others awake =
-    one_passes (λ m. cond m.rests true (drives_at bit m)) place members (λ k m e not. ap (λ b. cond b true (drives_at bit m)) (others k m e not)) ∙ by (slice_get members place) refl
+sole_drives : (sender off bit : ℕ) (members : List Member) → OthersRest sender off members → ((m : Member) → slice_get members sender ≡ Some m → m.rests ≡ false) → ((m : Member) → slice_get members off ≡ Some m → off ≢ sender → drives_at bit m ≡ true) →
+    list_all (λ m. cond m.rests true (drives_at bit m)) members ≡ passes (drives_at bit) (slice_get members sender)
+sole_drives sender off bit members others awake recessive =
+    one_passes (λ m. cond m.rests true (drives_at bit m)) sender members (λ k m e not. elim (cases_eq k off) [
+      | inl here ↦ drives m m.rests (recessive m (ap (slice_get members) (sym here) ∙ e) (λ is. not (here ∙ is)))
+      | inr other ↦ ap (λ b. cond b true (drives_at bit m)) (others k m e not other)
+    ]) ∙ by (slice_get members sender) refl
   where
-    by : (found : Option Member) → slice_get members place ≡ found → passes (λ m. cond m.rests true (drives_at bit m)) found ≡ passes (drives_at bit) found
+    drives : (m : Member) (rests : Bool) → drives_at bit m ≡ true → cond rests true (drives_at bit m) ≡ true
+    drives m true is = refl
+    drives m false is = is
+
+    by : (found : Option Member) → slice_get members sender ≡ found → passes (λ m. cond m.rests true (drives_at bit m)) found ≡ passes (drives_at bit) found
     by None e = refl
     by (Some m) e = ap (λ b. cond b true (drives_at bit m)) (awake m e)
 
 -- the one that sends is awake
+sends_there : (place bit : ℕ) (before after : Listener) (level : Bool) (old new : List Member) (m : Member) → MovesOne place (MemberSends bit before level after) old new → slice_get old place ≡ Some m →
+    (n : Member) × (slice_get new place ≡ Some n) × MemberSends bit before level after m n
+sends_there place bit before after level old new m moves e =
+    let n = some_there new place (let within = slice_get_within old place m e in omega (arith, within, moves.size)) in
+    (n.0, n.1, moves.at m n.0 e n.1)
+
 sole_awake : (place bit : ℕ) (before after : Listener) (level : Bool) (old new : List Member) → MovesOne place (MemberSends bit before level after) old new → (m : Member) → slice_get old place ≡ Some m → m.rests ≡ false
 sole_awake place bit before after level old new moves m e = (sends_there place bit before after level old new m moves e).2.awake
 
+-- the one in bus off drives recessive
+off_drives : (off bit : ℕ) (level : Bool) (mid new : List Member) → MovesOne off (MemberRecovers bit level) mid new → (m : Member) → slice_get mid off ≡ Some m → drives_at bit m ≡ true
+off_drives off bit level mid new moves m e =
+    let n = some_there new off (let within = slice_get_within mid off m e in omega (arith, within, moves.size)) in
+    driven (is_on bit m) (moves.at m n.0 e n.1).recovers.drives
+  where
+    driven : (on : Bool) → driven_by m.station.node ≡ true → cond on (driven_by m.station.node) true ≡ true
+    driven true is = is
+    driven false is = refl
+
 rests_through_alone : (rest : Rest) (place bit : ℕ) (after : Listener) (level : Bool) (old new : List Member) → OneSends place bit rest.listener level after old new →
-    RestsThrough bit level rest (record { listener = after; resting = rest.resting; known = rest.known; spent = rest.spent; talkers = rest.talkers; controllers = rest.controllers; few = rest.few; steady = rest.steady })
+    RestsThrough bit level rest (record { listener = after; resting = rest.resting; known = rest.known; spent = rest.spent; talkers = rest.talkers; controllers = rest.controllers; few = rest.few; sender = rest.sender; off = rest.off; steady = rest.steady })
 rests_through_alone rest place bit after level old new h = record {
   resting = refl;
   talkers_is = refl;
   controllers_is = refl;
   few_is = refl;
+  sender_is = refl;
+  off_is = refl;
   known_is = refl;
   spent_is = refl;
   follows = h.step.sends.follows rest.known bit;
@@ -206,51 +307,43 @@ rests_through_alone rest place bit after level old new h = record {
 drives_alone : (rest : Rest) (place bit : ℕ) (after : Listener) (level : Bool) (old new : List Member) → OneSends place bit rest.listener level after old new → Drives rest true
 drives_alone rest place bit after level old new h = λ listening node at. sym (h.step.sends.others_drive node at)
 
-pub talker_alone : (rest : Rest) (bit : ℕ) (after : Listener) (level : Bool) (t0 t1 c : List Member) → rest.few ≡ true → length c ≤ rest.controllers.from → OneSends rest.talkers.from bit rest.listener level after t0 t1 →
-    SendsAlone bit level rest (record { listener = after; resting = rest.resting; known = rest.known; spent = rest.spent; talkers = rest.talkers; controllers = rest.controllers; few = rest.few; steady = rest.steady }) t0 t1 c c
+pub talker_alone : (rest : Rest) (bit : ℕ) (after : Listener) (level : Bool) (t0 t1 c : List Member) → rest.few ≡ true → length c ≤ rest.controllers.from → OneSends rest.sender bit rest.listener level after t0 t1 →
+    SendsAlone bit level rest (record { listener = after; resting = rest.resting; known = rest.known; spent = rest.spent; talkers = rest.talkers; controllers = rest.controllers; few = rest.few; sender = rest.sender; off = rest.off; steady = rest.steady }) t0 t1 c c
 talker_alone rest bit after level t0 t1 c few past h = record {
   few = few;
   starts_none = inr h.step.sends.others_begin;
-  through = rests_through_alone rest rest.talkers.from bit after level t0 t1 h;
-  drives = drives_alone rest rest.talkers.from bit after level t0 t1 h;
+  through = rests_through_alone rest rest.sender bit after level t0 t1 h;
+  drives = drives_alone rest rest.sender bit after level t0 t1 h;
   talkers = h.moves;
   controllers = none_moves rest.controllers.from (MemberSends bit rest.listener level after) c past;
-  level_is = sole_level rest.talkers.from bit rest.listener after level t0 t1 h ∙ sym (and_true (passes (drives_at bit) (slice_get t0 rest.talkers.from)))
-      ∙ ap (λ b. passes (drives_at bit) (slice_get t0 rest.talkers.from) && b) (sym (none_passes rest.controllers.from bit c past));
+  level_is = sole_level rest.sender bit rest.listener after level t0 t1 h ∙ sym (and_true (passes (drives_at bit) (slice_get t0 rest.sender)))
+      ∙ ap (λ b. passes (drives_at bit) (slice_get t0 rest.sender) && b) (sym (none_passes rest.controllers.from bit c past));
 }
 
-pub controller_alone : (rest : Rest) (bit : ℕ) (after : Listener) (level : Bool) (t c0 c1 : List Member) → rest.few ≡ true → length t ≤ rest.talkers.from → OneSends rest.controllers.from bit rest.listener level after c0 c1 →
-    SendsAlone bit level rest (record { listener = after; resting = rest.resting; known = rest.known; spent = rest.spent; talkers = rest.talkers; controllers = rest.controllers; few = rest.few; steady = rest.steady }) t t c0 c1
+pub controller_alone : (rest : Rest) (bit : ℕ) (after : Listener) (level : Bool) (t c0 c1 : List Member) → rest.few ≡ true → length t ≤ rest.sender → OneSends rest.controllers.from bit rest.listener level after c0 c1 →
+    SendsAlone bit level rest (record { listener = after; resting = rest.resting; known = rest.known; spent = rest.spent; talkers = rest.talkers; controllers = rest.controllers; few = rest.few; sender = rest.sender; off = rest.off; steady = rest.steady }) t t c0 c1
 controller_alone rest bit after level t c0 c1 few past h = record {
   few = few;
   starts_none = inr h.step.sends.others_begin;
   through = rests_through_alone rest rest.controllers.from bit after level c0 c1 h;
   drives = drives_alone rest rest.controllers.from bit after level c0 c1 h;
-  talkers = none_moves rest.talkers.from (MemberSends bit rest.listener level after) t past;
+  talkers = none_moves rest.sender (MemberSends bit rest.listener level after) t past;
   controllers = h.moves;
-  level_is = sole_level rest.controllers.from bit rest.listener after level c0 c1 h ∙ ap (λ b. b && passes (drives_at bit) (slice_get c0 rest.controllers.from)) (sym (none_passes rest.talkers.from bit t past));
+  level_is = sole_level rest.controllers.from bit rest.listener after level c0 c1 h ∙ ap (λ b. b && passes (drives_at bit) (slice_get c0 rest.controllers.from)) (sym (none_passes rest.sender bit t past));
 }
 
 -- all rest, and the line is recessive
-pub none_alone : (old new : Rest) (bit : ℕ) (level : Bool) (t c : List Member) → old.few ≡ true → length t ≤ old.talkers.from → length c ≤ old.controllers.from → StartsNone old → Drives old level → level ≡ true → RestsThrough bit level old new →
+pub none_alone : (old new : Rest) (bit : ℕ) (level : Bool) (t c : List Member) → old.few ≡ true → length t ≤ old.sender → length c ≤ old.controllers.from → StartsNone old → Drives old level → level ≡ true → RestsThrough bit level old new →
     SendsAlone bit level old new t t c c
 none_alone old new bit level t c few no_talker no_controller starts drives is through = record {
   few = few;
   starts_none = starts;
   through = through;
   drives = subst (Drives old) is drives;
-  talkers = none_moves old.talkers.from (MemberSends bit old.listener level new.listener) t no_talker;
+  talkers = none_moves old.sender (MemberSends bit old.listener level new.listener) t no_talker;
   controllers = none_moves old.controllers.from (MemberSends bit old.listener level new.listener) c no_controller;
-  level_is = is ∙ ap (λ b. b && true) (sym (none_passes old.talkers.from bit t no_talker)) ∙ ap (λ b. passes (drives_at bit) (slice_get t old.talkers.from) && b) (sym (none_passes old.controllers.from bit c no_controller));
+  level_is = is ∙ ap (λ b. b && true) (sym (none_passes old.sender bit t no_talker)) ∙ ap (λ b. passes (drives_at bit) (slice_get t old.sender) && b) (sym (none_passes old.controllers.from bit c no_controller));
 }
-
--- counters that are shown of nodes stay shown
-pub shown_on : (first place bit : ℕ) (before after : Listener) (level : Bool) (old new : List Member) (counters : List Counters) → MovesOne place (MemberSends bit before level after) old new → AreFrom first old counters → AreFrom first new counters
-shown_on first place bit before after level old new counters moves h k m shown e f = elim (cases_eq k place) [
-  | inl here ↦ (let a = some_there old k (let within = slice_get_within new k m e in omega (arith, within, moves.size)) in
-      h k a.0 shown a.1 f ∙ sym (moves.at a.0 m (ap (slice_get old) (sym here) ∙ a.1) (ap (slice_get new) (sym here) ∙ e)).sends.counts_none)
-  | inr other ↦ h k m shown (sym (moves.others k other) ∙ e) f
-]
 
 pub if_some : {A : Type 0} (P Q : A → Type 0) (o : Option A) → ((x : A) → P x → Q x) → IfSome o P → IfSome o Q
 if_some P Q None h given = tt
@@ -260,67 +353,114 @@ pub both_if_some : {A : Type 0} (P Q R : A → Type 0) (o : Option A) → ((x : 
 both_if_some P Q R None h one other = tt
 both_if_some P Q R (Some x) h one other = h x one other
 
+-- no talker is in bus off
+pub none_recovers : (bit : ℕ) (level : Bool) (old new : Rest) (t0 t1 c0 c1 : List Member) → length t0 ≤ old.off → SendsAlone bit level old new t0 t1 c0 c1 → GoesQuietly bit level old new t0 t1 c0 c1
+none_recovers bit level old new t0 t1 c0 c1 none h = record {
+  mid = t1;
+  sends = h;
+  recovers = record { at = λ a b p q. absurd (let within = slice_get_within t1 old.off a p in omega (arith, within, none, h.talkers.size)); others = λ k not. refl; size = refl };
+}
+
+-- one is, and has sampled the level behind the one that sends
+pub recovered_beside : (bit : ℕ) (level : Bool) (old new : Rest) (t0 t1 c0 c1 : List Member) (before then after : Member) → old.off < length t0 → AreApart old.sender old.off t0 → slice_get t0 old.off ≡ Some before → slice_get t1 old.off ≡ Some then →
+    MayRecover bit before → SendsAlone bit level old new t0 t1 c0 c1 → ((at : ℕ) → MayRecover at then → MemberRecovers at level then after) → GoesQuietly bit level old new t0 (set t1 old.off after) c0 c1
+recovered_beside bit level old new t0 t1 c0 c1 before then after there apart here later may sends recovers =
+    let not : old.off ≢ old.sender = λ is. elim apart [ inl apart ↦ apart (sym is) | inr past ↦ omega (arith, there, past) ] in
+    let same : before ≡ then = same_some before then (sym here ∙ sym (sends.talkers.others old.off not) ∙ later) in
+    let step = recovers bit (subst (MayRecover bit) same may) in
+    record {
+      mid = t1;
+      sends = sends;
+      recovers = record {
+        at = λ a b p q.
+            let same_a : then ≡ a = same_some then a (sym later ∙ p) in
+            let same_b : after ≡ b = same_some after b (sym (get_set_same t1 old.off after (omega (arith, there, sends.talkers.size))) ∙ q) in
+            subst (λ m. MemberRecovers bit level m b) same_a (subst (MemberRecovers bit level then) same_b step);
+        others = λ k other. get_set_other t1 old.off k after other;
+        size = length-set t1 old.off after;
+      };
+    }
+
 -- what all do at such a bit
-pub talkers_start_alone : (plan : List Talker) (bit : ℕ) (level : Bool) (old new : Rest) (t0 t1 c0 c1 : List Member) → SendsAlone bit level old new t0 t1 c0 c1 → RestHolds old bit plan t0 c0 →
+talkers_all_go : (plan : List Talker) (bit : ℕ) (level : Bool) (old new : Rest) (t0 t1 c0 c1 : List Member) → GoesQuietly bit level old new t0 t1 c0 c1 → RestHolds old bit plan t0 c0 → AllGo bit level t0 t1
+talkers_all_go plan bit level old new t0 t1 c0 c1 h rests =
+    let few = h.sends.few in
+    talkers_go old.sender old.off bit old.listener new.listener level t0 h.mid t1 (rests.other_talkers few) (rests.apart few) h.sends.talkers h.recovers
+
+controllers_all_go : (plan : List Talker) (bit : ℕ) (level : Bool) (old new : Rest) (t0 t1 c0 c1 : List Member) → GoesQuietly bit level old new t0 t1 c0 c1 → RestHolds old bit plan t0 c0 → AllGo bit level c0 c1
+controllers_all_go plan bit level old new t0 t1 c0 c1 h rests = controllers_go old.controllers.from bit old.listener new.listener level c0 c1 (rests.other_controllers h.sends.few) h.sends.controllers
+
+pub talkers_start_alone : (plan : List Talker) (bit : ℕ) (level : Bool) (old new : Rest) (t0 t1 c0 c1 : List Member) → GoesQuietly bit level old new t0 t1 c0 c1 → RestHolds old bit plan t0 c0 →
     AtPlaces (TalkerStarts bit plan) (members_at old bit t0) (members_at old bit t0)
 talkers_start_alone plan bit level old new t0 t1 c0 c1 h rests =
-    talkers_start old bit plan t0 t0 h.starts_none rests.talkers_rest rests.talkers_spent (sole_starts old.talkers.from bit plan old.listener new.listener level t0 t1 (rests.other_talkers h.few) h.talkers)
+    talkers_start old bit plan t0 t0 h.sends.starts_none rests.talkers_rest rests.talkers_spent (go_starts bit level plan t0 t1 (talkers_all_go plan bit level old new t0 t1 c0 c1 h rests))
 
-pub talkers_sample_alone : (plan : List Talker) (bit : ℕ) (level : Bool) (old new : Rest) (t0 t1 c0 c1 : List Member) → SendsAlone bit level old new t0 t1 c0 c1 → RestHolds old bit plan t0 c0 →
+pub talkers_sample_alone : (plan : List Talker) (bit : ℕ) (level : Bool) (old new : Rest) (t0 t1 c0 c1 : List Member) → GoesQuietly bit level old new t0 t1 c0 c1 → RestHolds old bit plan t0 c0 →
     AtPlaces (λ k. Samples bit level) (members_at old bit t0) (members_at new (bit + 1) t1)
 talkers_sample_alone plan bit level old new t0 t1 c0 c1 h rests =
-    members_sample old new bit 0 level [] t0 t1 rests.talkers_rest (λ k m e is. refl) (λ k m e is. h.through) (sole_moves old.talkers.from bit old.listener new.listener level t0 t1 (rests.other_talkers h.few) h.talkers)
+    members_sample old new bit 0 level [] t0 t1 rests.talkers_rest (λ k m e is. refl) (λ k m e is. h.sends.through) (go_samples bit level t0 t1 (talkers_all_go plan bit level old new t0 t1 c0 c1 h rests))
 
 pub controllers_start_alone : {P : Type 0} (after : P → BusPast → Type 0) (asked : P → List BusCall → Type 0) (transmitting : P → Option Item) (stays : P → P → Type 0) (plan : List Talker) (bit : ℕ) (level : Bool) (old new : Rest)
-    (t0 t1 c0 c1 : List Member) (ports : List P) → ((x : P) → stays x x) → SendsAlone bit level old new t0 t1 c0 c1 → RestHolds old bit plan t0 c0 → TransmitsAll transmitting (members_at old bit c0) ports → length ports ≡ length c0 →
+    (t0 t1 c0 c1 : List Member) (ports : List P) → ((x : P) → stays x x) → GoesQuietly bit level old new t0 t1 c0 c1 → RestHolds old bit plan t0 c0 → TransmitsAll transmitting (members_at old bit c0) ports → length ports ≡ length c0 →
     AtBoth (λ k. PortStarts after asked transmitting stays bit) (members_at old bit c0) (members_at old bit c0) ports ports
 controllers_start_alone after asked transmitting stays plan bit level old new t0 t1 c0 c1 ports same h rests whole sizes =
     let sends = transmits_real transmitting old bit c0 ports whole in
-    controllers_start after asked transmitting stays old bit c0 c0 ports ports same h.starts_none rests.controllers_rest rests.controllers_awake sends sizes
-    (sole_requests after asked transmitting stays old.controllers.from bit old.listener new.listener level c0 c1 ports same (rests.other_controllers h.few) h.controllers sends)
+    controllers_start after asked transmitting stays old bit c0 c0 ports ports same h.sends.starts_none rests.controllers_rest rests.controllers_awake sends sizes
+    (go_requests after asked transmitting stays bit level c0 c1 ports same (controllers_all_go plan bit level old new t0 t1 c0 c1 h rests) sends)
 
 pub controllers_settle_alone : {P : Type 0} (after : P → BusPast → Type 0) (asked : P → List BusCall → Type 0) (transmitting : P → Option Item) (sink : P → List FrameValue → Type 0) (stays : P → P → Type 0) (plan : List Talker) (bit : ℕ) (level : Bool)
-    (old new : Rest) (t0 t1 c0 c1 : List Member) (ports : List P) → ((x : P) → stays x x) → SendsAlone bit level old new t0 t1 c0 c1 → RestHolds old bit plan t0 c0 → TransmitsAll transmitting (members_at old bit c0) ports → length ports ≡ length c0 →
+    (old new : Rest) (t0 t1 c0 c1 : List Member) (ports : List P) → ((x : P) → stays x x) → GoesQuietly bit level old new t0 t1 c0 c1 → RestHolds old bit plan t0 c0 → TransmitsAll transmitting (members_at old bit c0) ports → length ports ≡ length c0 →
     AtBoth (λ k. PortSettles after asked transmitting sink stays bit level) (members_at old bit c0) (members_at new (bit + 1) c1) ports ports
 controllers_settle_alone after asked transmitting sink stays plan bit level old new t0 t1 c0 c1 ports same h rests whole sizes =
     let sends = transmits_real transmitting old bit c0 ports whole in
-    controllers_sample after asked transmitting sink stays old new bit 0 level [] c0 c1 ports ports same rests.controllers_rest (λ k m e is. refl) (λ k m e is. h.through) sends sizes
-    (sole_settles after asked transmitting sink stays old.controllers.from bit old.listener new.listener level c0 c1 ports same (rests.other_controllers h.few) h.controllers sends)
+    controllers_sample after asked transmitting sink stays old new bit 0 level [] c0 c1 ports ports same rests.controllers_rest (λ k m e is. refl) (λ k m e is. h.sends.through) sends sizes
+    (go_settles after asked transmitting sink stays bit level c0 c1 ports same (controllers_all_go plan bit level old new t0 t1 c0 c1 h rests) sends)
 
 -- the line has the AND of what all drive
-pub level_alone : (plan : List Talker) (bit : ℕ) (level : Bool) (old new : Rest) (t0 t1 c0 c1 : List Member) → SendsAlone bit level old new t0 t1 c0 c1 → RestHolds old bit plan t0 c0 →
+pub level_alone : (plan : List Talker) (bit : ℕ) (level : Bool) (old new : Rest) (t0 t1 c0 c1 : List Member) → GoesQuietly bit level old new t0 t1 c0 c1 → RestHolds old bit plan t0 c0 →
     level ≡ (list_all (drives_at bit) (members_at old bit t0) && list_all (drives_at bit) (members_at old bit c0))
 level_alone plan bit level old new t0 t1 c0 c1 h rests =
-    let talkers = sole_drives old.talkers.from bit t0 (rests.other_talkers h.few) (sole_awake old.talkers.from bit old.listener new.listener level t0 t1 h.talkers) in
-    let controllers = sole_drives old.controllers.from bit c0 (rests.other_controllers h.few) (sole_awake old.controllers.from bit old.listener new.listener level c0 c1 h.controllers) in
-    h.level_is
-    ∙ ap (λ b. b && passes (drives_at bit) (slice_get c0 old.controllers.from)) (sym talkers ∙ all_drive old bit true t0 h.drives rests.talkers_rest)
-    ∙ ap (λ b. list_all (drives_at bit) (members_at old bit t0) && b) (sym controllers ∙ all_drive old bit true c0 h.drives rests.controllers_rest)
+    let sends = h.sends in
+    let place = old.controllers.from in
+    let talkers = sole_drives old.sender old.off bit t0 (rests.other_talkers sends.few) (sole_awake old.sender bit old.listener new.listener level t0 h.mid sends.talkers)
+    (λ m e not. off_drives old.off bit level h.mid t1 h.recovers m (sends.talkers.others old.off not ∙ e)) in
+    let controllers = sole_drives place place bit c0 (rests.other_controllers sends.few) (sole_awake place bit old.listener new.listener level c0 c1 sends.controllers) (λ m e not. absurd (not refl)) in
+    sends.level_is
+    ∙ ap (λ b. b && passes (drives_at bit) (slice_get c0 place)) (sym talkers ∙ all_drive old bit true t0 sends.drives rests.talkers_rest)
+    ∙ ap (λ b. list_all (drives_at bit) (members_at old bit t0) && b) (sym controllers ∙ all_drive old bit true c0 sends.drives rests.controllers_rest)
 
 -- those that rest still do,
-pub rests_alone : (plan : List Talker) (bit : ℕ) (level : Bool) (old new : Rest) (t0 t1 c0 c1 : List Member) → SendsAlone bit level old new t0 t1 c0 c1 → RestHolds old bit plan t0 c0 → RestHolds new (bit + 1) plan t1 c1
+pub rests_alone : (plan : List Talker) (bit : ℕ) (level : Bool) (old new : Rest) (t0 t1 c0 c1 : List Member) → GoesQuietly bit level old new t0 t1 c0 c1 → RestHolds old bit plan t0 c0 → RestHolds new (bit + 1) plan t1 c1
 rests_alone plan bit level old new t0 t1 c0 c1 h rests =
-    let talkers = sole_moves old.talkers.from bit old.listener new.listener level t0 t1 (rests.other_talkers h.few) h.talkers in
-    let controllers = sole_moves old.controllers.from bit old.listener new.listener level c0 c1 (rests.other_controllers h.few) h.controllers in
-    left_holds new (bit + 1) plan t0 t1 c0 c1 (left_places (λ k. Samples bit level) t0 t1 talkers) (left_places (λ k. Samples bit level) c0 c1 controllers)
-    (λ place. others_places (λ k. Samples bit level) place t0 t1 talkers) (λ place. others_places (λ k. Samples bit level) place c0 c1 controllers)
-    (λ span. within_places (λ k. Samples bit level) span t0 t1 talkers) (λ span. within_places (λ k. Samples bit level) span c0 c1 controllers) (through_holds old new bit level plan t0 c0 h.through rests)
+    let talkers = talkers_all_go plan bit level old new t0 t1 c0 c1 h rests in
+    let controllers = controllers_all_go plan bit level old new t0 t1 c0 c1 h rests in
+    left_holds new (bit + 1) plan t0 t1 c0 c1 (left_places (λ k. MemberGoes bit level) t0 t1 talkers) (left_places (λ k. MemberGoes bit level) c0 c1 controllers)
+    (λ one other. others_places (λ k. MemberGoes bit level) one other t0 t1 talkers) (λ one other. others_places (λ k. MemberGoes bit level) one other c0 c1 controllers)
+    (λ span. within_places (λ k. MemberGoes bit level) span t0 t1 talkers) (λ span. within_places (λ k. MemberGoes bit level) span c0 c1 controllers) talkers.size (through_holds old new bit level plan t0 c0 h.sends.through rests)
 
--- and nothing is told
-pub quiet_alone : (plan : List Talker) (bit : ℕ) (level : Bool) (old new : Rest) (t0 t1 c0 c1 : List Member) → SendsAlone bit level old new t0 t1 c0 c1 → RestHolds old bit plan t0 c0 →
+-- nothing is told,
+pub quiet_alone : (plan : List Talker) (bit : ℕ) (level : Bool) (old new : Rest) (t0 t1 c0 c1 : List Member) → GoesQuietly bit level old new t0 t1 c0 c1 → RestHolds old bit plan t0 c0 →
     AreQuiet bit (members_at new (bit + 1) t1) × AreQuiet bit (members_at new (bit + 1) c1)
 quiet_alone plan bit level old new t0 t1 c0 c1 h rests =
     let behind = rests_alone plan bit level old new t0 t1 c0 c1 h rests in (
-      all_quiet new bit t1 behind.talkers_rest (sole_quiet old.talkers.from bit old.listener new.listener level t0 t1 (rests.other_talkers h.few) h.talkers),
-      all_quiet new bit c1 behind.controllers_rest (sole_quiet old.controllers.from bit old.listener new.listener level c0 c1 (rests.other_controllers h.few) h.controllers),
+      all_quiet new bit t1 behind.talkers_rest (go_quiet bit level t0 t1 (talkers_all_go plan bit level old new t0 t1 c0 c1 h rests)),
+      all_quiet new bit c1 behind.controllers_rest (go_quiet bit level c0 c1 (controllers_all_go plan bit level old new t0 t1 c0 c1 h rests)),
     )
+
+-- and what is shown of counters stays shown
+pub shown_alone : (first : ℕ) (plan : List Talker) (bit : ℕ) (level : Bool) (old new : Rest) (t0 t1 c0 c1 : List Member) (counters : List Counters) → GoesQuietly bit level old new t0 t1 c0 c1 → RestHolds old bit plan t0 c0 →
+    (AreFrom first t0 counters → AreFrom first t1 counters) × (AreFrom first c0 counters → AreFrom first c1 counters)
+shown_alone first plan bit level old new t0 t1 c0 c1 counters h rests = (
+  go_shown first bit level t0 t1 counters (talkers_all_go plan bit level old new t0 t1 c0 c1 h rests),
+  go_shown first bit level c0 c1 counters (controllers_all_go plan bit level old new t0 t1 c0 c1 h rests),
+)
 
 and_false : (b : Bool) → (b && false) ≡ false
 and_false true = refl
 and_false false = refl
 
 -- no controller wants to start,
-pub wishes_alone : (plan : List Talker) (bit : ℕ) (level : Bool) (old new : Rest) (t0 t1 c0 c1 : List Member) → SendsAlone bit level old new t0 t1 c0 c1 → RestHolds old bit plan t0 c0 → (k : ℕ) (m : Member) →
+pub wishes_alone : (plan : List Talker) (bit : ℕ) (level : Bool) (old new : Rest) (t0 t1 c0 c1 : List Member) → GoesQuietly bit level old new t0 t1 c0 c1 → RestHolds old bit plan t0 c0 → (k : ℕ) (m : Member) →
     slice_get (members_at old bit c0) k ≡ Some m → wants_at bit m ≡ false
 wishes_alone plan bit level old new t0 t1 c0 c1 h rests k m e =
     let x = map_at (woken old.listener bit) c0 k m e in
@@ -329,14 +469,17 @@ wishes_alone plan bit level old new t0 t1 c0 c1 h rests k m e =
     none_at : (x : Member) → may_begin x.station.node ≡ false → wants_at bit x ≡ false
     none_at x is = ap (λ b. is_on bit x && b) is ∙ and_false (is_on bit x)
 
+    go : AllGo bit level c0 c1
+    go = controllers_all_go plan bit level old new t0 t1 c0 c1 h rests
+
     by : (x : Member) → slice_get c0 k ≡ Some x → (b : Bool) → x.rests ≡ b → wants_at bit (woken old.listener bit x) ≡ false
-    by x f true is = ap (wants_at bit) (resting_woken old.listener bit x is) ∙ none_at (caught_up old.listener bit x) (wishes_none old c0 h.starts_none rests.controllers_awake k x f is x.station.node bit)
+    by x f true is = ap (wants_at bit) (resting_woken old.listener bit x is) ∙ none_at (caught_up old.listener bit x) (wishes_none old c0 h.sends.starts_none rests.controllers_awake k x f is x.station.node bit)
     by x f false is =
-        let here = sole_one old.controllers.from c0 k x (rests.other_controllers h.few) f is in
-        ap (wants_at bit) (awake_woken old.listener bit x is) ∙ none_at x (sends_there old.controllers.from bit old.listener new.listener level c0 c1 x h.controllers (ap (slice_get c0) (sym here) ∙ f)).2.sends.begins_none
+        let n = some_there c1 k (let there = slice_get_within c0 k x f in omega (arith, there, go.size)) in
+        ap (wants_at bit) (awake_woken old.listener bit x is) ∙ none_at x ((go.at k x n.0 f n.1).steps is).begins_none
 
 -- and each has on the bus what it had
-pub sending_alone : (plan : List Talker) (bit : ℕ) (level : Bool) (old new : Rest) (t0 t1 c0 c1 : List Member) → SendsAlone bit level old new t0 t1 c0 c1 → RestHolds old bit plan t0 c0 →
+pub sending_alone : (plan : List Talker) (bit : ℕ) (level : Bool) (old new : Rest) (t0 t1 c0 c1 : List Member) → GoesQuietly bit level old new t0 t1 c0 c1 → RestHolds old bit plan t0 c0 →
     sending_of_all (members_at new (bit + 1) c1) ≡ sending_of_all (members_at old bit c0)
 sending_alone plan bit level old new t0 t1 c0 c1 h rests =
     let whole = members_at old bit c0 in

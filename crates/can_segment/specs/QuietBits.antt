@@ -6,7 +6,7 @@ use Rattle.can_segment.specs.declared.plan.SegmentPlan.{SegmentPlan}
 use Rattle.can_segment.specs.declared.record.Record.{Record}
 use Rattle.can_segment.specs.declared.rest.Rest.{Rest}
 use Rattle.can_segment.specs.FaultOrder.{IsFaultless, StandsAt}
-use Rattle.can_segment.specs.Rests.{SendsAlone}
+use Rattle.can_segment.specs.Rests.{GoesQuietly}
 use Rattle.can_segment.specs.Segments.{SegmentValue, wants_next}
 
 -- A segment makes one more such bit: its record grows by a level alone, and each controller has on the bus what it had.
@@ -28,7 +28,7 @@ pub data MakeQuietBits : SegmentValue → SegmentValue → Type 0 where
 -- stands at it.
 pub record GrowsQuietly (faults : FaultOrder) (old new : Record) (rest after : Rest) (t0 t1 c0 c1 : List Member) : Type 0 where
   pub level : Bool
-  pub sends : SendsAlone (length old.levels.items) level rest after t0 t1 c0 c1
+  pub sends : GoesQuietly (length old.levels.items) level rest after t0 t1 c0 c1
   pub faultless : (plan : SegmentPlan) → StandsAt plan (length old.levels.items) faults → IsFaultless plan (length old.levels.items)
   pub levels_is : new.levels.items ≡ old.levels.items ++ level ∷ []
   pub events_is : new.events ≡ old.events

@@ -5,6 +5,7 @@ use Rattle.can_node.specs.Histories.{Past}
 use Rattle.can_confinement.specs.KnownCounts.{Knows}
 use Rattle.can_node.specs.Listener.{Follows, IsListening, SendsTo, StandsWith, caught_up as node_caught_up}
 use Rattle.can_node.specs.Node.{StandsAfter, bit_of, counters_in, driven_by, may_begin}
+use Rattle.can_node.specs.Recovery.{IsRecovering, Recovers}
 use Rattle.can_node.specs.declared.listener.Listener.{Listener}
 use Rattle.can_confinement.specs.declared.counters.Counters.{Counters}
 use Rattle.can_node.specs.declared.node.Node.{Node}
@@ -83,9 +84,13 @@ AreSpent rest talkers members =
 abbrev pub NoneRests : List Member → Type 0
 NoneRests members = (k : ℕ) (m : Member) → slice_get members k ≡ Some m → m.rests ≡ false
 
--- all of these rest but the one at this place
-abbrev pub OthersRest : ℕ → List Member → Type 0
-OthersRest place members = (k : ℕ) (m : Member) → slice_get members k ≡ Some m → k ≢ place → m.rests ≡ true
+-- all of these rest but those at these two places
+abbrev pub OthersRest : ℕ → ℕ → List Member → Type 0
+OthersRest one other members = (k : ℕ) (m : Member) → slice_get members k ≡ Some m → k ≢ one → k ≢ other → m.rests ≡ true
+
+-- the second of these places is not the first, if it is one of these nodes'
+abbrev pub AreApart : ℕ → ℕ → List Member → Type 0
+AreApart one other members = (one ≢ other) ⊎ (length members ≤ other)
 
 -- the first places, so many of them
 pub record IsWhole (len : ℕ) (span : Span) : Type 0 where
@@ -105,8 +110,9 @@ pub record RestHolds (rest : Rest) (bit : ℕ) (plan : List Talker) (talkers con
   pub controllers_awake : rest.spent ≡ true → NoneRests controllers
   pub talkers_within : AwakeWithin rest.talkers talkers
   pub controllers_within : AwakeWithin rest.controllers controllers
-  pub other_talkers : rest.few ≡ true → OthersRest rest.talkers.from talkers
-  pub other_controllers : rest.few ≡ true → OthersRest rest.controllers.from controllers
+  pub other_talkers : rest.few ≡ true → OthersRest rest.sender rest.off talkers
+  pub apart : rest.few ≡ true → AreApart rest.sender rest.off talkers
+  pub other_controllers : rest.few ≡ true → OthersRest rest.controllers.from rest.controllers.from controllers
 
 -- no node that rests wants to start, or none has anything to
 abbrev pub StartsNone : Rest → Type 0
@@ -122,6 +128,8 @@ pub record RestsThrough (bit : ℕ) (level : Bool) (old new : Rest) : Type 0 whe
   pub talkers_is : new.talkers ≡ old.talkers
   pub controllers_is : new.controllers ≡ old.controllers
   pub few_is : new.few ≡ old.few
+  pub sender_is : new.sender ≡ old.sender
+  pub off_is : new.off ≡ old.off
   pub known_is : new.known ≡ old.known
   pub spent_is : new.spent ≡ old.spent
   pub follows : Follows old.known old.listener bit level new.listener
@@ -258,12 +266,36 @@ pub record OneSends (place bit : ℕ) (before : Listener) (level : Bool) (after 
   pub step : MemberSends bit before level after from to
   pub moves : MovesOne place (MemberSends bit before level after) old new
 
--- A bit at which all nodes rest, or all but one that sends: the line has the level that it drives, or else is recessive.
+-- it is in bus off, no run of recessive bits ends at this bit, and nothing is told of it
+pub record MayRecover (bit : ℕ) (member : Member) : Type 0 where
+  pub awake : member.rests ≡ false
+  pub is_on : member.on ≤ bit
+  pub quiet : IsQuiet member.deed
+  pub recovering : IsRecovering member.station.node
+
+-- one such bit
+pub record MemberRecovers (bit : ℕ) (level : Bool) (old new : Member) : Type 0 where
+  pub may : MayRecover bit old
+  pub recovers : Recovers old.station.node level new.station.node
+  pub awake_too : new.rests ≡ false
+  pub on_is : new.on ≡ old.on
+  pub deed_is : new.deed ≡ old.deed
+  pub sending_is : new.station.sending ≡ old.station.sending
+  pub completed_is : new.station.completed ≡ old.station.completed
+
+-- A bit at which all nodes rest, or all but one that sends, and but a talker that is in bus off: the line has the level that
+-- the one drives, or else is recessive.
 pub record SendsAlone (bit : ℕ) (level : Bool) (old new : Rest) (t0 t1 c0 c1 : List Member) : Type 0 where
   pub few : old.few ≡ true
   pub starts_none : StartsNone old
   pub through : RestsThrough bit level old new
   pub drives : Drives old true
-  pub talkers : MovesOne old.talkers.from (MemberSends bit old.listener level new.listener) t0 t1
+  pub talkers : MovesOne old.sender (MemberSends bit old.listener level new.listener) t0 t1
   pub controllers : MovesOne old.controllers.from (MemberSends bit old.listener level new.listener) c0 c1
-  pub level_is : level ≡ (passes (drives_at bit) (slice_get t0 old.talkers.from) && passes (drives_at bit) (slice_get c0 old.controllers.from))
+  pub level_is : level ≡ (passes (drives_at bit) (slice_get t0 old.sender) && passes (drives_at bit) (slice_get c0 old.controllers.from))
+
+-- so that the one in bus off samples that level too
+pub record GoesQuietly (bit : ℕ) (level : Bool) (old new : Rest) (t0 t1 c0 c1 : List Member) : Type 0 where
+  pub mid : List Member
+  pub sends : SendsAlone bit level old new t0 mid c0 c1
+  pub recovers : MovesOne old.off (MemberRecovers bit level) mid t1

@@ -11,6 +11,7 @@ mod leader;
 mod make_bit;
 mod member;
 mod members;
+mod pair;
 mod plan;
 mod port;
 mod record;

@@ -26,6 +26,7 @@ ghost use Rattle.can_segment.specs.Places.{AtPlaces};
 use crate::awake::Awake;
 use crate::leader::listener_of_most;
 use crate::member::Member;
+use crate::pair::Pair;
 use crate::plan::{NodeFault, Talker};
 use crate::span::Span;
 use crate::wake::{wake_all, wake_disturbed, wake_unspent};
@@ -45,8 +46,11 @@ pub(crate) struct Rest {
     // all talkers rest but some of those at these places, and so do all controllers
     pub(crate) talkers: Span,
     pub(crate) controllers: Span,
-    // each of these has one place at most; where all rest it stands behind the last
+    // all talkers rest but those at these two places, of which the second may be in bus off, and all controllers but the
+    // first of theirs; a place behind the last is none
     pub(crate) few: bool,
+    pub(crate) sender: usize,
+    pub(crate) off: usize,
     // those that rest read on in the stuffed region at the last bit, and before it
     steady: bool,
 }
@@ -67,6 +71,8 @@ impl Rest {
             talkers: Span::whole(talkers),
             controllers: Span::whole(controllers),
             few: false,
+            sender: talkers,
+            off: talkers,
             steady: false,
         }
     }
@@ -257,7 +263,7 @@ impl Rest {
         if !self.resting || !self.few {
             return false;
         }
-        !listens_there(talkers, self.talkers.from, bit)
+        !listens_there(talkers, self.sender, bit)
             && !listens_there(controllers, self.controllers.from, bit)
     }
 
@@ -346,9 +352,12 @@ impl Rest {
             self.wake(plan, talkers, controllers, bit);
             return;
         }
+        let pair = Pair::of(talkers, awake_talkers.span);
         self.talkers = awake_talkers.span;
         self.controllers = awake_controllers.span;
-        self.few = are_few(self.talkers, self.controllers);
+        self.sender = pair.sender;
+        self.off = pair.off;
+        self.few = are_few(&pair, self.controllers);
     }
 }
 
@@ -368,12 +377,12 @@ fn listens_there(members: &[Member], place: usize, bit: u64) -> bool {
     }
 }
 
-/// Whether each of these has one place at most.
-fn are_few(talkers: Span, controllers: Span) -> bool
-    ensures talkers { result ≡ true → talkers.to ≤ talkers.from + 1 }
+/// Whether no other talkers are awake, and one controller at most.
+fn are_few(talkers: &Pair, controllers: Span) -> bool
+    ensures talkers { result ≡ true → talkers.now.alone ≡ true }
     ensures controllers { result ≡ true → controllers.to ≤ controllers.from + 1 }
 {
-    if !talkers.is_one_at_most() {
+    if !talkers.alone {
         return false;
     }
     controllers.is_one_at_most()

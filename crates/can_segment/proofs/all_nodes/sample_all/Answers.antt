@@ -61,9 +61,9 @@ returns-clause-rests g c =
     let size : length c.args.ports.now ≡ length cs = c.requires.ports ∙ sym (members_length c.args.rest.now c.args.bit c.args.controllers.now) ∙ ap length (sym same) ∙ members_length before c.args.bit cs in
     left_holds c.go_through.new.self (c.args.bit + 1) c.args.plan.now t c.sample_nodes-talkers_told.new.members cs c.sample_controllers-controllers_told.new.members (left_places _ t c.sample_nodes-talkers_told.new.members samples)
     (left_both _ cs c.sample_controllers-controllers_told.new.members c.args.ports.now c.sample_controllers-controllers_told.new.ports size settles)
-    (λ place. others_places _ place t c.sample_nodes-talkers_told.new.members samples)
-    (λ place. others_both _ place cs c.sample_controllers-controllers_told.new.members c.args.ports.now c.sample_controllers-controllers_told.new.ports size settles)
-    (λ span. within_places _ span t c.sample_nodes-talkers_told.new.members samples) (λ span. within_both _ span cs c.sample_controllers-controllers_told.new.members c.args.ports.now c.sample_controllers-controllers_told.new.ports size settles)
+    (λ one other. others_places _ one other t c.sample_nodes-talkers_told.new.members samples)
+    (λ one other. others_both _ one other cs c.sample_controllers-controllers_told.new.members c.args.ports.now c.sample_controllers-controllers_told.new.ports size settles)
+    (λ span. within_places _ span t c.sample_nodes-talkers_told.new.members samples) (λ span. within_both _ span cs c.sample_controllers-controllers_told.new.members c.args.ports.now c.sample_controllers-controllers_told.new.ports size settles) samples.size
     c.go_through.ensures.holds
 
 pub returns-clause-quiet : goal.returns-clause-quiet

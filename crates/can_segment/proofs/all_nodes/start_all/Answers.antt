@@ -65,8 +65,8 @@ returns-clause-rests g c =
     c.requires.ports ∙ sym (members_length c.args.rest.now bit c.args.controllers.now) ∙ ap length (sym roused.controllers) ∙ members_length rest bit c.rouse.new.controllers in
     left_holds rest bit c.args.plan.now c.rouse.new.talkers t c.rouse.new.controllers after (left_places _ c.rouse.new.talkers t c.start_talkers.ensures)
     (left_both _ c.rouse.new.controllers after c.args.ports.now c.start_controllers.new.ports size c.start_controllers.ensures)
-    (λ place. others_places _ place c.rouse.new.talkers t c.start_talkers.ensures) (λ place. others_both _ place c.rouse.new.controllers after c.args.ports.now c.start_controllers.new.ports size c.start_controllers.ensures)
-    (λ span. within_places _ span c.rouse.new.talkers t c.start_talkers.ensures) (λ span. within_both _ span c.rouse.new.controllers after c.args.ports.now c.start_controllers.new.ports size c.start_controllers.ensures) roused.holds
+    (λ one other. others_places _ one other c.rouse.new.talkers t c.start_talkers.ensures) (λ one other. others_both _ one other c.rouse.new.controllers after c.args.ports.now c.start_controllers.new.ports size c.start_controllers.ensures)
+    (λ span. within_places _ span c.rouse.new.talkers t c.start_talkers.ensures) (λ span. within_both _ span c.rouse.new.controllers after c.args.ports.now c.start_controllers.new.ports size c.start_controllers.ensures) c.start_talkers.ensures.size roused.holds
 
 pub returns-clause-left : goal.returns-clause-left
 returns-clause-left g c =

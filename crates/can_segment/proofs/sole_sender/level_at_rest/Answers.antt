@@ -15,7 +15,7 @@ returns-then-rest-talkers-2-clause-sends c =
 
 pub returns-clause-sends : goal.returns-clause-sends
 returns-clause-sends c =
-    let no_talker : length c.args.talkers.now ≤ c.args.rest.now.talkers.from = search rules in
+    let no_talker : length c.args.talkers.now ≤ c.args.rest.now.sender = search rules in
     let no_controller : length c.args.controllers.now ≤ c.args.rest.now.controllers.from = search rules in
     both_if_some _ _ _ c.none_sends.result
     (λ level goes through. none_alone c.args.rest.now c.none_sends.new.rest c.args.bit level c.args.talkers.now c.args.controllers.now (search rules) no_talker no_controller goes.0 goes.1 goes.2 through) c.none_sends.ensures.starts c.none_sends.ensures.through

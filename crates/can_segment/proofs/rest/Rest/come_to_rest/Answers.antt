@@ -45,6 +45,7 @@ settle-requires c =
       controllers_within = subst (λ span. AwakeWithin span c.lull_controllers.new.members) (sym controllers_is)
           (lain_within c.lull_talkers.new.self.listener c.args.bit c.args.controllers.now c.lull_controllers.new.members c.args.self.now.controllers c.lull_controllers.ensures.lie c.requires.holds.controllers_within);
       other_talkers = λ few. absurd (cc (few, few_is));
+      apart = λ few. absurd (cc (few, few_is));
       other_controllers = λ few. absurd (cc (few, few_is));
     } }
 
@@ -59,6 +60,6 @@ pub returns-clause-controllers : goal.returns-clause-controllers
 returns-clause-controllers c =
     let mid = c.lull_talkers.new.self in
     let lain = alike_at_rest mid.listener c.lull_controllers.new.self.listener c.args.bit c.args.controllers.now c.lull_controllers.new.members c.lull_controllers.ensures.less.listener_is c.lull_controllers.ensures.lie in
-    let same = ap (λ listener. members_at (record { listener = listener; resting = mid.resting; known = mid.known; spent = mid.spent; talkers = mid.talkers; controllers = mid.controllers; few = mid.few; steady = mid.steady }) c.args.bit c.args.controllers.now) c.lull_talkers.ensures.less.listener_is
+    let same = ap (λ listener. members_at (record { listener = listener; resting = mid.resting; known = mid.known; spent = mid.spent; talkers = mid.talkers; controllers = mid.controllers; few = mid.few; sender = mid.sender; off = mid.off; steady = mid.steady }) c.args.bit c.args.controllers.now) c.lull_talkers.ensures.less.listener_is
     ∙ chosen_same c.args.self.now c.choose.new.self c.args.bit c.args.controllers.now c.choose.ensures c.requires.holds.controllers_rest in
     subst (λ ms. AreAlike ms (members_at c.settle.new.self c.args.bit c.settle.new.controllers)) same (subst (AreAlike (members_at mid c.args.bit c.args.controllers.now)) (sym c.settle.ensures.controllers) lain)

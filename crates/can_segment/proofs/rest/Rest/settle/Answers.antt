@@ -14,6 +14,7 @@ returns-clause-holds c =
       controllers_awake = held.controllers_awake;
       talkers_within = c.of-awake_talkers.ensures;
       controllers_within = c.of-awake_controllers.ensures;
-      other_talkers = λ few. others_within c.of-awake_talkers.result.span c.args.talkers.now (c.are_few-self.ensures.talkers few) c.of-awake_talkers.ensures;
+      other_talkers = λ few. c.of-pair.ensures.others (c.are_few-self.ensures.talkers few);
+      apart = λ few. c.of-pair.ensures.apart;
       other_controllers = λ few. others_within c.of-awake_controllers.result.span c.args.controllers.now (c.are_few-self.ensures.controllers few) c.of-awake_controllers.ensures;
     }
