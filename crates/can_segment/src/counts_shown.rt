@@ -1,13 +1,12 @@
 //! The counters of a segment's nodes, in its record.
 
 ghost use Rattle.std.specs.Prelude.{◌≡◌, ◌+◌, ◌<◌, ◌≤◌, ℕ, length, slice_get};
-ghost use Rattle.can_segment.specs.Rests.{AwakeWithin};
+ghost use Rattle.can_station.specs.RestingNodes.{AwakeWithin};
 ghost use Rattle.can_segment.specs.Segments.{AreFrom, AreFromResting};
 
-use crate::member::Member;
 use crate::rest::Rest;
-use crate::span::Span;
 use can_node::Counters;
+use can_station::{Member, Span};
 
 /// The counters of those of these nodes that are awake take the places from this one on; those of the others are shown
 /// already.

@@ -1,22 +1,18 @@
 //! One bit of a segment.
 
 ghost use Rattle.std.specs.Prelude.{◌≡◌, false, ◌+◌, ◌*◌, ◌<◌, ◌≤◌, ◌++◌, ◌∷◌, [], ℕ, Bool, Some, length, slice_get, vec_len, vec_capacity};
-ghost use Rattle.can_segment.specs.FaultOrder.{StandsAt};
-ghost use Rattle.can_segment.specs.Rests.{LeavesResting, RestHolds, TransmitsAll, members_at};
-ghost use Rattle.can_segment.specs.Members.{wants_at};
+ghost use Rattle.can_station.specs.FaultOrder.{StandsAt};
+ghost use Rattle.can_station.specs.RestingNodes.{LeavesResting, TransmitsAll};
+ghost use Rattle.can_segment.specs.Rests.{RestHolds, members_at};
+ghost use Rattle.can_station.specs.Members.{wants_at};
 ghost use Rattle.can_segment.specs.Moves.{PortMoves};
 ghost use Rattle.can_segment.specs.Kept.{SegmentKept};
-ghost use Rattle.can_segment.specs.Tellings.{bit_lines};
-ghost use Rattle.can_segment.specs.declared.member.Member.{Member};
+ghost use Rattle.can_station.specs.Tellings.{bit_lines};
+ghost use Rattle.can_station.specs.declared.member.Member.{Member};
 
 use crate::all_nodes::{Moved, move_nodes};
-use crate::event::Event;
-use crate::fault_order::FaultOrder;
-use crate::member::Member;
-use crate::plan::SegmentPlan;
 use crate::rest::Rest;
-use crate::rx_sink::RxSink;
-use crate::tell::{tell_rests, tell_starts};
+use can_station::{Event, FaultOrder, Member, RxSink, SegmentPlan, tell_rests, tell_starts};
 
 /// One level more, for which there is room.
 pub(crate) fn keep(levels: &mut Vec<bool>, level: bool)

@@ -1,8 +1,8 @@
 //! Nodes that are left alone while a listener follows the line for them.
 
 ghost use Rattle.std.specs.Prelude.{◌≡◌, ◌+◌, ◌≤◌, true, false, ℕ, length};
+ghost use Rattle.can_station.specs.RestingNodes.{AreAlike, IsWhole, LeavesResting, MayLieDown, NoneRests, Undisturbed};
 ghost use Rattle.can_segment.specs.Rests.{
-  AreAlike,
   AreResting,
   AreSpent,
   Chooses,
@@ -10,26 +10,18 @@ ghost use Rattle.can_segment.specs.Rests.{
   GoesThrough,
   IsLess,
   IsSame,
-  IsWhole,
-  LeavesResting,
   Lulls,
-  MayLieDown,
-  NoneRests,
   RestHolds,
   RestsThrough,
   StartsNone,
-  Undisturbed,
   members_at,
 };
-ghost use Rattle.can_segment.specs.Places.{AtPlaces};
+ghost use Rattle.can_station.specs.Places.{AtPlaces};
 
 use crate::awake::Awake;
 use crate::leader::listener_of_most;
-use crate::member::Member;
-use crate::plan::{NodeFault, Talker};
-use crate::span::Span;
-use crate::wake::{wake_all, wake_disturbed, wake_unspent};
 use can_node::{KnownCounts, Listener, Node};
+use can_station::{Member, NodeFault, Span, Talker, wake_all, wake_disturbed, wake_unspent};
 
 /// What is held alike for all nodes that rest: which those are each node tells itself. A listener has come as far as
 /// each of them would have.

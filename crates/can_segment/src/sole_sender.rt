@@ -1,14 +1,14 @@
 //! A bit at which all nodes rest, or all but one that sends: most bits of a bus are such.
 
 ghost use Rattle.std.specs.Prelude.{◌≡◌, true, IfSome, IfNone};
-ghost use Rattle.can_segment.specs.FaultOrder.{IsFaultless, StandsAt};
-ghost use Rattle.can_segment.specs.declared.plan.SegmentPlan.{SegmentPlan};
-ghost use Rattle.can_segment.specs.Rests.{Drives, HasRoom, OneSends, RestsThrough, SendsAlone, StartsNone};
+ghost use Rattle.can_station.specs.FaultOrder.{IsFaultless, StandsAt};
+ghost use Rattle.can_station.specs.declared.plan.SegmentPlan.{SegmentPlan};
+ghost use Rattle.can_segment.specs.Rests.{Drives, RestsThrough, SendsAlone, StartsNone};
+ghost use Rattle.can_station.specs.RestingNodes.{HasRoom, OneSends};
 
-use crate::fault_order::FaultOrder;
-use crate::member::Member;
 use crate::rest::Rest;
 use can_node::Listener;
+use can_station::{FaultOrder, Member};
 
 /// The node at this place, if there is one, sends on while the listener follows for all others: the level of the line.
 /// `None` where that can't be: then nothing is changed.
