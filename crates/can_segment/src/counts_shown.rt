@@ -16,7 +16,8 @@ fn show(counters: &mut Vec<Counters>, first: usize, members: &[Member], awake: S
     requires resting { AreFromResting first members.now counters.old.items }
     ensures shown { AreFrom first members.now counters.new.items }
     ensures before { (k : ℕ) → k < first → slice_get counters.new.items k ≡ slice_get counters.old.items k }
-    ensures behind { (k : ℕ) → first + length members.now ≤ k → slice_get counters.new.items k ≡ slice_get counters.old.items k }
+    ensures behind { (k : ℕ) → first + length members.now ≤ k
+        → slice_get counters.new.items k ≡ slice_get counters.old.items k }
     ensures size { length counters.new.items ≡ length counters.old.items }
 {
     for place in awake.from..awake.to {

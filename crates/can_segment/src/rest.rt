@@ -178,7 +178,8 @@ impl Rest {
         self.listener.follow(bit, level, self.known)
     }
 
-    /// The listener follows through a bit at which those that rest sample this level; where it can't they wake before it.
+    /// The listener follows through a bit at which those that rest sample this level; where it can't, they wake before
+    /// it.
     pub(crate) fn go_through(
         &mut self,
         plan: &[Talker],
@@ -209,7 +210,8 @@ impl Rest {
         requires plan { length plan.now ≡ length talkers.old }
         requires holds { RestHolds self.old bit plan.now talkers.old controllers.old }
         ensures talkers { AreAlike (members_at self.old bit talkers.old) (members_at self.new bit talkers.new) }
-        ensures controllers { AreAlike (members_at self.old bit controllers.old) (members_at self.new bit controllers.new) }
+        ensures controllers { AreAlike (members_at self.old bit controllers.old)
+            (members_at self.new bit controllers.new) }
         ensures holds { RestHolds self.new bit plan.now talkers.new controllers.new }
     {
         if asks_at_each_bit(controllers) {

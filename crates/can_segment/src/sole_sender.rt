@@ -20,7 +20,8 @@ fn one_sends(
     bit: u64,
 ) -> Option<bool>
     requires { HasRoom u64.MAX bit members.old }
-    ensures sends { IfSome result (λ level. OneSends place bit listener.old level listener.new members.old members.new) }
+    ensures sends { IfSome result (λ level. OneSends place bit listener.old level listener.new
+        members.old members.new) }
     ensures none { IfNone result ((members.new ≡ members.old) × (listener.new ≡ listener.old)) }
 {
     if members.len() <= place {
@@ -59,7 +60,8 @@ fn level_at_rest(
     requires room { HasRoom u64.MAX bit controllers.old }
     ensures sends { IfSome result (λ level. SendsAlone bit level rest.old rest.new
         talkers.old talkers.new controllers.old controllers.new) }
-    ensures none { IfNone result ((rest.new ≡ rest.old) × (talkers.new ≡ talkers.old) × (controllers.new ≡ controllers.old)) }
+    ensures none { IfNone result ((rest.new ≡ rest.old) × (talkers.new ≡ talkers.old)
+        × (controllers.new ≡ controllers.old)) }
 {
     if !rest.few {
         return None;
@@ -90,8 +92,10 @@ pub(crate) fn quiet_level(
     requires room { HasRoom u64.MAX bit controllers.old }
     ensures sends { IfSome result (λ level. SendsAlone bit level rest.old rest.new
         talkers.old talkers.new controllers.old controllers.new) }
-    ensures faultless { IfSome result (λ level. (plan : SegmentPlan) → StandsAt plan bit faults.now → IsFaultless plan bit) }
-    ensures none { IfNone result ((rest.new ≡ rest.old) × (talkers.new ≡ talkers.old) × (controllers.new ≡ controllers.old)) }
+    ensures faultless { IfSome result (λ level. (plan : SegmentPlan) → StandsAt plan bit faults.now
+        → IsFaultless plan bit) }
+    ensures none { IfNone result ((rest.new ≡ rest.old) × (talkers.new ≡ talkers.old)
+        × (controllers.new ≡ controllers.old)) }
 {
     if !faults.none_at(bit) {
         return None;

@@ -109,7 +109,8 @@ impl FaultOrder {
         &ahead[..node_run(ahead, bit)]
     }
 
-    /// The level of the line, true being recessive, at the bit at which the cursors stand, where the nodes make this one.
+    /// The level of the line, true being recessive, at the bit at which the cursors stand, where the nodes make this
+    /// one.
     pub fn line_level(&self, bit: u64, driven: bool) -> bool
         requires { IsWithin self.now }
         ensures { (plan : SegmentPlan) → StandsAt plan bit self.now

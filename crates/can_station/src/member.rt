@@ -1,6 +1,7 @@
 //! A node of a segment, from the bit on at which it is switched on.
 
-ghost use Rattle.std.specs.Prelude.{◌≡◌, ◌<◌, ◌≤◌, ◌++◌, ◌&&◌, true, false, None, List, slice_get, if◌then◌else◌, IfSome, IfNone};
+ghost use Rattle.std.specs.Prelude.{◌≡◌, ◌<◌, ◌≤◌, ◌++◌, ◌&&◌, true, false, None, List, slice_get};
+ghost use Rattle.std.specs.Prelude.{if◌then◌else◌, IfSome, IfNone};
 ghost use Rattle.can_frame.specs.Frames.{FrameValue};
 ghost use Rattle.bx_core.specs.TxBus.{BusPast, BusCall};
 ghost use Rattle.can_confinement.specs.KnownCounts.{Knows};
@@ -190,7 +191,8 @@ impl Member {
         ensures awake { self.new.rests ≡ self.old.rests }
         ensures member { self.old.rests ≡ false → StartsRequest bit self.old self.new }
         ensures bus { self.old.rests ≡ false → (past : BusPast) → P.bus_after port.old past
-            → P.bus_after port.new (started past (started_item (is_on bit self.new && self.new.deed.began) self.new.station.sending)) }
+            → P.bus_after port.new (started past
+            (started_item (is_on bit self.new && self.new.deed.began) self.new.station.sending)) }
         ensures undone { self.old.rests ≡ false → (past : BusPast) → P.bus_after port.old past
             → Undone past (started_item (is_on bit self.new && self.new.deed.began) self.new.station.sending) }
         ensures asks { self.old.rests ≡ false → Asks P.bus_asked (wants_at bit self.old)

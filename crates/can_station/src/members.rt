@@ -98,8 +98,8 @@ pub fn driven_by_all(
 }
 
 /// Nodes that are awake sample the line, which has this level, each with its own faults. The first of them has this
-/// number, and all numbers are below 1000. Whether something may be told of one of them: where the answer is no, nothing
-/// is told of those that are awake and on.
+/// number, and all numbers are below 1000. Whether something may be told of one of them: where the answer is no,
+/// nothing is told of those that are awake and on.
 // one copy, in which the sample of a node is not called but stands in the loop
 #[inline(never)]
 pub fn sample_nodes(
@@ -136,7 +136,8 @@ fn settle_ports<R, P: RxSink<R>>(
     requires awake { AwakeWithin awake members.old }
     requires unsettled { (k : ℕ) (m : Member) (p : P) → slice_get members.old k ≡ Some m
         → slice_get ports.old k ≡ Some p → m.rests ≡ false → IsUnsettled (P.transmitting p) bit m }
-    ensures { AtBoth (λ k. IfAwakeBoth (PortSettled P.bus_after P.bus_asked P.transmitting P.sink_after P.port_stays bit))
+    ensures { AtBoth (λ k. IfAwakeBoth (PortSettled P.bus_after P.bus_asked P.transmitting P.sink_after P.port_stays
+        bit))
         members.old members.new ports.old ports.new }
 {
     for place in awake.from..awake.to {
@@ -163,8 +164,9 @@ pub fn sample_controllers<R, P: RxSink<R>>(
     requires few { first + length members.old ≤ 1000 }
     requires port { (k : ℕ) (m : Member) (p : P) → slice_get members.old k ≡ Some m
         → slice_get ports.old k ≡ Some p → P.transmitting p ≡ item_of m.station.sending }
-    ensures settles { AtBoth (λ k. IfAwakeBoth (PortSettles P.bus_after P.bus_asked P.transmitting P.sink_after P.port_stays
-        bit (sampled_level faults.now (first + k) bit level))) members.old members.new ports.old ports.new }
+    ensures settles { AtBoth (λ k. IfAwakeBoth (PortSettles P.bus_after P.bus_asked P.transmitting P.sink_after
+        P.port_stays bit (sampled_level faults.now (first + k) bit level)))
+        members.old members.new ports.old ports.new }
     ensures quiet { result ≡ false → AwakeAreQuiet bit members.new }
 {
     let told = sample_nodes(members, faults, first, bit, level, awake);

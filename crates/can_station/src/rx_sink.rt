@@ -27,7 +27,8 @@ pub trait RxSink<R>: TxBus<R> {
         ensures stays { port_stays self.old self.new };
 
     // no call of the bus side changes what was offered
-    ghost sink_stays: { (x y : Self) (past : List FrameValue) → Self.bus_stays x y → sink_after x past → sink_after y past };
+    ghost sink_stays: { (x y : Self) (past : List FrameValue) → Self.bus_stays x y
+        → sink_after x past → sink_after y past };
 
     ghost port_of_bus: { (x y : Self) → Self.bus_stays x y → port_stays x y };
 
