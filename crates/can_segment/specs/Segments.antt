@@ -76,7 +76,7 @@ pub record IsOpening (plan : SegmentPlan) (segment : SegmentValue) : Type 0 wher
   pub one_each : length segment.sending ≡ length plan.controllers.items
   pub idle : (k : ℕ) (sends : Option Item) → slice_get segment.sending k ≡ Some sends → sends ≡ None
 
--- from this place on, the counters of these nodes
+-- from this place on, counters show those of these nodes
 abbrev pub AreFrom : ℕ → List Member → List Counters → Type 0
 AreFrom first members counters = (k : ℕ) (member : Member) (shown : Counters) → slice_get members k ≡ Some member → slice_get counters (first + k) ≡ Some shown → AreOf member shown
 

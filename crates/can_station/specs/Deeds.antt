@@ -1,4 +1,4 @@
--- What a node did at a bit. Private clauses cite it.
+-- What a node did at a bit.
 use Rattle.std.specs.Prelude.{◌≡◌, ◌⊎◌, ℕ, ◌≤◌, false, Option, Some, None, List, slice_get, if◌then◌else◌}
 use Rattle.can_node.specs.declared.outcome.Outcome.TheVariants.{Nothing}
 use Rattle.can_station.specs.declared.member.Deed.{Deed}

@@ -1,4 +1,4 @@
--- Nodes before their first bit. Private clauses cite it.
+-- Nodes before their first bit.
 use Rattle.std.specs.Prelude.{◌≡◌, ℕ, false, Some, None, List, length, slice_get}
 use Rattle.can_node.specs.Histories.{no_past}
 use Rattle.can_node.specs.Node.{StandsAfter, bit_of}

@@ -1,4 +1,4 @@
--- What a node does at a bit of its segment. Private clauses cite it.
+-- What a node does at a bit of its segment.
 use Rattle.std.specs.Prelude.{◌≡◌, ℕ, ◌+◌, ◌<◌, ◌≤◌, Bool, true, false, nat_le, Option, Some, None, IfSome, List, [], ◌++◌, slice_get, ◌&&◌, if◌then◌else◌}
 use Rattle.can_frame.specs.Frames.{FrameValue}
 use Rattle.can_node.specs.Histories.{Past, IsHistory}

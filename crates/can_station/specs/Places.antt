@@ -1,5 +1,4 @@
--- What a loop over the nodes of a segment does, place by place; and one over nodes and their ports. Private
--- clauses cite it.
+-- What a loop over the nodes of a segment does, place by place; and one over nodes and their ports.
 use Rattle.std.specs.Prelude.{◌≡◌, ◌≢◌, ℕ, ◌<◌, ◌≤◌, List, Some, slice_get, length}
 
 -- each element made this step

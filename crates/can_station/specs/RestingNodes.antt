@@ -53,7 +53,7 @@ pub record IfAwakeBoth {P : Type 0} (Step : Member → Member → P → P → Ty
   pub stays_awake : old.rests ≡ false → new.rests ≡ false
   pub steps : old.rests ≡ false → Step old new from to
 
--- and no controller rests
+-- none of these rests
 abbrev pub NoneRests : List Member → Type 0
 NoneRests members = (k : ℕ) (m : Member) → slice_get members k ≡ Some m → m.rests ≡ false
 

@@ -1,4 +1,4 @@
--- What the nodes' deeds at a bit tell, one node after another. Private clauses cite it.
+-- What the nodes' deeds at a bit tell, one node after another.
 use Rattle.std.specs.Prelude.{ℕ, ◌+◌, List, [], ◌∷◌, ◌++◌, length}
 use Rattle.can_station.specs.declared.event.Event.{Event}
 use Rattle.can_station.specs.declared.event.Told.{Told}
