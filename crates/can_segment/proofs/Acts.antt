@@ -4,12 +4,14 @@ use Rattle.std.proofs.lemmas.Bool.{cases_lt}
 use Rattle.std.proofs.lemmas.Bool.Decides.{leb_tells}
 use Rattle.can_frame.specs.Frames.{FrameValue}
 use Rattle.can_node.specs.Node.{driven_by}
-use Rattle.can_segment.specs.declared.member.Member.{Member}
+use Rattle.can_station.specs.declared.member.Member.{Member}
 use Rattle.can_segment.specs.Traces.{Act, Bit, act_of, past_of, sending_of, completed_of}
-use Rattle.can_segment.specs.Tells.{told_start, told_outcome, told_reaped, starts_of, rest_of}
+use Rattle.can_station.specs.Lines.{told_start, told_outcome, told_reaped}
+use Rattle.can_segment.specs.Tells.{starts_of, rest_of}
 use Rattle.can_segment.specs.Runs.{IsAct, IsTalking, IsControlling, drives}
-use Rattle.can_segment.specs.Members.{drives_at, StartsTalking, Samples, StartsRequest, SamplesAndSettles}
-use Rattle.can_segment.specs.Kept.{no_deed, begun_by, StandsBehind}
+use Rattle.can_station.specs.Members.{drives_at, StartsTalking, Samples, StartsRequest, SamplesAndSettles}
+use Rattle.can_station.specs.Deeds.{no_deed, begun_by}
+use Rattle.can_segment.specs.Kept.{StandsBehind}
 use Rattle.can_segment.proofs.Deeds.{Done, stays_off}
 use Rattle.can_segment.proofs.Talks.{talked}
 use Rattle.can_segment.proofs.Controls.{controlled}

@@ -12,14 +12,14 @@ use Rattle.can_node.specs.declared.outcome.Outcome.{Outcome}
 use Rattle.can_node.specs.Pairs.{Pair}
 use Rattle.can_node.specs.Histories.{Past, no_past, noted}
 use Rattle.can_node.proofs.Stamps.{one_noted, noted_is}
-use Rattle.can_segment.specs.declared.event.Event.{Event}
-use Rattle.can_segment.specs.declared.event.Label.{Label}
-use Rattle.can_segment.specs.declared.plan.Controller.{Controller}
-use Rattle.can_segment.specs.declared.plan.SegmentPlan.{SegmentPlan}
-use Rattle.can_segment.specs.declared.plan.Talker.{Talker}
-use Rattle.can_segment.specs.declared.transmission.Transmission.{Transmission}
+use Rattle.can_station.specs.declared.event.Event.{Event}
+use Rattle.can_station.specs.declared.event.Label.{Label}
+use Rattle.can_station.specs.declared.plan.Controller.{Controller}
+use Rattle.can_station.specs.declared.plan.SegmentPlan.{SegmentPlan}
+use Rattle.can_station.specs.declared.plan.Talker.{Talker}
+use Rattle.can_station.specs.declared.transmission.Transmission.{Transmission}
 use Rattle.can_segment.specs.Attempts.{act_at}
-use Rattle.can_segment.specs.Faults.{sampled_level}
+use Rattle.can_station.specs.Faults.{sampled_level}
 use Rattle.can_segment.specs.Traces.{Act, Bit, with_start, with_act, act_of, past_of, sending_of}
 use Rattle.can_segment.specs.Runs.{Run, IsBit, ActsAt, IsAct, IsBegun, IsReaping, firsts}
 use Rattle.can_segment.specs.Runs.Run.{no_bit, one_more}

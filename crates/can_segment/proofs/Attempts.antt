@@ -15,11 +15,12 @@ use Rattle.can_node.proofs.Attempts.{attempts_stand_alone, open_tells_nothing, b
 use Rattle.can_node.proofs.Outcomes.{IsEnd, attempt_end}
 use Rattle.can_node.proofs.Outcomes.IsEnd.{is_completed, is_lost, is_error, is_off}
 use Rattle.can_node.proofs.Sofs.{starts_are_sofs}
-use Rattle.can_segment.specs.declared.event.Event.{Event}
-use Rattle.can_segment.specs.declared.plan.SegmentPlan.{SegmentPlan}
-use Rattle.can_segment.specs.declared.transmission.Transmission.{Transmission}
+use Rattle.can_station.specs.declared.event.Event.{Event}
+use Rattle.can_station.specs.declared.plan.SegmentPlan.{SegmentPlan}
+use Rattle.can_station.specs.declared.transmission.Transmission.{Transmission}
 use Rattle.can_segment.specs.Attempts.{act_at, begun_at, sending_at, outcome_at, IsTold, AttemptsAreTold, EndsAreOfAttempts}
-use Rattle.can_segment.specs.Traces.{Act, Bit, act_of, past_of, sending_of, sending_now, sending_after, sending_behind, ends_sending}
+use Rattle.can_segment.specs.Traces.{Act, Bit, act_of, past_of, sending_of, sending_now, sending_behind}
+use Rattle.can_station.specs.Outcomes.{sending_after, ends_sending}
 use Rattle.can_segment.specs.Runs.{Run, firsts}
 use Rattle.can_segment.proofs.OneLine.{same_found, first_from}
 use Rattle.can_segment.proofs.ActsNoted.{does_at, prefix_grows, began_at, told_at}

@@ -7,21 +7,20 @@ use Rattle.can_node.specs.declared.outcome.Outcome.{Outcome}
 use Rattle.can_node.specs.declared.outcome.Outcome.TheVariants.{Nothing, Took, Completed, Lost, Errored, WentOff, CameBack}
 use Rattle.bx_core.specs.Lists.{Each}
 use Rattle.bx_core.specs.TxBus.{Item, BusPast, BusCall, IsUndone}
-use Rattle.can_segment.specs.declared.event.Event.{Event}
-use Rattle.can_segment.specs.declared.event.Label.{Label}
-use Rattle.can_segment.specs.declared.event.Told.{Told}
-use Rattle.can_segment.specs.declared.event.Told.TheVariants as told
-use Rattle.can_segment.specs.declared.member.Deed.{Deed}
-use Rattle.can_segment.specs.declared.member.Member.{Member}
-use Rattle.can_segment.specs.declared.transmission.Transmission.{Transmission}
-use Rattle.can_segment.specs.Tells.{lines, told_start, told_outcome, told_reaped}
-use Rattle.can_segment.specs.Tellings.{start_of, rest_by, told_by, bit_lines}
-use Rattle.can_segment.specs.Traces.{is_failure}
-use Rattle.can_segment.specs.Ports.{item_of, item_with, Undone, started, completed, failed, settled, taken_by, Reaps}
-use Rattle.can_segment.specs.Brought.{StartsUndone, told_of, start_in, sent_in, reaped_in, taken_in, all_in, grown}
-use Rattle.can_segment.specs.Brought.{IsBrought}
-use Rattle.can_segment.specs.Kept.{no_deed, begun_by}
-use Rattle.can_segment.specs.Members.{is_on, settled_at, taken_at}
+use Rattle.can_station.specs.declared.event.Event.{Event}
+use Rattle.can_station.specs.declared.event.Label.{Label}
+use Rattle.can_station.specs.declared.event.Told.{Told}
+use Rattle.can_station.specs.declared.event.Told.TheVariants as told
+use Rattle.can_station.specs.declared.member.Deed.{Deed}
+use Rattle.can_station.specs.declared.member.Member.{Member}
+use Rattle.can_station.specs.declared.transmission.Transmission.{Transmission}
+use Rattle.can_station.specs.Lines.{lines, told_start, told_outcome, told_reaped}
+use Rattle.can_station.specs.Tellings.{start_of, rest_by, told_by, bit_lines}
+use Rattle.can_station.specs.Outcomes.{is_failure}
+use Rattle.can_station.specs.Ports.{item_of, item_with, Undone, started, completed, failed, settled, taken_by, Reaps}
+use Rattle.can_segment.specs.Brought.{StartsUndone, told_of, start_in, sent_in, reaped_in, taken_in, all_in, grown, IsBrought}
+use Rattle.can_station.specs.Deeds.{no_deed, begun_by}
+use Rattle.can_station.specs.Members.{is_on, settled_at, taken_at}
 use Rattle.can_segment.specs.Moves.{PortMoves}
 use Rattle.std.proofs.lemmas.Bool.Decides.{leb_tells}
 

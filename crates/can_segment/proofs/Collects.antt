@@ -1,12 +1,13 @@
 -- The acts of all nodes at a bit, collected from what is known of each.
 use Rattle.std.proofs.Common.{◌≡◌, ℕ, zero, suc, ◌+◌, Bool, ◌&&◌, Option, Some, List, [], ◌∷◌, ◌++◌, length, slice_get, refl, sym, ap, subst, arith, ◌∙◌, append_assoc}
 use Rattle.std.specs.List.{list_all}
-use Rattle.can_segment.specs.declared.event.Told.{Told}
-use Rattle.can_segment.specs.declared.member.Deed.{Deed}
-use Rattle.can_segment.specs.declared.member.Member.{Member}
+use Rattle.can_station.specs.declared.event.Told.{Told}
+use Rattle.can_station.specs.declared.member.Deed.{Deed}
+use Rattle.can_station.specs.declared.member.Member.{Member}
 use Rattle.can_segment.specs.Traces.{Act}
-use Rattle.can_segment.specs.Tells.{lines, lines_from}
-use Rattle.can_segment.specs.Tellings.{told_by}
+use Rattle.can_station.specs.Lines.{lines}
+use Rattle.can_segment.specs.Tells.{lines_from}
+use Rattle.can_station.specs.Tellings.{told_by}
 
 -- an act for each node, of which this is known
 pub record Collected {X : Type 0} (A : X → ℕ → Member → Member → Option Act → Type 0) (k : ℕ) (xs : List X) (mids afters : List Member) : Type 0 where

@@ -1,23 +1,21 @@
 -- Nodes that come to rest between two bits.
-use Rattle.std.proofs.Common.{◌≡◌, ◌≢◌, ◌⊎◌, ℕ, ◌+◌, ◌<◌, ◌≤◌, inl, inr, Bool, true, false, Some, None, List, length, map, slice_get, set, refl, sym, ap, subst, arith, ◌∙◌}
+use Rattle.std.proofs.Common.{◌≡◌, ◌≢◌, ℕ, ◌+◌, ◌<◌, ◌≤◌, inl, inr, Bool, true, false, Some, None, List, length, map, slice_get, set, refl, sym, ap, subst, arith, ◌∙◌}
 use Rattle.std.proofs.lemmas.Bool.{cases_lt}
 use Rattle.std.proofs.lemmas.List.{length-map}
 use Rattle.std.proofs.lemmas.Option.{slice_get_within}
-use Rattle.can_confinement.specs.KnownCounts.{Knows}
 use Rattle.can_node.specs.Listener.{IsListening, caught_up as node_caught_up}
 use Rattle.can_node.specs.Node.{StandsAfter, counters_in, may_begin}
-use Rattle.can_confinement.specs.declared.counters.Counters.{Counters}
 use Rattle.can_node.specs.declared.listener.Listener.{Listener}
-use Rattle.can_segment.specs.declared.member.Member.{Member}
-use Rattle.can_segment.specs.declared.plan.Talker.{Talker}
+use Rattle.can_station.specs.declared.member.Member.{Member}
+use Rattle.can_station.specs.declared.plan.Talker.{Talker}
 use Rattle.can_segment.specs.declared.rest.Rest.{Rest}
-use Rattle.can_segment.specs.declared.span.Span.{Span}
-use Rattle.can_segment.specs.Kept.{IsQuiet, no_deed}
-use Rattle.can_segment.specs.Places.{AtPlaces, AtPlacesBelow}
-use Rattle.can_segment.specs.Rests.{AreAlike, AreResting, AreSpent, AwakeWithin, Chooses, IsAlike, IsLess, IsResting, IsSame, Lulls, MayLieDown, MayRest, NoneRests, RestHolds, caught_up, laid_down, members_at, woken}
+use Rattle.can_station.specs.declared.span.Span.{Span}
+use Rattle.can_station.specs.Deeds.{IsQuiet, no_deed}
+use Rattle.can_station.specs.Places.{AtPlaces, AtPlacesBelow}
+use Rattle.can_station.specs.RestingNodes.{AreAlike, AwakeWithin, IsAlike, MayLieDown, MayRest, NoneRests, laid_down, woken}
+use Rattle.can_segment.specs.Rests.{AreResting, AreSpent, Chooses, IsLess, IsResting, Lulls, members_at}
 use Rattle.can_segment.proofs.Holds.{not_resting, same_rests}
-use Rattle.can_segment.proofs.NextBits.{some_there}
-use Rattle.can_segment.proofs.Places.{get_set_other, get_set_same, places_end, places_start, places_step, same_some}
+use Rattle.can_station.proofs.Places.{some_there, get_set_other, get_set_same, places_step, same_some}
 use Rattle.can_segment.proofs.Shown.{map_at}
 use Rattle.can_segment.proofs.Woken.{awake_woken, none_resting}
 

@@ -1,15 +1,16 @@
 -- A controller's bit is an act by the rules of a controller.
 use Rattle.std.proofs.Common.{◌≡◌, ℕ, ◌≤◌, Bool, true, false, IfSome, IsSome, Option, Some, None, List, length, refl, sym, ap, subst, arith, ◌∙◌}
 use Rattle.can_node.specs.Node.{StandsAfter, bit_of}
-use Rattle.can_segment.specs.declared.event.Label.{Label}
-use Rattle.can_segment.specs.declared.transmission.Transmission.{Transmission}
-use Rattle.can_segment.specs.declared.member.Member.{Member}
+use Rattle.can_station.specs.declared.event.Label.{Label}
+use Rattle.can_station.specs.declared.transmission.Transmission.{Transmission}
+use Rattle.can_station.specs.declared.member.Member.{Member}
 use Rattle.can_segment.specs.Traces.{Bit, past_of}
 use Rattle.can_segment.specs.Runs.{IsBegun}
-use Rattle.can_segment.specs.Ports.{Reaps}
-use Rattle.can_segment.specs.Stations.{IsRequest}
-use Rattle.can_segment.specs.Members.{StartsRequest, SamplesAndSettles}
-use Rattle.can_segment.specs.Kept.{begun_by, StandsBehind}
+use Rattle.can_station.specs.Ports.{Reaps}
+use Rattle.can_station.specs.Stations.{IsRequest}
+use Rattle.can_station.specs.Members.{StartsRequest, SamplesAndSettles}
+use Rattle.can_station.specs.Deeds.{begun_by}
+use Rattle.can_segment.specs.Kept.{StandsBehind}
 use Rattle.can_segment.proofs.Deeds.{Done, done, begun_is, named_start, named_reaping}
 
 -- a controller at a bit at which it is on

@@ -2,8 +2,8 @@
 use Rattle.std.proofs.Common.{Bool, List}
 use Rattle.can_node.proofs.ActiveErrors.{active_errors}
 use Rattle.can_node.proofs.CompletedSends.{completed_taken, none_open}
-use Rattle.can_segment.specs.declared.event.Event.{Event}
-use Rattle.can_segment.specs.declared.plan.SegmentPlan.{SegmentPlan}
+use Rattle.can_station.specs.declared.event.Event.{Event}
+use Rattle.can_station.specs.declared.plan.SegmentPlan.{SegmentPlan}
 use Rattle.can_segment.specs.Traces.{Bit}
 use Rattle.can_segment.specs.Runs.{Run}
 use Rattle.can_segment.specs.Copies.{is_falsified, KeepsCopies, Copies}

@@ -4,14 +4,16 @@ use Rattle.std.proofs.lemmas.List.Sums.{fold-append}
 use Rattle.can_confinement.specs.declared.confinement.ErrorEvent.{ErrorEvent}
 use Rattle.can_node.specs.Histories.{no_past, IsHistory}
 use Rattle.can_node.specs.Node.{StandsAfter, bit_of, driven_by}
-use Rattle.can_segment.specs.declared.event.Label.{Label}
-use Rattle.can_segment.specs.declared.transmission.Transmission.{Transmission}
-use Rattle.can_segment.specs.declared.member.Deed.{Deed}
-use Rattle.can_segment.specs.declared.member.Member.{Member}
-use Rattle.can_segment.specs.Traces.{Act, Bit, act_of, with_start, with_act, past_of, sending_now, sending_after, sending_behind, sending_of, completed_in, completed_of}
-use Rattle.can_segment.specs.Members.{SamplesOn}
-use Rattle.can_segment.specs.Tells.{told_outcome}
-use Rattle.can_segment.specs.Kept.{begun_by, Names, StandsBehind}
+use Rattle.can_station.specs.declared.event.Label.{Label}
+use Rattle.can_station.specs.declared.transmission.Transmission.{Transmission}
+use Rattle.can_station.specs.declared.member.Deed.{Deed}
+use Rattle.can_station.specs.declared.member.Member.{Member}
+use Rattle.can_segment.specs.Traces.{Act, Bit, act_of, with_start, with_act, past_of, sending_now, sending_behind, sending_of, completed_in, completed_of}
+use Rattle.can_station.specs.Outcomes.{sending_after}
+use Rattle.can_station.specs.Members.{SamplesOn}
+use Rattle.can_station.specs.Lines.{told_outcome}
+use Rattle.can_station.specs.Deeds.{begun_by, Names}
+use Rattle.can_segment.specs.Kept.{StandsBehind}
 
 -- the lists of a node behind one more bit
 pub past_next : (on k : ℕ) (trace : List Bit) (bit : Bit) → past_of on k (trace ++ bit ∷ []) ≡ with_act (past_of on k trace) (act_of k bit)

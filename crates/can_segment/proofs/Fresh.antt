@@ -1,19 +1,18 @@
 -- A segment before its first bit.
 use Rattle.std.proofs.Common.{◌≡◌, ℕ, ◌+◌, inl, inr, Some, None, Option, List, [], ◌∷◌, ◌++◌, length, slice_get, refl, sym, ap, subst, arith, ◌∙◌, length-append}
 use Rattle.std.proofs.lemmas.Option.{slice_get_within}
-use Rattle.can_segment.specs.declared.member.Member.{Member}
-use Rattle.can_segment.specs.declared.plan.SegmentPlan.{SegmentPlan}
+use Rattle.can_station.specs.declared.member.Member.{Member}
+use Rattle.can_station.specs.declared.plan.SegmentPlan.{SegmentPlan}
 use Rattle.can_segment.specs.Kept.{StandsBehind, SegmentKept}
 use Rattle.can_segment.specs.Runs.Run.{no_bit}
-use Rattle.can_segment.specs.Fresh.{IsFresh, AreFresh}
+use Rattle.can_station.specs.Fresh.{IsFresh, AreFresh}
 use Rattle.bx_core.specs.TxBus.{Item}
 use Rattle.bx_core.proofs.Words.{pushed}
-use Rattle.can_segment.specs.Ports.{item_of}
+use Rattle.can_station.specs.Ports.{item_of}
 use Rattle.can_segment.specs.Segments.{AreFromResting, sending_of_all}
-use Rattle.can_segment.specs.Rests.{NoneRests}
+use Rattle.can_station.specs.RestingNodes.{NoneRests}
 use Rattle.can_confinement.specs.declared.counters.Counters.{Counters}
-use Rattle.can_segment.proofs.NextBits.{some_there}
-use Rattle.can_segment.proofs.Places.{same_some}
+use Rattle.can_station.proofs.Places.{some_there, same_some}
 use Rattle.can_segment.proofs.Shown.{map_at}
 
 -- nodes so far

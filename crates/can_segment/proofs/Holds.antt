@@ -3,11 +3,12 @@ use Rattle.std.proofs.Common.{◌≡◌, ◌≢◌, ◌⊎◌, inl, inr, ℕ, �
 use Rattle.can_confinement.specs.KnownCounts.{Knows}
 use Rattle.can_node.specs.Listener.{IsListening}
 use Rattle.can_node.specs.Node.{counters_in}
-use Rattle.can_segment.specs.declared.member.Member.{Member}
-use Rattle.can_segment.specs.declared.plan.Talker.{Talker}
+use Rattle.can_station.specs.declared.member.Member.{Member}
+use Rattle.can_station.specs.declared.plan.Talker.{Talker}
 use Rattle.can_segment.specs.declared.rest.Rest.{Rest}
-use Rattle.can_segment.specs.declared.span.Span.{Span}
-use Rattle.can_segment.specs.Rests.{AreApart, AreResting, AreSpent, AwakeWithin, IsResting, IsSame, LeavesResting, NoneRests, OthersRest, RestHolds, RestsThrough}
+use Rattle.can_station.specs.declared.span.Span.{Span}
+use Rattle.can_segment.specs.Rests.{AreResting, AreSpent, IsResting, IsSame, RestHolds, RestsThrough}
+use Rattle.can_station.specs.RestingNodes.{AreApart, AwakeWithin, LeavesResting, NoneRests, OthersRest}
 use Rattle.can_segment.proofs.Rests.{next_rests}
 
 -- where none rests

@@ -4,16 +4,17 @@ use Rattle.std.proofs.lemmas.Option.{slice_get_within}
 use Rattle.can_node.specs.declared.outcome.Outcome.{Outcome}
 use Rattle.can_node.specs.declared.outcome.Outcome.TheVariants.{Nothing, Took, Completed, Lost, Errored, WentOff, CameBack}
 use Rattle.can_node.specs.Node.{bit_of}
-use Rattle.can_segment.specs.declared.event.Event.{Event}
-use Rattle.can_segment.specs.declared.member.Member.{Member}
-use Rattle.can_segment.specs.declared.plan.SegmentPlan.{SegmentPlan}
-use Rattle.can_segment.specs.Traces.{Act, Bit, act_of, completed_by, completed_in}
+use Rattle.can_station.specs.declared.event.Event.{Event}
+use Rattle.can_station.specs.declared.member.Member.{Member}
+use Rattle.can_station.specs.declared.plan.SegmentPlan.{SegmentPlan}
+use Rattle.can_segment.specs.Traces.{Act, Bit, act_of, completed_in}
+use Rattle.can_station.specs.Outcomes.{completed_by}
 use Rattle.can_segment.specs.Runs.{Run}
 use Rattle.can_segment.specs.Runs.Run.{no_bit, one_more}
 use Rattle.can_segment.specs.Moves.{NodesMove}
 use Rattle.can_segment.specs.Kept.{StandsBehind, SegmentKept}
-use Rattle.can_segment.specs.Tellings.{start_of, rest_by, told_by, bit_lines}
-use Rattle.can_segment.proofs.NextBits.{some_there}
+use Rattle.can_station.specs.Tellings.{start_of, rest_by, told_by, bit_lines}
+use Rattle.can_station.proofs.Places.{some_there}
 use Rattle.can_segment.proofs.Makes.{made}
 
 -- a record has one level a bit

@@ -1,9 +1,7 @@
 pub mod Deeds
 pub mod Talks
 pub mod Controls
-pub mod Places
 pub mod Acts
-pub mod Tellings
 pub mod Collects
 pub mod NextBits
 pub mod Makes
@@ -13,7 +11,6 @@ pub mod Brought
 pub mod Shown
 pub mod Fresh
 pub mod Quiet
-pub mod Settles
 pub mod OneLine
 pub mod ActsNoted
 pub mod Pasts
@@ -21,10 +18,7 @@ pub mod Attempts
 pub mod Retries
 pub mod Requests
 pub mod Copies
-pub mod FaultOrder
 pub mod Woken
-pub mod Wakes
-pub mod Spans
 pub mod Unmoved
 pub mod Rests
 pub mod Holds

@@ -3,22 +3,23 @@ use Rattle.std.proofs.Common.{◌≡◌, ℕ, ◌+◌, Bool, ◌&&◌, Option, S
 use Rattle.std.specs.List.{list_all}
 use Rattle.std.proofs.lemmas.List.Folds.{list_all-append}
 use Rattle.std.proofs.lemmas.Option.{slice_get_within}
-use Rattle.can_segment.specs.declared.event.Told.{Told}
-use Rattle.can_segment.specs.declared.member.Deed.{Deed}
-use Rattle.can_segment.specs.declared.member.Member.{Member}
-use Rattle.can_segment.specs.declared.plan.Talker.{Talker}
-use Rattle.can_segment.specs.declared.plan.Controller.{Controller}
-use Rattle.can_segment.specs.declared.plan.SegmentPlan.{SegmentPlan}
-use Rattle.can_segment.specs.Faults.{line_level, sampled_level}
+use Rattle.can_station.specs.declared.event.Told.{Told}
+use Rattle.can_station.specs.declared.member.Deed.{Deed}
+use Rattle.can_station.specs.declared.member.Member.{Member}
+use Rattle.can_station.specs.declared.plan.Talker.{Talker}
+use Rattle.can_station.specs.declared.plan.Controller.{Controller}
+use Rattle.can_station.specs.declared.plan.SegmentPlan.{SegmentPlan}
+use Rattle.can_station.specs.Faults.{line_level, sampled_level}
 use Rattle.can_segment.specs.Traces.{Act, Bit, act_of, sending_of}
 use Rattle.can_segment.specs.Tells.{starts_of, rest_of, lines_from}
 use Rattle.can_segment.specs.Runs.{drives}
-use Rattle.can_segment.specs.Members.{drives_at}
+use Rattle.can_station.specs.Members.{drives_at}
 use Rattle.can_segment.specs.Kept.{StandsBehind}
-use Rattle.can_segment.specs.Tellings.{start_of, rest_by, told_by}
+use Rattle.can_station.specs.Tellings.{start_of, rest_by, told_by}
 use Rattle.can_segment.proofs.Acts.{Talks, Controls}
 use Rattle.can_segment.proofs.Collects.{Collected, same_all, lines_told, lines_split}
-use Rattle.can_segment.proofs.NextBits.{Made, Making, Placed, TalkerActed, ControllerActed, acts_bit, acts_at, stands_at, some_there, talkers_acts, controllers_acts, talker_placed, controller_placed}
+use Rattle.can_segment.proofs.NextBits.{Made, Making, Placed, TalkerActed, ControllerActed, acts_bit, acts_at, stands_at, talkers_acts, controllers_acts, talker_placed, controller_placed}
+use Rattle.can_station.proofs.Places.{some_there}
 
 same_some : {X : Type 0} (a b : X) → Some a ≡ Some b → a ≡ b
 same_some a b e = cc e

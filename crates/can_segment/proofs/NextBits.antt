@@ -1,21 +1,22 @@
 -- One more bit of a segment: what its nodes did makes a bit of a run.
-use Rattle.std.proofs.Common.{◌≡◌, ℕ, zero, suc, ◌+◌, ◌<◌, Bool, ◌&&◌, Option, Some, None, List, [], ◌∷◌, ◌++◌, length, slice_get, refl, sym, ap, subst, arith, ◌∙◌}
+use Rattle.std.proofs.Common.{◌≡◌, ℕ, ◌+◌, ◌<◌, Bool, ◌&&◌, Option, Some, None, List, [], ◌∷◌, ◌++◌, length, slice_get, sym, ap, subst, arith, ◌∙◌}
 use Rattle.std.specs.List.{list_all}
 use Rattle.std.proofs.lemmas.Option.{slice_get_within}
-use Rattle.can_segment.specs.declared.member.Member.{Member}
-use Rattle.can_segment.specs.declared.plan.Talker.{Talker}
-use Rattle.can_segment.specs.declared.plan.Controller.{Controller}
-use Rattle.can_segment.specs.declared.plan.SegmentPlan.{SegmentPlan}
-use Rattle.can_segment.specs.Faults.{line_level, sampled_level}
+use Rattle.can_station.specs.declared.member.Member.{Member}
+use Rattle.can_station.specs.declared.plan.Talker.{Talker}
+use Rattle.can_station.specs.declared.plan.Controller.{Controller}
+use Rattle.can_station.specs.declared.plan.SegmentPlan.{SegmentPlan}
+use Rattle.can_station.specs.Faults.{line_level, sampled_level}
 use Rattle.can_segment.specs.Traces.{Act, Bit, act_of}
 use Rattle.can_segment.specs.Tells.{events_at}
 use Rattle.can_segment.specs.Runs.{ActsAt, IsBit}
-use Rattle.can_segment.specs.Members.{TalkerStarts, TalkerSamples, drives_at}
+use Rattle.can_station.specs.Members.{TalkerStarts, TalkerSamples, drives_at}
 use Rattle.can_segment.specs.Moves.{Controlling}
-use Rattle.can_segment.specs.Places.{AtPlaces}
+use Rattle.can_station.specs.Places.{AtPlaces}
 use Rattle.can_segment.specs.Kept.{StandsBehind, SegmentStands}
-use Rattle.can_segment.specs.Tellings.{start_of, rest_by, told_by}
+use Rattle.can_station.specs.Tellings.{start_of, rest_by, told_by}
 use Rattle.can_segment.proofs.Acts.{Acted, Talks, Controls, talker_acts, controller_acts}
+use Rattle.can_station.proofs.Places.{some_there}
 use Rattle.can_segment.proofs.Collects.{Collected, collect, get_left, get_right}
 
 -- a bit that was made
@@ -37,18 +38,6 @@ act_found level acts k act e = elim (slice_get acts k) as (λ found. found ≡ S
     act_in_of : Option (Option Act) → Option Act
     act_in_of None = None
     act_in_of (Some x) = x
-
-never_none : {X : Type 0} (ys : List X) (j : ℕ) → j < length ys → slice_get ys j ≡ None → ⊥
-never_none [] j r e = omega (arith, r)
-never_none (y ∷ ys) zero r e = cc e
-never_none (y ∷ ys) (suc j) r e = never_none ys j (omega (arith, r)) e
-
-there : {X : Type 0} (xs : List X) (i : ℕ) → i < length xs → (found : Option X) → slice_get xs i ≡ found → (x : X) × (slice_get xs i ≡ Some x)
-there xs i room (Some x) e = (x, e)
-there xs i room None e = absurd (never_none xs i room e)
-
-pub some_there : {X : Type 0} (xs : List X) (i : ℕ) → i < length xs → (x : X) × (slice_get xs i ≡ Some x)
-some_there xs i room = there xs i room (slice_get xs i) refl
 
 same_found : {X : Type 0} (a b : X) → Some a ≡ Some b → a ≡ b
 same_found a b e = cc e

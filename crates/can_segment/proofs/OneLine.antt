@@ -8,14 +8,14 @@ use Rattle.std.proofs.lemmas.Option.{slice_get_within, slice_get-map}
 use Rattle.can_node.specs.Pairs.{Pair}
 use Rattle.can_node.specs.Histories.{Past, no_past}
 use Rattle.can_node.specs.Copies.{Drives, Samples, OnOneLine}
-use Rattle.can_segment.specs.declared.event.Event.{Event}
-use Rattle.can_segment.specs.declared.transmission.Transmission.{Transmission}
-use Rattle.can_segment.specs.declared.plan.Talker.{Talker}
-use Rattle.can_segment.specs.declared.plan.Controller.{Controller}
-use Rattle.can_segment.specs.declared.plan.LineFault.{LineFault}
-use Rattle.can_segment.specs.declared.plan.NodeFault.{NodeFault}
-use Rattle.can_segment.specs.declared.plan.SegmentPlan.{SegmentPlan}
-use Rattle.can_segment.specs.Faults.{line_level, is_inverted, sampled_level}
+use Rattle.can_station.specs.declared.event.Event.{Event}
+use Rattle.can_station.specs.declared.transmission.Transmission.{Transmission}
+use Rattle.can_station.specs.declared.plan.Talker.{Talker}
+use Rattle.can_station.specs.declared.plan.Controller.{Controller}
+use Rattle.can_station.specs.declared.plan.LineFault.{LineFault}
+use Rattle.can_station.specs.declared.plan.NodeFault.{NodeFault}
+use Rattle.can_station.specs.declared.plan.SegmentPlan.{SegmentPlan}
+use Rattle.can_station.specs.Faults.{line_level, is_inverted, sampled_level}
 use Rattle.can_segment.specs.Traces.{Act, Bit, with_start, with_act, act_of, past_of}
 use Rattle.can_segment.specs.Runs.{IsBit, ActsAt, Run, firsts, drives}
 use Rattle.can_segment.specs.Runs.Run.{no_bit, one_more}

@@ -7,8 +7,8 @@ use Rattle.can_node.specs.Histories.Whole.{switched_on}
 use Rattle.can_node.specs.Episodes.Begun.{syncing}
 use Rattle.can_node.specs.Phases.Phase.{Sync}
 use Rattle.can_node.specs.Waits.Broken.{none}
-use Rattle.can_segment.specs.declared.event.Event.{Event}
-use Rattle.can_segment.specs.declared.plan.SegmentPlan.{SegmentPlan}
+use Rattle.can_station.specs.declared.event.Event.{Event}
+use Rattle.can_station.specs.declared.plan.SegmentPlan.{SegmentPlan}
 use Rattle.can_segment.specs.Traces.{Bit, with_act, past_of}
 use Rattle.can_segment.specs.Runs.{Run, firsts}
 use Rattle.can_segment.specs.Runs.Run.{no_bit, one_more}

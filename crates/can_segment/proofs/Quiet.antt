@@ -1,29 +1,19 @@
 -- Nothing is told of quiet nodes.
-use Rattle.std.proofs.Common.{◌≡◌, ◌≢◌, ℕ, zero, suc, ◌+◌, ◌<◌, ◌≤◌, Bool, false, cond, inl, inr, None, Some, List, [], ◌∷◌, ◌++◌, length, slice_get, set, refl, sym, ap, subst, arith, ◌∙◌}
+use Rattle.std.proofs.Common.{◌≡◌, ℕ, zero, suc, ◌+◌, ◌≤◌, Bool, cond, inl, inr, None, Some, List, [], ◌∷◌, ◌++◌, length, slice_get, refl, sym, ap, subst, arith, ◌∙◌}
 use Rattle.std.proofs.lemmas.Bool.{cases_lt}
 use Rattle.std.proofs.lemmas.Option.{slice_get_within}
-use Rattle.can_segment.specs.declared.event.Event.{Event}
-use Rattle.can_segment.specs.declared.event.Told.{Told}
-use Rattle.can_segment.specs.declared.member.Deed.{Deed}
-use Rattle.can_segment.specs.declared.member.Member.{Member}
-use Rattle.can_segment.specs.declared.plan.SegmentPlan.{SegmentPlan}
-use Rattle.can_segment.specs.Tells.{lines, told_start, told_outcome, told_reaped}
+use Rattle.can_station.specs.declared.event.Event.{Event}
+use Rattle.can_station.specs.declared.event.Told.{Told}
+use Rattle.can_station.specs.declared.member.Deed.{Deed}
+use Rattle.can_station.specs.declared.member.Member.{Member}
+use Rattle.can_station.specs.declared.plan.SegmentPlan.{SegmentPlan}
+use Rattle.can_station.specs.Lines.{lines, told_start, told_outcome, told_reaped}
 use Rattle.can_segment.specs.Traces.{Bit}
-use Rattle.can_segment.specs.Kept.{no_deed, StandsBehind, IsQuiet, AreQuiet, SegmentKept}
-use Rattle.can_segment.specs.Rests.{AwakeQuietBelow}
-use Rattle.can_segment.specs.Tellings.{start_of, rest_by, told_by, bit_lines}
+use Rattle.can_station.specs.Deeds.{no_deed, IsQuiet, AreQuiet}
+use Rattle.can_segment.specs.Kept.{StandsBehind, SegmentKept}
+use Rattle.can_station.specs.Tellings.{start_of, rest_by, told_by, bit_lines}
 use Rattle.can_segment.proofs.Keeps.{run_length}
-use Rattle.can_segment.proofs.NextBits.{some_there}
-use Rattle.can_segment.proofs.Places.{same_some, get_set_same, get_set_other}
-
--- one node more, of which nothing is told if it is awake
-pub quiet_step : (bit : ℕ) (members : List Member) (i : ℕ) (m : Member) → i < length members → (m.rests ≡ false → m.on ≤ bit → IsQuiet m.deed) → AwakeQuietBelow bit members i → AwakeQuietBelow bit (set members i m) (i + 1)
-quiet_step bit members i m room here below k x h e awake on = elim (cases_lt k i) [
-  | inl less ↦ (let ne : k ≢ i = omega arith in below k x less (sym (get_set_other members i k m ne) ∙ e) awake on)
-  | inr more ↦ (let is : k ≡ i = omega arith in
-      let same : m ≡ x = same_some m x (sym (get_set_same members i m room) ∙ ap (slice_get (set members i m)) (sym is) ∙ e) in
-      subst (λ y. IsQuiet y.deed) same (here (subst (λ y. y.rests ≡ false) (sym same) awake) (subst (λ y. y.on ≤ bit) (sym same) on)))
-]
+use Rattle.can_station.proofs.Places.{some_there}
 
 told_nothing : (tells : Deed → List Told) (bit node : ℕ) (members : List Member) → ((k : ℕ) (m : Member) → slice_get members k ≡ Some m → tells m.deed ≡ []) → told_by tells bit node members ≡ []
 unfolding told_by

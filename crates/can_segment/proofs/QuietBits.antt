@@ -1,24 +1,25 @@
 -- A segment behind a bit at which all nodes rested, or all but one that sent on.
 use Rattle.std.proofs.Common.{◌≡◌, ℕ, ◌+◌, ◌<◌, ◌≤◌, ◌++◌, ◌∷◌, [], Bool, Some, List, length, slice_get, refl, sym, ap, subst, arith, ◌∙◌, length-append}
 use Rattle.std.proofs.lemmas.List.{append-nil, length-map}
-use Rattle.can_segment.specs.declared.event.Event.{Event}
-use Rattle.can_segment.specs.declared.member.Member.{Member}
-use Rattle.can_segment.specs.declared.plan.SegmentPlan.{SegmentPlan}
+use Rattle.can_station.specs.declared.event.Event.{Event}
+use Rattle.can_station.specs.declared.member.Member.{Member}
+use Rattle.can_station.specs.declared.plan.SegmentPlan.{SegmentPlan}
 use Rattle.can_segment.specs.declared.record.Record.{Record}
 use Rattle.can_segment.specs.declared.rest.Rest.{Rest}
-use Rattle.can_segment.specs.declared.fault_order.FaultOrder.{FaultOrder}
-use Rattle.can_segment.specs.FaultOrder.{IsFaultless, StandsAt}
+use Rattle.can_station.specs.declared.fault_order.FaultOrder.{FaultOrder}
+use Rattle.can_station.specs.FaultOrder.{IsFaultless, StandsAt}
 use Rattle.can_segment.specs.Kept.{SegmentKept}
-use Rattle.can_segment.specs.Members.{Samples, SamplesAndSettles}
+use Rattle.can_station.specs.Members.{Samples, SamplesAndSettles}
 use Rattle.can_segment.specs.Moves.{NodesMove}
-use Rattle.can_segment.specs.Ports.{item_of}
-use Rattle.can_segment.specs.Rests.{RestHolds, GoesQuietly, TransmitsAll, members_at}
+use Rattle.can_station.specs.Ports.{item_of}
+use Rattle.can_segment.specs.Rests.{RestHolds, GoesQuietly, members_at}
+use Rattle.can_station.specs.RestingNodes.{TransmitsAll}
 use Rattle.can_segment.specs.Segments.{AreFrom, SegmentHolds, SegmentValue, sending_of_all}
-use Rattle.can_segment.specs.Tellings.{bit_lines}
+use Rattle.can_station.specs.Tellings.{bit_lines}
 use Rattle.can_segment.specs.QuietBits.{GrowsQuietly, MakesQuietBit, MakeQuietBits}
 use Rattle.can_segment.specs.QuietBits.MakeQuietBits.{no_bit, one_more}
 use Rattle.can_segment.proofs.Keeps.{kept_on}
-use Rattle.can_segment.proofs.Places.{same_some}
+use Rattle.can_station.proofs.Places.{same_some}
 use Rattle.can_segment.proofs.Quiet.{quiet_lines}
 use Rattle.can_segment.proofs.Rests.{members_length}
 use Rattle.can_segment.proofs.Shown.{map_there}

@@ -11,18 +11,20 @@ use Rattle.can_node.proofs.Outcomes.{attempt_end}
 use Rattle.bx_core.specs.Lists.{Has}
 use Rattle.bx_core.specs.TxBus.{BusPast, IsUndone, no_bus_past}
 use Rattle.bx_core.proofs.Words.{has-left, has-right}
-use Rattle.can_segment.specs.declared.event.Event.{Event}
-use Rattle.can_segment.specs.declared.event.Label.{Label}
-use Rattle.can_segment.specs.declared.event.Told.{Told}
-use Rattle.can_segment.specs.declared.event.Told.TheVariants as told
-use Rattle.can_segment.specs.declared.plan.Controller.{Controller}
-use Rattle.can_segment.specs.declared.plan.SegmentPlan.{SegmentPlan}
-use Rattle.can_segment.specs.declared.plan.Talker.{Talker}
-use Rattle.can_segment.specs.declared.transmission.Transmission.{Transmission}
+use Rattle.can_station.specs.declared.event.Event.{Event}
+use Rattle.can_station.specs.declared.event.Label.{Label}
+use Rattle.can_station.specs.declared.event.Told.{Told}
+use Rattle.can_station.specs.declared.event.Told.TheVariants as told
+use Rattle.can_station.specs.declared.plan.Controller.{Controller}
+use Rattle.can_station.specs.declared.plan.SegmentPlan.{SegmentPlan}
+use Rattle.can_station.specs.declared.plan.Talker.{Talker}
+use Rattle.can_station.specs.declared.transmission.Transmission.{Transmission}
 use Rattle.can_segment.specs.Attempts.{act_at, begun_at, sending_at, reaped_at, request_at, RequestsTryFailures}
 use Rattle.can_segment.specs.Brought.{StartsUndone, told_of, sent_in, reaped_in, all_in, grown}
-use Rattle.can_segment.specs.Tells.{told_start, told_outcome, told_reaped, starts_of, rest_of, lines, lines_from, events_at}
-use Rattle.can_segment.specs.Traces.{Act, Bit, act_of, sending_of, sending_now, ends_sending}
+use Rattle.can_station.specs.Lines.{told_start, told_outcome, told_reaped, lines}
+use Rattle.can_segment.specs.Tells.{starts_of, rest_of, lines_from, events_at}
+use Rattle.can_segment.specs.Traces.{Act, Bit, act_of, sending_of, sending_now}
+use Rattle.can_station.specs.Outcomes.{ends_sending}
 use Rattle.can_segment.specs.Runs.{Run, firsts}
 use Rattle.can_segment.specs.Runs.Run.{no_bit, one_more}
 use Rattle.can_segment.proofs.ActsNoted.{does_at, take_left, take_whole, act_before, act_last, within_act}

@@ -1,35 +1,33 @@
 -- Nodes that are left alone while a listener follows the line for them.
-use Rattle.std.proofs.Common.{◌≡◌, ◌≢◌, ◌⊎◌, ℕ, zero, suc, ◌+◌, ◌≤◌, ◌<◌, ◌&&◌, nat_le, inl, inr, cond, Bool, true, false, Option, None, Some, is_some, List, [], ◌∷◌, length, map, slice_get, refl, sym, ap, subst, arith, ◌∙◌}
+use Rattle.std.proofs.Common.{◌≡◌, ℕ, zero, suc, ◌+◌, ◌≤◌, ◌&&◌, nat_le, inl, inr, cond, Bool, true, false, Option, None, Some, is_some, List, [], ◌∷◌, length, slice_get, refl, sym, ap, subst, arith, ◌∙◌}
 use Rattle.std.specs.List.{list_all}
 use Rattle.std.proofs.lemmas.Bool.Decides.{leb_tells}
 use Rattle.std.proofs.lemmas.List.{length-map}
-use Rattle.std.proofs.lemmas.Option.{slice_get_within}
 use Rattle.can_frame.specs.Frames.{FrameValue}
 use Rattle.bx_core.specs.TxBus.{Item, BusPast, BusCall}
 use Rattle.can_node.specs.Histories.{Past}
 use Rattle.can_confinement.specs.KnownCounts.{Knows}
 use Rattle.can_node.specs.Listener.{caught_up as node_caught_up}
-use Rattle.can_node.specs.Node.{IsSample, IsWanting, StandsAfter, bit_of, counters_in, driven_by, may_begin}
+use Rattle.can_node.specs.Node.{IsSample, IsWanting, StandsAfter, counters_in, driven_by, may_begin}
 use Rattle.can_node.specs.declared.node.Node.{Node}
 use Rattle.can_node.specs.declared.listener.Listener.{Listener}
 use Rattle.can_node.proofs.Samples.{stands_history, wanting}
-use Rattle.can_segment.specs.declared.member.Member.{Member}
-use Rattle.can_segment.specs.declared.plan.NodeFault.{NodeFault}
-use Rattle.can_segment.specs.declared.plan.Talker.{Talker}
+use Rattle.can_station.specs.declared.member.Member.{Member}
+use Rattle.can_station.specs.declared.plan.NodeFault.{NodeFault}
+use Rattle.can_station.specs.declared.plan.Talker.{Talker}
 use Rattle.can_segment.specs.declared.rest.Rest.{Rest}
-use Rattle.can_segment.specs.Faults.{is_inverted, sampled_level}
-use Rattle.can_segment.specs.Kept.{AreQuiet, IsQuiet}
-use Rattle.can_segment.specs.Members.{NodeSamples, PortSettles, PortStarts, Samples, SamplesOn, TalkerStarts, drives_at, is_on}
-use Rattle.can_segment.specs.Places.{AtPlaces, AtBoth}
-use Rattle.can_segment.specs.Ports.{item_of}
-use Rattle.can_segment.specs.Stations.{IsTalk}
-use Rattle.can_segment.specs.Rests.{AreResting, AreSpent, AwakeAreQuiet, Drives, HasRoom, IfAwake, IfAwakeBoth, IsResting, LeavesResting, NoneRests, RestsThrough, StartsNone, TransmitsAll, Undisturbed, caught_up, members_at, woken}
-use Rattle.can_segment.specs.Traces.{completed_by, sending_after}
-use Rattle.can_segment.proofs.Places.{same_some}
+use Rattle.can_station.specs.Faults.{is_inverted, sampled_level}
+use Rattle.can_station.specs.Deeds.{AreQuiet, IsQuiet}
+use Rattle.can_station.specs.Members.{NodeSamples, PortSettles, PortStarts, Samples, SamplesOn, TalkerStarts, drives_at}
+use Rattle.can_station.specs.Places.{AtPlaces, AtBoth}
+use Rattle.can_station.specs.Ports.{item_of}
+use Rattle.can_station.specs.Stations.{IsTalk}
+use Rattle.can_segment.specs.Rests.{AreResting, AreSpent, Drives, IsResting, RestsThrough, StartsNone, members_at}
+use Rattle.can_station.specs.RestingNodes.{AwakeAreQuiet, HasRoom, IfAwake, IfAwakeBoth, NoneRests, TransmitsAll, Undisturbed, caught_up, woken}
+use Rattle.can_station.specs.Outcomes.{completed_by, sending_after}
 use Rattle.can_segment.proofs.Shown.{map_at, map_there}
-use Rattle.can_segment.proofs.NextBits.{some_there}
 use Rattle.can_segment.proofs.Unmoved.{unmoved_requests, unmoved_settles}
-use Rattle.can_segment.proofs.Woken.{awake_woken, found_awake, found_resting, found_woken, left_both, lift_both, lift_places, resting_woken}
+use Rattle.can_segment.proofs.Woken.{awake_woken, found_awake, lift_both, lift_places, resting_woken}
 
 -- one that rests does not start,
 and_false : (b : Bool) → (b && false) ≡ false

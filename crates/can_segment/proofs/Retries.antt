@@ -8,10 +8,11 @@ use Rattle.can_node.specs.Cuts.{IsAttempt}
 use Rattle.can_node.specs.Attempts.{first_bit}
 use Rattle.can_node.proofs.Outcomes.{completed_told, IsEnd, attempt_end, first_no_later}
 use Rattle.can_node.proofs.Outcomes.IsEnd.{is_completed, is_lost, is_error, is_off}
-use Rattle.can_segment.specs.declared.event.Event.{Event}
-use Rattle.can_segment.specs.declared.plan.SegmentPlan.{SegmentPlan}
+use Rattle.can_station.specs.declared.event.Event.{Event}
+use Rattle.can_station.specs.declared.plan.SegmentPlan.{SegmentPlan}
 use Rattle.can_segment.specs.Attempts.{act_at}
-use Rattle.can_segment.specs.Traces.{Bit, act_of, completed_by, completed_in, is_failure}
+use Rattle.can_segment.specs.Traces.{Bit, act_of, completed_in}
+use Rattle.can_station.specs.Outcomes.{completed_by, is_failure}
 use Rattle.can_segment.specs.Runs.{Run}
 use Rattle.can_segment.specs.Copies.{TalkersTryFailures}
 use Rattle.can_segment.proofs.ActsNoted.{told_at}

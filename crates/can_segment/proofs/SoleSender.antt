@@ -12,22 +12,22 @@ use Rattle.can_node.specs.Node.{IsSample, StandsAfter, bit_of, counters_in, driv
 use Rattle.can_node.specs.declared.outcome.Outcome.TheVariants.{Nothing}
 use Rattle.can_confinement.specs.declared.counters.Counters.{Counters}
 use Rattle.can_node.specs.declared.listener.Listener.{Listener}
-use Rattle.can_segment.specs.declared.member.Member.{Member}
-use Rattle.can_segment.specs.declared.plan.Talker.{Talker}
+use Rattle.can_station.specs.declared.member.Member.{Member}
+use Rattle.can_station.specs.declared.plan.Talker.{Talker}
 use Rattle.can_segment.specs.declared.rest.Rest.{Rest}
-use Rattle.can_segment.specs.Kept.{AreQuiet, IsQuiet}
-use Rattle.can_segment.specs.Members.{PortSettles, PortStarts, Samples, SamplesOn, TalkerStarts, drives_at, is_on, wants_at}
-use Rattle.can_segment.specs.Places.{AtPlaces, AtBoth, MovesOne}
-use Rattle.can_segment.specs.Ports.{item_of}
-use Rattle.can_segment.specs.Rests.{AreApart, AwakeAreQuiet, Drives, GoesQuietly, IfAwake, IfAwakeBoth, MayRecover, MemberRecovers, MemberSends, OneSends, OthersRest, RestHolds, RestsThrough, SendsAlone, StartsNone, TransmitsAll, caught_up, members_at, passes, woken}
+use Rattle.can_station.specs.Deeds.{AreQuiet, IsQuiet}
+use Rattle.can_station.specs.Members.{PortSettles, PortStarts, Samples, SamplesOn, TalkerStarts, drives_at, is_on, wants_at}
+use Rattle.can_station.specs.Places.{AtPlaces, AtBoth, MovesOne}
+use Rattle.can_station.specs.Ports.{item_of}
+use Rattle.can_segment.specs.Rests.{Drives, GoesQuietly, RestHolds, RestsThrough, SendsAlone, StartsNone, members_at}
+use Rattle.can_station.specs.RestingNodes.{AreApart, AwakeAreQuiet, IfAwake, IfAwakeBoth, MayRecover, MemberRecovers, MemberSends, OneSends, OthersRest, TransmitsAll, caught_up, passes, woken}
 use Rattle.can_segment.specs.Segments.{AreFrom, sending_of_all}
-use Rattle.can_segment.specs.Traces.{completed_by, sending_after}
-use Rattle.can_segment.proofs.NextBits.{some_there}
+use Rattle.can_station.specs.Outcomes.{completed_by, sending_after}
+use Rattle.can_station.proofs.Places.{get_set_other, get_set_same, same_some, some_there}
 use Rattle.can_segment.proofs.Holds.{left_holds, through_holds}
-use Rattle.can_segment.proofs.Places.{get_set_other, get_set_same, same_some}
 use Rattle.can_segment.proofs.Rests.{all_drive, all_quiet, controllers_sample, controllers_start, members_length, members_sample, talkers_start, transmits_real, wishes_none}
 use Rattle.can_segment.proofs.Shown.{map_at, map_there}
-use Rattle.can_segment.proofs.Spans.{all_pass, within_places}
+use Rattle.can_station.proofs.Spans.{all_pass, within_places}
 use Rattle.can_segment.proofs.Unmoved.{unmoved_requests, unmoved_settles, unmoved_talks}
 use Rattle.can_segment.proofs.Woken.{awake_woken, left_places, others_places, resting_woken, same_list}
 

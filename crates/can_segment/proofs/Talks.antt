@@ -2,13 +2,14 @@
 use Rattle.std.proofs.Common.{◌≡◌, ℕ, ◌≤◌, ◌&&◌, Bool, true, false, is_some, option_map, Option, Some, None, List, length, slice_get, refl, sym, ap, subst, arith, ◌∙◌, cond}
 use Rattle.can_frame.specs.Frames.{FrameValue}
 use Rattle.can_node.specs.Node.{StandsAfter, IsWanting, bit_of}
-use Rattle.can_segment.specs.declared.transmission.Transmission.{Transmission}
-use Rattle.can_segment.specs.declared.member.Member.{Member}
+use Rattle.can_station.specs.declared.transmission.Transmission.{Transmission}
+use Rattle.can_station.specs.declared.member.Member.{Member}
 use Rattle.can_segment.specs.Traces.{Bit, past_of, completed_of}
 use Rattle.can_segment.specs.Runs.{IsBegun}
-use Rattle.can_segment.specs.Stations.{IsTalk}
-use Rattle.can_segment.specs.Members.{StartsTalking, Samples}
-use Rattle.can_segment.specs.Kept.{begun_by, StandsBehind}
+use Rattle.can_station.specs.Stations.{IsTalk}
+use Rattle.can_station.specs.Members.{StartsTalking, Samples}
+use Rattle.can_station.specs.Deeds.{begun_by}
+use Rattle.can_segment.specs.Kept.{StandsBehind}
 use Rattle.can_segment.proofs.Deeds.{Done, done, begun_is, named_start}
 
 -- a talker at a bit at which it is on

@@ -5,13 +5,13 @@ use Rattle.can_frame.specs.Frames.{FrameValue}
 use Rattle.bx_core.specs.TxBus.{Item, BusPast, BusCall}
 use Rattle.can_node.specs.Node.{may_begin}
 use Rattle.can_node.proofs.Samples.{wanting}
-use Rattle.can_segment.specs.declared.member.Deed.{Deed}
-use Rattle.can_segment.specs.declared.member.Member.{Member}
-use Rattle.can_segment.specs.declared.plan.Talker.{Talker}
-use Rattle.can_segment.specs.Kept.{IsQuiet}
-use Rattle.can_segment.specs.Members.{PortSettles, PortStarts, SamplesOn, TalkerStarts, is_on, settled_at, taken_at, wants_at}
-use Rattle.can_segment.specs.Ports.{Reaps, Undone, asked_at, begun_at, item_of, settled, started, started_item, taken_by}
-use Rattle.can_segment.specs.Stations.{IsTalk}
+use Rattle.can_station.specs.declared.member.Deed.{Deed}
+use Rattle.can_station.specs.declared.member.Member.{Member}
+use Rattle.can_station.specs.declared.plan.Talker.{Talker}
+use Rattle.can_station.specs.Deeds.{IsQuiet}
+use Rattle.can_station.specs.Members.{PortSettles, PortStarts, SamplesOn, TalkerStarts, is_on, settled_at, taken_at, wants_at}
+use Rattle.can_station.specs.Ports.{Reaps, Undone, asked_at, begun_at, item_of, settled, started, started_item, taken_by}
+use Rattle.can_station.specs.Stations.{IsTalk}
 
 none_began : (on : Bool) (deed : Deed) → IsQuiet deed → (on && deed.began) ≡ false
 none_began true deed quiet = quiet.no_start

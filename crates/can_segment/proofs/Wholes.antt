@@ -1,22 +1,22 @@
 -- What stands of the nodes of a segment stands of those for which they stand while some rest.
-use Rattle.std.proofs.Common.{◌≡◌, ◌≢◌, ℕ, zero, suc, ◌+◌, ◌≤◌, Bool, true, false, cond, List, [], ◌∷◌, ◌++◌, length, map, slice_get, refl, sym, ap, subst, arith, ◌∙◌}
+use Rattle.std.proofs.Common.{◌≡◌, ℕ, ◌+◌, ◌≤◌, Bool, List, [], ◌∷◌, ◌++◌, length, refl, sym, ap, subst, arith, ◌∙◌}
 use Rattle.std.proofs.lemmas.Option.{slice_get_within}
 use Rattle.can_confinement.specs.declared.counters.Counters.{Counters}
-use Rattle.can_node.specs.declared.listener.Listener.{Listener}
-use Rattle.can_segment.specs.declared.event.Event.{Event}
-use Rattle.can_segment.specs.declared.event.Told.{Told}
-use Rattle.can_segment.specs.declared.member.Deed.{Deed}
-use Rattle.can_segment.specs.declared.member.Member.{Member}
-use Rattle.can_segment.specs.declared.plan.SegmentPlan.{SegmentPlan}
+use Rattle.can_station.specs.declared.event.Event.{Event}
+use Rattle.can_station.specs.declared.event.Told.{Told}
+use Rattle.can_station.specs.declared.member.Deed.{Deed}
+use Rattle.can_station.specs.declared.member.Member.{Member}
+use Rattle.can_station.specs.declared.plan.SegmentPlan.{SegmentPlan}
 use Rattle.can_segment.specs.declared.record.Record.{Record}
 use Rattle.can_segment.specs.declared.rest.Rest.{Rest}
 use Rattle.can_segment.specs.Kept.{SegmentKept, StandsBehind}
-use Rattle.can_segment.specs.Rests.{AreAlike, IsAlike, LeavesResting, NoneRests, members_at}
+use Rattle.can_station.specs.RestingNodes.{AreAlike, IsAlike, LeavesResting, NoneRests}
+use Rattle.can_segment.specs.Rests.{members_at}
 use Rattle.can_segment.specs.Segments.{AreFrom, AreFromResting, SegmentHolds}
-use Rattle.can_segment.specs.Tells.{lines}
-use Rattle.can_segment.specs.Tellings.{bit_lines, rest_by, start_of, told_by}
+use Rattle.can_station.specs.Lines.{lines}
+use Rattle.can_station.specs.Tellings.{bit_lines, rest_by, start_of, told_by}
 use Rattle.can_segment.specs.Traces.{Bit}
-use Rattle.can_segment.proofs.NextBits.{some_there}
+use Rattle.can_station.proofs.Places.{some_there}
 use Rattle.can_segment.proofs.Rests.{members_length, real_at, whole_at}
 use Rattle.can_segment.proofs.Woken.{none_resting}
 

@@ -1,15 +1,14 @@
 -- The nodes for which those of a segment stand while some rest.
-use Rattle.std.proofs.Common.{◌≡◌, ◌≢◌, ◌⊎◌, ℕ, zero, suc, ◌+◌, ◌<◌, inl, inr, cond, Bool, true, false, Some, List, [], ◌∷◌, length, map, slice_get, refl, sym, ap, subst, arith, ◌∙◌}
+use Rattle.std.proofs.Common.{◌≡◌, ℕ, zero, suc, inl, inr, cond, Bool, true, false, Some, List, [], ◌∷◌, length, map, slice_get, refl, sym, ap, subst, arith, ◌∙◌}
 use Rattle.std.proofs.lemmas.List.{length-map}
 use Rattle.std.proofs.lemmas.Option.{slice_get_within}
 use Rattle.can_node.specs.Listener.{caught_up as node_caught_up}
 use Rattle.can_node.specs.declared.node.Node.{Node}
 use Rattle.can_node.specs.declared.listener.Listener.{Listener}
-use Rattle.can_segment.specs.declared.member.Member.{Member}
-use Rattle.can_segment.specs.Places.{AtPlaces, AtBoth}
-use Rattle.can_segment.specs.Rests.{IfAwake, IfAwakeBoth, LeavesResting, MayWake, NoneRests, OthersRest, caught_up, woken}
-use Rattle.can_segment.proofs.NextBits.{some_there}
-use Rattle.can_segment.proofs.Places.{same_some}
+use Rattle.can_station.specs.declared.member.Member.{Member}
+use Rattle.can_station.specs.Places.{AtPlaces, AtBoth}
+use Rattle.can_station.specs.RestingNodes.{IfAwake, IfAwakeBoth, LeavesResting, MayWake, NoneRests, OthersRest, caught_up, woken}
+use Rattle.can_station.proofs.Places.{some_there}
 use Rattle.can_segment.proofs.Shown.{map_at, map_there}
 
 -- a member with this node

@@ -7,11 +7,12 @@ use Rattle.can_node.specs.declared.outcome.Outcome.TheVariants.{Nothing}
 use Rattle.can_node.specs.Histories.{Past}
 use Rattle.can_node.specs.Cuts.{IsAttempt}
 use Rattle.can_node.specs.Attempts.{first_bit}
-use Rattle.can_segment.specs.declared.event.Label.{Label}
-use Rattle.can_segment.specs.declared.plan.SegmentPlan.{SegmentPlan}
-use Rattle.can_segment.specs.declared.transmission.Transmission.{Transmission}
+use Rattle.can_station.specs.declared.event.Label.{Label}
+use Rattle.can_station.specs.declared.plan.SegmentPlan.{SegmentPlan}
+use Rattle.can_station.specs.declared.transmission.Transmission.{Transmission}
 use Rattle.can_segment.specs.Runs.{firsts}
-use Rattle.can_segment.specs.Traces.{Act, Bit, act_of, past_of, sending_of, sending_now, ends_sending, is_failure}
+use Rattle.can_segment.specs.Traces.{Act, Bit, act_of, past_of, sending_of, sending_now}
+use Rattle.can_station.specs.Outcomes.{ends_sending, is_failure}
 
 -- the past of this node behind the trace; it was switched on by then
 pub record IsPastOf (plan : SegmentPlan) (trace : List Bit) (node : ℕ) (past : Past) : Type 0 where

@@ -4,10 +4,10 @@ use Rattle.std.specs.Prelude.{◌≡◌, ℕ, ◌≤◌, ◌==◌, Bool, Option,
 use Rattle.can_frame.specs.Frames.{FrameValue}
 use Rattle.bx_core.specs.Lists.{Each}
 use Rattle.bx_core.specs.TxBus.{Item, BusPast, BusCall, IsUndone}
-use Rattle.can_segment.specs.declared.event.Event.{Event}
-use Rattle.can_segment.specs.declared.event.Told.{Told}
-use Rattle.can_segment.specs.declared.event.Told.TheVariants as told
-use Rattle.can_segment.specs.Ports.{Asks, item_with}
+use Rattle.can_station.specs.declared.event.Event.{Event}
+use Rattle.can_station.specs.declared.event.Told.{Told}
+use Rattle.can_station.specs.declared.event.Told.TheVariants as told
+use Rattle.can_station.specs.Ports.{Asks, item_with}
 
 -- what is told of a node
 abbrev pub told_of : ℕ → List Event → List Told

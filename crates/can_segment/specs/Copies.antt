@@ -12,14 +12,15 @@ use Rattle.can_node.specs.Histories.{Past}
 use Rattle.can_node.specs.Cuts.{IsAttempt, IsTake, IsOpenTake}
 use Rattle.can_node.specs.Attempts.{first_bit}
 use Rattle.bx_core.specs.TxBus.{no_bus_past}
-use Rattle.can_segment.specs.declared.event.Event.{Event}
-use Rattle.can_segment.specs.declared.plan.LineFault.{LineFault}
-use Rattle.can_segment.specs.declared.plan.Talker.{Talker}
-use Rattle.can_segment.specs.declared.plan.SegmentPlan.{SegmentPlan}
-use Rattle.can_segment.specs.Faults.{is_inverted}
+use Rattle.can_station.specs.declared.event.Event.{Event}
+use Rattle.can_station.specs.declared.plan.LineFault.{LineFault}
+use Rattle.can_station.specs.declared.plan.Talker.{Talker}
+use Rattle.can_station.specs.declared.plan.SegmentPlan.{SegmentPlan}
+use Rattle.can_station.specs.Faults.{is_inverted}
 use Rattle.can_segment.specs.Attempts.{IsPastOf, AttemptsAreTold, EndsAreOfAttempts, RequestsTryFailures}
 use Rattle.can_segment.specs.Brought.{told_of, StartsUndone}
-use Rattle.can_segment.specs.Traces.{Bit, completed_of, is_failure}
+use Rattle.can_segment.specs.Traces.{Bit, completed_of}
+use Rattle.can_station.specs.Outcomes.{is_failure}
 use Rattle.can_segment.specs.Runs.{Run}
 
 -- a fault touches what this node samples at this bit, or the line there

@@ -1,38 +1,14 @@
 -- How the nodes of a segment agree with the trace behind which they stand. Private clauses cite it.
-use Rattle.std.specs.Prelude.{◌≡◌, ◌⊎◌, Bool, ℕ, ◌+◌, ◌<◌, ◌≤◌, max, false, Option, Some, None, List, length, slice_get, if◌then◌else◌}
-use Rattle.can_node.specs.declared.outcome.Outcome.TheVariants.{Nothing}
+use Rattle.std.specs.Prelude.{◌≡◌, Bool, ℕ, ◌+◌, ◌≤◌, max, Some, List, length, slice_get}
 use Rattle.can_node.specs.Node.{StandsAfter, bit_of}
-use Rattle.can_segment.specs.declared.member.Deed.{Deed}
-use Rattle.can_segment.specs.declared.member.Member.{Member}
-use Rattle.can_segment.specs.declared.plan.Talker.{Talker}
-use Rattle.can_segment.specs.declared.plan.Controller.{Controller}
-use Rattle.can_segment.specs.declared.plan.SegmentPlan.{SegmentPlan}
-use Rattle.can_segment.specs.declared.transmission.Transmission.{Transmission}
-use Rattle.can_segment.specs.declared.event.Event.{Event}
+use Rattle.can_station.specs.declared.member.Member.{Member}
+use Rattle.can_station.specs.declared.plan.Talker.{Talker}
+use Rattle.can_station.specs.declared.plan.Controller.{Controller}
+use Rattle.can_station.specs.declared.plan.SegmentPlan.{SegmentPlan}
+use Rattle.can_station.specs.declared.event.Event.{Event}
+use Rattle.can_station.specs.Deeds.{no_deed}
 use Rattle.can_segment.specs.Traces.{Bit, past_of, sending_of, completed_of}
 use Rattle.can_segment.specs.Runs.{Run}
-
--- what a node has done that was never on
-abbrev pub no_deed : Deed
-no_deed = record { began = false; sent = None; outcome = Nothing; reaped = None }
-
--- what a node began at the bit of this deed
-abbrev pub begun_by : Deed → Option Transmission
-begun_by deed = if deed.began then deed.sent else None
-
--- nothing is told of this deed
-pub record IsQuiet (deed : Deed) : Type 0 where
-  pub no_start : deed.began ≡ false
-  pub no_end : deed.outcome ≡ Nothing
-  pub no_reaping : deed.reaped ≡ None
-
--- nothing is told of those of these nodes that are on at this bit
-abbrev pub AreQuiet : ℕ → List Member → Type 0
-AreQuiet bit members = (k : ℕ) (member : Member) → slice_get members k ≡ Some member → member.on ≤ bit → IsQuiet member.deed
-
--- a deed names what its node sent, unless nothing is told of it
-abbrev pub Names : Deed → Option Transmission → Type 0
-Names deed sent = IsQuiet deed ⊎ (deed.sent ≡ sent)
 
 -- the node of this place, on from this bit on, stands behind the trace
 pub record StandsBehind (on k : ℕ) (trace : List Bit) (member : Member) : Type 0 where

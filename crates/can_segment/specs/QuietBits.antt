@@ -1,11 +1,11 @@
 -- Bits at which no port is needed: nothing is told of any node, and no controller wants to start.
 use Rattle.std.specs.Prelude.{◌≡◌, ℕ, Bool, false, List, [], ◌∷◌, ◌++◌, length}
-use Rattle.can_segment.specs.declared.fault_order.FaultOrder.{FaultOrder}
-use Rattle.can_segment.specs.declared.member.Member.{Member}
-use Rattle.can_segment.specs.declared.plan.SegmentPlan.{SegmentPlan}
+use Rattle.can_station.specs.declared.fault_order.FaultOrder.{FaultOrder}
+use Rattle.can_station.specs.declared.member.Member.{Member}
+use Rattle.can_station.specs.declared.plan.SegmentPlan.{SegmentPlan}
 use Rattle.can_segment.specs.declared.record.Record.{Record}
 use Rattle.can_segment.specs.declared.rest.Rest.{Rest}
-use Rattle.can_segment.specs.FaultOrder.{IsFaultless, StandsAt}
+use Rattle.can_station.specs.FaultOrder.{IsFaultless, StandsAt}
 use Rattle.can_segment.specs.Rests.{GoesQuietly}
 use Rattle.can_segment.specs.Segments.{SegmentValue, wants_next}
 

@@ -5,17 +5,18 @@ use Rattle.std.specs.List.{list_all}
 use Rattle.can_frame.specs.Frames.{FrameValue}
 use Rattle.can_node.specs.Histories.{Past, IsHistory}
 use Rattle.can_node.specs.Node.{with_begin, IsWanting, IsSending}
-use Rattle.can_segment.specs.declared.plan.Talker.{Talker}
-use Rattle.can_segment.specs.declared.plan.Controller.{Controller}
-use Rattle.can_segment.specs.declared.plan.SegmentPlan.{SegmentPlan}
+use Rattle.can_station.specs.declared.plan.Talker.{Talker}
+use Rattle.can_station.specs.declared.plan.Controller.{Controller}
+use Rattle.can_station.specs.declared.plan.SegmentPlan.{SegmentPlan}
 use Rattle.can_confinement.specs.declared.counters.Counters.{Counters}
 use Rattle.can_confinement.specs.Counters.{StandsAfter as CountersStandAfter}
-use Rattle.can_segment.specs.declared.event.Event.{Event}
-use Rattle.can_segment.specs.declared.event.Label.{Label}
+use Rattle.can_station.specs.declared.event.Event.{Event}
+use Rattle.can_station.specs.declared.event.Label.{Label}
 use Rattle.can_segment.specs.declared.record.Record.{Record}
-use Rattle.can_segment.specs.declared.transmission.Transmission.{Transmission}
-use Rattle.can_segment.specs.Faults.{line_level, sampled_level}
-use Rattle.can_segment.specs.Traces.{Act, Bit, with_act, past_of, completed_of, sending_now, sending_of, is_failure}
+use Rattle.can_station.specs.declared.transmission.Transmission.{Transmission}
+use Rattle.can_station.specs.Faults.{line_level, sampled_level}
+use Rattle.can_segment.specs.Traces.{Act, Bit, with_act, past_of, completed_of, sending_now, sending_of}
+use Rattle.can_station.specs.Outcomes.{is_failure}
 use Rattle.can_segment.specs.Tells.{events_at}
 
 -- a node begins to send only where it wants to start, and the start is the SOF of what it sends then

@@ -4,17 +4,17 @@ use Rattle.std.specs.List.{slice_index_or}
 use Rattle.can_frame.specs.Frames.{FrameValue}
 use Rattle.bx_core.specs.TxBus.{Item, BusPast, BusCall}
 use Rattle.can_node.specs.Histories.{Past}
-use Rattle.can_node.specs.Node.{IsWanting, counters_in}
+use Rattle.can_node.specs.Node.{IsWanting}
 use Rattle.can_confinement.specs.declared.counters.Counters.{Counters}
-use Rattle.can_segment.specs.declared.event.Event.{Event}
-use Rattle.can_segment.specs.declared.member.Member.{Member}
-use Rattle.can_segment.specs.declared.plan.Controller.{Controller}
-use Rattle.can_segment.specs.declared.plan.SegmentPlan.{SegmentPlan}
+use Rattle.can_station.specs.declared.event.Event.{Event}
+use Rattle.can_station.specs.declared.member.Member.{Member}
+use Rattle.can_station.specs.declared.plan.Controller.{Controller}
+use Rattle.can_station.specs.declared.plan.SegmentPlan.{SegmentPlan}
 use Rattle.can_segment.specs.declared.record.Record.{Record}
 use Rattle.can_segment.specs.Brought.{told_of, IsBrought}
 use Rattle.can_segment.specs.Kept.{SegmentKept}
-use Rattle.can_segment.specs.Members.{wants_at}
-use Rattle.can_segment.specs.Ports.{item_of}
+use Rattle.can_station.specs.Members.{wants_at, AreOf}
+use Rattle.can_station.specs.Ports.{item_of}
 use Rattle.can_segment.specs.Runs.{Run, Shows, firsts}
 use Rattle.can_segment.specs.Traces.{Bit, past_of}
 
@@ -76,11 +76,7 @@ pub record IsOpening (plan : SegmentPlan) (segment : SegmentValue) : Type 0 wher
   pub one_each : length segment.sending ≡ length plan.controllers.items
   pub idle : (k : ℕ) (sends : Option Item) → slice_get segment.sending k ≡ Some sends → sends ≡ None
 
--- counters show those of a node
-abbrev pub AreOf : Member → Counters → Type 0
-AreOf member counters = counters ≡ counters_in member.station.node
-
--- from this place on, the counters of these nodes
+-- from this place on, counters show those of these nodes
 abbrev pub AreFrom : ℕ → List Member → List Counters → Type 0
 AreFrom first members counters = (k : ℕ) (member : Member) (shown : Counters) → slice_get members k ≡ Some member → slice_get counters (first + k) ≡ Some shown → AreOf member shown
 

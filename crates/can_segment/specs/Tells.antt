@@ -1,35 +1,10 @@
 -- The events of a trace, in the order of a report.
-use Rattle.std.specs.Prelude.{ℕ, zero, suc, Option, Some, None, List, [], ◌∷◌, ◌++◌, length}
-use Rattle.can_node.specs.declared.outcome.Outcome.{Outcome}
-use Rattle.can_node.specs.declared.outcome.Outcome.TheVariants.{Nothing, Took, Completed, Lost, Errored, WentOff, CameBack}
-use Rattle.can_segment.specs.declared.event.Event.{Event}
-use Rattle.can_segment.specs.declared.event.Label.{Label}
-use Rattle.can_segment.specs.declared.event.Told.{Told}
-use Rattle.can_segment.specs.declared.transmission.Transmission.{Transmission}
-use Rattle.can_segment.specs.declared.event.Told.TheVariants as told
+use Rattle.std.specs.Prelude.{ℕ, zero, suc, Option, Some, None, List, [], ◌++◌, length}
+use Rattle.can_station.specs.declared.event.Event.{Event}
+use Rattle.can_station.specs.declared.event.Told.{Told}
+use Rattle.can_station.specs.declared.transmission.Transmission.{Transmission}
+use Rattle.can_station.specs.Lines.{told_start, told_outcome, told_reaped, lines}
 use Rattle.can_segment.specs.Traces.{Act, Bit, act_of, sending_of, sending_now}
-
--- what is told of the beginning of a frame
-abbrev pub told_start : Option Transmission → List Told
-told_start None = []
-told_start (Some sent) = told.Started sent.frame sent.label ∷ []
-
--- what is told of an outcome of a node that sends this, or nothing
-abbrev pub told_outcome : Option Transmission → Outcome → List Told
-told_outcome sending Nothing = []
-told_outcome sending (Took start frame) = told.Took start frame ∷ []
-told_outcome None Completed = []
-told_outcome (Some sent) Completed = told.Completed sent.start sent.frame sent.label ∷ []
-told_outcome None Lost = []
-told_outcome (Some sent) Lost = told.Lost sent.start ∷ []
-told_outcome sending (Errored kind) = told.Error kind ∷ []
-told_outcome sending WentOff = told.Off ∷ []
-told_outcome sending CameBack = told.Back ∷ []
-
--- and of a request that ended by its failure
-abbrev pub told_reaped : Option Label → List Told
-told_reaped None = []
-told_reaped (Some label) = told.Reaped label ∷ []
 
 -- the starts that are told of a node's act
 abbrev pub starts_of : Option Act → List Told
@@ -40,11 +15,6 @@ starts_of (Some act) = told_start act.begun
 abbrev pub rest_of : Option Transmission → Option Act → List Told
 rest_of before None = []
 rest_of before (Some act) = told_outcome (sending_now before act.begun) act.outcome ++ told_reaped act.reaped
-
--- a node's lines at a bit
-abbrev pub lines : ℕ → ℕ → List Told → List Event
-lines bit node [] = []
-lines bit node (one ∷ more) = record { bit = bit; node = node; told = one } ∷ lines bit node more
 
 -- the lines of all nodes at a bit, from a node on
 abbrev pub lines_from : (ℕ → List Told) → ℕ → ℕ → ℕ → List Event

@@ -1,14 +1,14 @@
 -- What the nodes of a segment do, bit by bit. A trace is a list of bits; at each one every node that is on does
 -- one act.
-use Rattle.std.specs.Prelude.{ℕ, ◌+◌, Bool, true, false, Option, Some, None, List, fold, slice_get, if◌then◌else◌}
+use Rattle.std.specs.Prelude.{ℕ, ◌+◌, Bool, Option, Some, None, List, fold, slice_get}
 use Rattle.can_confinement.specs.declared.confinement.ErrorEvent.{ErrorEvent}
 use Rattle.can_node.specs.declared.outcome.Outcome.{Outcome}
-use Rattle.can_node.specs.declared.outcome.Outcome.TheVariants.{Nothing, Took, Completed, Lost, Errored, WentOff, CameBack}
 use Rattle.can_node.specs.Histories.{Past, no_past}
 use Rattle.can_node.specs.Machine.{with_bit}
 use Rattle.can_node.specs.Node.{with_begin}
-use Rattle.can_segment.specs.declared.event.Label.{Label}
-use Rattle.can_segment.specs.declared.transmission.Transmission.{Transmission}
+use Rattle.can_station.specs.declared.event.Label.{Label}
+use Rattle.can_station.specs.declared.transmission.Transmission.{Transmission}
+use Rattle.can_station.specs.Outcomes.{sending_after, completed_by}
 
 -- what a node does at a bit: what it begins to send, what it drives and samples, what it counts and tells, and
 -- the request that ended because its abort was asked
@@ -47,34 +47,10 @@ act_of k bit = act_in (slice_get bit.acts k)
 abbrev pub past_of : ℕ → ℕ → List Bit → Past
 past_of on k trace = fold (λ past bit. with_act past (act_of k bit)) (no_past on) trace
 
--- a transmission is over with this outcome
-abbrev pub ends_sending : Outcome → Bool
-ends_sending Nothing = false
-ends_sending (Took start frame) = false
-ends_sending Completed = true
-ends_sending Lost = true
-ends_sending (Errored kind) = true
-ends_sending WentOff = true
-ends_sending CameBack = false
-
--- a transmission failed with this outcome
-abbrev pub is_failure : Outcome → Bool
-is_failure Nothing = false
-is_failure (Took start frame) = false
-is_failure Completed = false
-is_failure Lost = true
-is_failure (Errored kind) = true
-is_failure WentOff = true
-is_failure CameBack = false
-
 -- what a node sends when it has begun this
 abbrev pub sending_now : Option Transmission → Option Transmission → Option Transmission
 sending_now before None = before
 sending_now before (Some sent) = Some sent
-
--- and behind an outcome
-abbrev pub sending_after : Option Transmission → Outcome → Option Transmission
-sending_after sending outcome = if ends_sending outcome then None else sending
 
 -- and behind its act
 abbrev pub sending_behind : Option Transmission → Option Act → Option Transmission
@@ -84,16 +60,6 @@ sending_behind before (Some act) = sending_after (sending_now before act.begun) 
 -- what a node sends behind a trace
 abbrev pub sending_of : ℕ → List Bit → Option Transmission
 sending_of k trace = fold (λ before bit. sending_behind before (act_of k bit)) None trace
-
--- how many of its frames were completed
-abbrev pub completed_by : Outcome → ℕ
-completed_by Nothing = 0
-completed_by (Took start frame) = 0
-completed_by Completed = 1
-completed_by Lost = 0
-completed_by (Errored kind) = 0
-completed_by WentOff = 0
-completed_by CameBack = 0
 
 abbrev pub completed_in : Option Act → ℕ
 completed_in None = 0

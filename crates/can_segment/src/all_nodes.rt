@@ -2,23 +2,21 @@
 
 ghost use Rattle.std.specs.Prelude.{◌≡◌, ◌≤◌, ◌<◌, ◌+◌, ◌&&◌, ℕ, false, Some, length, slice_get};
 ghost use Rattle.std.specs.List.{list_all};
-ghost use Rattle.can_segment.specs.FaultOrder.{StandsAt};
-ghost use Rattle.can_segment.specs.Faults.{sampled_level};
-ghost use Rattle.can_segment.specs.Kept.{AreQuiet};
-ghost use Rattle.can_segment.specs.Members.{NodeSamples, PortSettles, PortStarts, TalkerStarts, drives_at, wants_at};
+ghost use Rattle.can_station.specs.FaultOrder.{StandsAt};
+ghost use Rattle.can_station.specs.Faults.{sampled_level};
+ghost use Rattle.can_station.specs.Deeds.{AreQuiet};
+ghost use Rattle.can_station.specs.Members.{NodeSamples, PortSettles, PortStarts, TalkerStarts, drives_at, wants_at};
 ghost use Rattle.can_segment.specs.Moves.{NodesMove, PortMoves};
-ghost use Rattle.can_segment.specs.Places.{AtBoth, AtPlaces};
-ghost use Rattle.can_segment.specs.Rests.{HasRoom, LeavesResting, RestHolds, TransmitsAll, members_at};
-ghost use Rattle.can_segment.specs.declared.member.Member.{Member};
+ghost use Rattle.can_station.specs.Places.{AtBoth, AtPlaces};
+ghost use Rattle.can_station.specs.RestingNodes.{HasRoom, LeavesResting, TransmitsAll};
+ghost use Rattle.can_segment.specs.Rests.{RestHolds, members_at};
+ghost use Rattle.can_station.specs.declared.member.Member.{Member};
 
-use crate::fault_order::FaultOrder;
-use crate::member::Member;
-use crate::members::{
-    driven_by_all, sample_controllers, sample_nodes, start_controllers, start_talkers,
-};
-use crate::plan::{NodeFault, SegmentPlan, Talker};
 use crate::rest::Rest;
-use crate::rx_sink::RxSink;
+use can_station::{
+    FaultOrder, Member, NodeFault, RxSink, SegmentPlan, Talker, driven_by_all, sample_controllers,
+    sample_nodes, start_controllers, start_talkers,
+};
 
 /// All nodes start: those that rest do not, or wake if they may have anything to. The AND of what all drive.
 fn start_all<R, P: RxSink<R>>(

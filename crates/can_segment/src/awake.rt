@@ -1,10 +1,9 @@
 //! Which nodes are awake.
 
 ghost use Rattle.std.specs.Prelude.{◌≡◌, ◌≤◌, true, false, length};
-ghost use Rattle.can_segment.specs.Rests.{AwakeWithin};
+ghost use Rattle.can_station.specs.RestingNodes.{AwakeWithin};
 
-use crate::member::Member;
-use crate::span::Span;
+use can_station::{Member, Span};
 
 /// What is counted of nodes of which some rest.
 #[derive(Drop)]

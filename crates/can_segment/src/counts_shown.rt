@@ -1,13 +1,12 @@
 //! The counters of a segment's nodes, in its record.
 
 ghost use Rattle.std.specs.Prelude.{◌≡◌, ◌+◌, ◌<◌, ◌≤◌, ℕ, length, slice_get};
-ghost use Rattle.can_segment.specs.Rests.{AwakeWithin};
+ghost use Rattle.can_station.specs.RestingNodes.{AwakeWithin};
 ghost use Rattle.can_segment.specs.Segments.{AreFrom, AreFromResting};
 
-use crate::member::Member;
 use crate::rest::Rest;
-use crate::span::Span;
 use can_node::Counters;
+use can_station::{Member, Span};
 
 /// The counters of those of these nodes that are awake take the places from this one on; those of the others are shown
 /// already.
@@ -17,7 +16,8 @@ fn show(counters: &mut Vec<Counters>, first: usize, members: &[Member], awake: S
     requires resting { AreFromResting first members.now counters.old.items }
     ensures shown { AreFrom first members.now counters.new.items }
     ensures before { (k : ℕ) → k < first → slice_get counters.new.items k ≡ slice_get counters.old.items k }
-    ensures behind { (k : ℕ) → first + length members.now ≤ k → slice_get counters.new.items k ≡ slice_get counters.old.items k }
+    ensures behind { (k : ℕ) → first + length members.now ≤ k
+        → slice_get counters.new.items k ≡ slice_get counters.old.items k }
     ensures size { length counters.new.items ≡ length counters.old.items }
 {
     for place in awake.from..awake.to {

@@ -1,7 +1,7 @@
 //! Which of the nodes that listen come to rest.
 
-use crate::member::Member;
 use can_node::Listener;
+use can_station::Member;
 
 /// One that has come as far as most of those nodes that listen before this bit, if most have come equally far. Nothing
 /// rests on it that it is so: nodes come to rest only where they have come as far as the listener.

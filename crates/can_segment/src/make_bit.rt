@@ -1,22 +1,19 @@
 //! One bit of a segment.
 
-ghost use Rattle.std.specs.Prelude.{◌≡◌, false, ◌+◌, ◌*◌, ◌<◌, ◌≤◌, ◌++◌, ◌∷◌, [], ℕ, Bool, Some, length, slice_get, vec_len, vec_capacity};
-ghost use Rattle.can_segment.specs.FaultOrder.{StandsAt};
-ghost use Rattle.can_segment.specs.Rests.{LeavesResting, RestHolds, TransmitsAll, members_at};
-ghost use Rattle.can_segment.specs.Members.{wants_at};
+ghost use Rattle.std.specs.Prelude.{◌≡◌, false, ◌+◌, ◌*◌, ◌<◌, ◌≤◌, ◌++◌, ◌∷◌, [], ℕ, Bool, Some};
+ghost use Rattle.std.specs.Prelude.{length, slice_get, vec_len, vec_capacity};
+ghost use Rattle.can_station.specs.FaultOrder.{StandsAt};
+ghost use Rattle.can_station.specs.RestingNodes.{LeavesResting, TransmitsAll};
+ghost use Rattle.can_segment.specs.Rests.{RestHolds, members_at};
+ghost use Rattle.can_station.specs.Members.{wants_at};
 ghost use Rattle.can_segment.specs.Moves.{PortMoves};
 ghost use Rattle.can_segment.specs.Kept.{SegmentKept};
-ghost use Rattle.can_segment.specs.Tellings.{bit_lines};
-ghost use Rattle.can_segment.specs.declared.member.Member.{Member};
+ghost use Rattle.can_station.specs.Tellings.{bit_lines};
+ghost use Rattle.can_station.specs.declared.member.Member.{Member};
 
 use crate::all_nodes::{Moved, move_nodes};
-use crate::event::Event;
-use crate::fault_order::FaultOrder;
-use crate::member::Member;
-use crate::plan::SegmentPlan;
 use crate::rest::Rest;
-use crate::rx_sink::RxSink;
-use crate::tell::{tell_rests, tell_starts};
+use can_station::{Event, FaultOrder, Member, RxSink, SegmentPlan, tell_rests, tell_starts};
 
 /// One level more, for which there is room.
 pub(crate) fn keep(levels: &mut Vec<bool>, level: bool)
@@ -64,7 +61,8 @@ pub(crate) fn make_bit<R, P: RxSink<R>>(
     requires still { length levels.old.items < plan.now.bits }
     requires ports { length ports.old ≡ length controllers.old }
     requires few { length talkers.old + length controllers.old ≤ 1000 }
-    requires port { TransmitsAll P.transmitting (members_at rest.old (length levels.old.items) controllers.old) ports.old }
+    requires port { TransmitsAll P.transmitting
+        (members_at rest.old (length levels.old.items) controllers.old) ports.old }
     requires rests { RestHolds rest.old (length levels.old.items) plan.now.talkers.items talkers.old controllers.old }
     requires level_room { vec_len levels.old < vec_capacity levels.old }
     requires event_room { vec_len events.old + 3 * (length talkers.old + length controllers.old)
@@ -82,7 +80,8 @@ pub(crate) fn make_bit<R, P: RxSink<R>>(
         → slice_get ports.old k ≡ Some p → slice_get ports.new k ≡ Some q
         → PortMoves P.bus_after P.bus_asked P.transmitting P.sink_after P.port_stays (length levels.old.items)
         (wants_at (length levels.old.items) a) m p q }
-    ensures rests { RestHolds rest.new (length levels.old.items + 1) plan.now.talkers.items talkers.new controllers.new }
+    ensures rests { RestHolds rest.new (length levels.old.items + 1) plan.now.talkers.items
+        talkers.new controllers.new }
     ensures left { LeavesResting talkers.old talkers.new × LeavesResting controllers.old controllers.new }
     ensures size { length ports.new ≡ length ports.old }
 {

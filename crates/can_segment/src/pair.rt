@@ -1,11 +1,10 @@
 //! Two talkers that are awake while all others rest.
 
 ghost use Rattle.std.specs.Prelude.{◌≡◌, ◌≢◌, ◌⊎◌, ◌<◌, true, ℕ, Some, slice_get, length};
-ghost use Rattle.can_segment.specs.Rests.{AreApart, AwakeWithin, OthersRest};
-ghost use Rattle.can_segment.specs.declared.member.Member.{Member};
+ghost use Rattle.can_station.specs.RestingNodes.{AreApart, AwakeWithin, OthersRest};
+ghost use Rattle.can_station.specs.declared.member.Member.{Member};
 
-use crate::member::Member;
-use crate::span::Span;
+use can_station::{Member, Span};
 
 /// The places of two talkers, of which the second may be in bus off; a place behind the last is none.
 #[derive(Drop)]

@@ -1,7 +1,7 @@
 //! What became of a segment.
 
-use crate::event::Event;
 use can_node::Counters;
+use can_station::Event;
 
 /// What a segment did.
 #[derive(Drop)]

@@ -1,8 +1,8 @@
 //! Nodes that are left alone while a listener follows the line for them.
 
 ghost use Rattle.std.specs.Prelude.{◌≡◌, ◌+◌, ◌≤◌, true, false, ℕ, length};
+ghost use Rattle.can_station.specs.RestingNodes.{AreAlike, IsWhole, LeavesResting, MayLieDown, NoneRests, Undisturbed};
 ghost use Rattle.can_segment.specs.Rests.{
-  AreAlike,
   AreResting,
   AreSpent,
   Chooses,
@@ -10,27 +10,19 @@ ghost use Rattle.can_segment.specs.Rests.{
   GoesThrough,
   IsLess,
   IsSame,
-  IsWhole,
-  LeavesResting,
   Lulls,
-  MayLieDown,
-  NoneRests,
   RestHolds,
   RestsThrough,
   StartsNone,
-  Undisturbed,
   members_at,
 };
-ghost use Rattle.can_segment.specs.Places.{AtPlaces};
+ghost use Rattle.can_station.specs.Places.{AtPlaces};
 
 use crate::awake::Awake;
 use crate::leader::listener_of_most;
-use crate::member::Member;
 use crate::pair::Pair;
-use crate::plan::{NodeFault, Talker};
-use crate::span::Span;
-use crate::wake::{wake_all, wake_disturbed, wake_unspent};
 use can_node::{KnownCounts, Listener, Node};
+use can_station::{Member, NodeFault, Span, Talker, wake_all, wake_disturbed, wake_unspent};
 
 /// What is held alike for all nodes that rest: which those are each node tells itself. A listener has come as far as
 /// each of them would have.
@@ -201,7 +193,8 @@ impl Rest {
         true
     }
 
-    /// The listener follows through a bit at which those that rest sample this level; where it can't they wake before it.
+    /// The listener follows through a bit at which those that rest sample this level; where it can't, they wake before
+    /// it.
     pub(crate) fn go_through(
         &mut self,
         plan: &[Talker],
@@ -234,7 +227,8 @@ impl Rest {
         requires plan { length plan.now ≡ length talkers.old }
         requires holds { RestHolds self.old bit plan.now talkers.old controllers.old }
         ensures talkers { AreAlike (members_at self.old bit talkers.old) (members_at self.new bit talkers.new) }
-        ensures controllers { AreAlike (members_at self.old bit controllers.old) (members_at self.new bit controllers.new) }
+        ensures controllers { AreAlike (members_at self.old bit controllers.old)
+            (members_at self.new bit controllers.new) }
         ensures holds { RestHolds self.new bit plan.now talkers.new controllers.new }
     {
         if asks_at_each_bit(controllers) {

@@ -1,23 +1,14 @@
 //! A bit at which all nodes rest, or all but one that sends: most bits of a bus are such.
 
 ghost use Rattle.std.specs.Prelude.{◌≡◌, ◌<◌, true, length, IfSome, IfNone};
-ghost use Rattle.can_segment.specs.FaultOrder.{IsFaultless, StandsAt};
-ghost use Rattle.can_segment.specs.declared.plan.SegmentPlan.{SegmentPlan};
-ghost use Rattle.can_segment.specs.Rests.{
-  AreApart,
-  Drives,
-  GoesQuietly,
-  HasRoom,
-  OneSends,
-  RestsThrough,
-  SendsAlone,
-  StartsNone,
-};
+ghost use Rattle.can_station.specs.FaultOrder.{IsFaultless, StandsAt};
+ghost use Rattle.can_station.specs.declared.plan.SegmentPlan.{SegmentPlan};
+ghost use Rattle.can_segment.specs.Rests.{Drives, GoesQuietly, RestsThrough, SendsAlone, StartsNone};
+ghost use Rattle.can_station.specs.RestingNodes.{AreApart, HasRoom, OneSends};
 
-use crate::fault_order::FaultOrder;
-use crate::member::Member;
 use crate::rest::Rest;
 use can_node::Listener;
+use can_station::{FaultOrder, Member};
 
 /// The node at this place, if there is one, sends on while the listener follows for all others: the level of the line.
 /// `None` where that can't be: then nothing is changed.
@@ -29,7 +20,8 @@ fn one_sends(
     bit: u64,
 ) -> Option<bool>
     requires { HasRoom u64.MAX bit members.old }
-    ensures sends { IfSome result (λ level. OneSends place bit listener.old level listener.new members.old members.new) }
+    ensures sends { IfSome result (λ level. OneSends place bit listener.old level listener.new
+        members.old members.new) }
     ensures none { IfNone result ((members.new ≡ members.old) × (listener.new ≡ listener.old)) }
 {
     if members.len() <= place {
@@ -69,7 +61,8 @@ fn level_at_rest(
     requires room { HasRoom u64.MAX bit controllers.old }
     ensures sends { IfSome result (λ level. SendsAlone bit level rest.old rest.new
         talkers.old talkers.new controllers.old controllers.new) }
-    ensures none { IfNone result ((rest.new ≡ rest.old) × (talkers.new ≡ talkers.old) × (controllers.new ≡ controllers.old)) }
+    ensures none { IfNone result ((rest.new ≡ rest.old) × (talkers.new ≡ talkers.old)
+        × (controllers.new ≡ controllers.old)) }
 {
     if rest.controllers.from < controllers.len() {
         if rest.sender < talkers.len() {
@@ -150,8 +143,10 @@ pub(crate) fn quiet_level(
     requires room { HasRoom u64.MAX bit controllers.old }
     ensures sends { IfSome result (λ level. GoesQuietly bit level rest.old rest.new
         talkers.old talkers.new controllers.old controllers.new) }
-    ensures faultless { IfSome result (λ level. (plan : SegmentPlan) → StandsAt plan bit faults.now → IsFaultless plan bit) }
-    ensures none { IfNone result ((rest.new ≡ rest.old) × (talkers.new ≡ talkers.old) × (controllers.new ≡ controllers.old)) }
+    ensures faultless { IfSome result (λ level. (plan : SegmentPlan) → StandsAt plan bit faults.now
+        → IsFaultless plan bit) }
+    ensures none { IfNone result ((rest.new ≡ rest.old) × (talkers.new ≡ talkers.old)
+        × (controllers.new ≡ controllers.old)) }
 {
     if !faults.none_at(bit) {
         return None;

@@ -7,9 +7,8 @@ use Rattle.bx_rx.specs.Bank.{BankValue}
 use Rattle.can_frame.specs.Frames.{FrameValue}
 use Rattle.can_segment.specs.Brought.{told_of, grown}
 use Rattle.can_segment.specs.Segments.{SegmentValue}
-use Rattle.can_segment.specs.declared.event.Told.{Told}
-use Rattle.can_segment.proofs.NextBits.{some_there}
-use Rattle.can_segment.proofs.Places.{same_some}
+use Rattle.can_station.specs.declared.event.Told.{Told}
+use Rattle.can_station.proofs.Places.{some_there, same_some}
 use Rattle.gw_script.specs.declared.route_report.RouteReport.{RouteReport}
 use Rattle.gw_config.specs.Nodes.{controller_places}
 use Rattle.gw_config.specs.Routes.{RouteValue}

@@ -5,16 +5,19 @@ use Rattle.bx_core.specs.Lists.{Each, Has}
 use Rattle.bx_core.proofs.Words.{each-append}
 use Rattle.can_node.specs.declared.outcome.Outcome.{Outcome}
 use Rattle.can_node.specs.declared.outcome.Outcome.TheVariants.{Nothing, Took, Completed, Lost, Errored, WentOff, CameBack}
-use Rattle.can_segment.specs.declared.event.Event.{Event}
-use Rattle.can_segment.specs.declared.event.Told.{Told}
-use Rattle.can_segment.specs.declared.plan.SegmentPlan.{SegmentPlan}
-use Rattle.can_segment.specs.declared.transmission.Transmission.{Transmission}
+use Rattle.can_station.specs.declared.event.Event.{Event}
+use Rattle.can_station.specs.declared.event.Told.{Told}
+use Rattle.can_station.specs.declared.plan.SegmentPlan.{SegmentPlan}
+use Rattle.can_station.specs.declared.transmission.Transmission.{Transmission}
 use Rattle.can_segment.specs.Runs.{Run, IsBit}
 use Rattle.can_segment.specs.Runs.Run.{no_bit, one_more}
-use Rattle.can_segment.specs.Tells.{told_start, told_outcome, told_reaped, starts_of, rest_of, lines, lines_from, events_at}
-use Rattle.can_segment.specs.Traces.{Act, Bit, act_of, sending_now, sending_behind, sending_of, ends_sending}
+use Rattle.can_station.specs.Lines.{told_start, told_outcome, told_reaped, lines}
+use Rattle.can_segment.specs.Tells.{starts_of, rest_of, lines_from, events_at}
+use Rattle.can_segment.specs.Traces.{Act, Bit, act_of, sending_now, sending_behind, sending_of}
+use Rattle.can_station.specs.Outcomes.{ends_sending}
 use Rattle.can_segment.proofs.Deeds.{sending_next}
-use Rattle.can_segment.proofs.NextBits.{some_there, act_found}
+use Rattle.can_station.proofs.Places.{some_there}
+use Rattle.can_segment.proofs.NextBits.{act_found}
 use Rattle.gw_script.specs.NamedPlaces.{label_of}
 
 -- what is sent is no request

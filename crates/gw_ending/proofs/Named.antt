@@ -13,14 +13,14 @@ use Rattle.bx_core.specs.Stands.{entries_of, numbers_of, entry_on_bus}
 use Rattle.bx_core.specs.TxBus.{Item, no_bus_past}
 use Rattle.bx_core.proofs.Words.{has-right, each_of, has-left}
 use Rattle.can_segment.specs.Brought.{told_of, all_in, start_in, sent_in, reaped_in, grown}
-use Rattle.can_segment.specs.declared.event.Event.{Event}
-use Rattle.can_segment.specs.declared.event.Label.{Label}
-use Rattle.can_segment.specs.declared.event.Told.{Told}
-use Rattle.can_segment.specs.declared.event.Told.TheVariants.{Started, Took, Completed, Lost, Error, Off, Back, Reaped}
+use Rattle.can_station.specs.declared.event.Event.{Event}
+use Rattle.can_station.specs.declared.event.Label.{Label}
+use Rattle.can_station.specs.declared.event.Told.{Told}
+use Rattle.can_station.specs.declared.event.Told.TheVariants.{Started, Took, Completed, Lost, Error, Off, Back, Reaped}
 use Rattle.can_segment.specs.declared.record.Record.{Record}
-use Rattle.can_segment.specs.declared.plan.Controller.{Controller}
-use Rattle.can_segment.specs.declared.plan.Talker.{Talker}
-use Rattle.can_segment.proofs.NextBits.{some_there}
+use Rattle.can_station.specs.declared.plan.Controller.{Controller}
+use Rattle.can_station.specs.declared.plan.Talker.{Talker}
+use Rattle.can_station.proofs.Places.{some_there}
 use Rattle.gw_script.specs.declared.report.Report.{Report}
 use Rattle.gw_config.specs.Controllers.{ControllerValue, controllers_on}
 use Rattle.gw_script.specs.NamedPlaces.{label_of, NamesRequest, NamesEvent, NamesNodes, Names}

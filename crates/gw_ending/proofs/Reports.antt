@@ -5,12 +5,11 @@ use Rattle.std.proofs.lemmas.List.Sums.{length-filter}
 use Rattle.bx_core.specs.declared.entry.Entry.{Entry}
 use Rattle.bx_core.specs.Lists.{Each}
 use Rattle.bx_core.specs.Stands.{entries_of}
-use Rattle.can_segment.proofs.Places.{same_some}
+use Rattle.can_station.proofs.Places.{same_some, some_there}
 use Rattle.bx_core.specs.TxBus.{no_bus_past}
-use Rattle.can_segment.proofs.NextBits.{some_there}
 use Rattle.can_segment.specs.Brought.{told_of, all_in, start_in, StartsUndone}
-use Rattle.can_segment.specs.declared.event.Event.{Event}
-use Rattle.can_segment.specs.declared.event.Told.{Told}
+use Rattle.can_station.specs.declared.event.Event.{Event}
+use Rattle.can_station.specs.declared.event.Told.{Told}
 use Rattle.can_segment.specs.declared.record.Record.{Record}
 use Rattle.gw_script.specs.declared.report.Report.{Report}
 use Rattle.gw_script.specs.declared.route_report.RouteReport.{RouteReport}

@@ -10,7 +10,7 @@ use Rattle.bx_core.specs.Stands.{entries_of}
 use Rattle.bx_core.specs.TxBus.{no_bus_past}
 use Rattle.can_frame.specs.Frames.{FrameValue}
 use Rattle.can_segment.specs.Brought.{told_of, all_in, start_in, taken_in, grown}
-use Rattle.can_segment.proofs.Places.{same_some}
+use Rattle.can_station.proofs.Places.{same_some}
 use Rattle.can_segment.proofs.Shown.{map_there}
 use Rattle.gw_route.specs.RouteHand.{HandValue, hand_value}
 use Rattle.gw_route.specs.declared.route_abort.RouteAbort.{RouteAbort}

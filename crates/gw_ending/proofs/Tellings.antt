@@ -8,7 +8,7 @@ use Rattle.bx_core.specs.States.{numbers}
 use Rattle.bx_core.specs.Stands.{entries_of, entry_on_bus}
 use Rattle.bx_core.specs.Ties.{left_of}
 use Rattle.bx_core.specs.TxBus.{Item}
-use Rattle.can_segment.specs.declared.event.Event.{Event}
+use Rattle.can_station.specs.declared.event.Event.{Event}
 use Rattle.can_segment.specs.Brought.{all_in, sent_in, told_of}
 use Rattle.can_segment.proofs.Brought.{of-append, all-append}
 

@@ -8,8 +8,8 @@ use Rattle.can_segment.specs.Brought.{StartsUndone, told_of, all_in, sent_in, ta
 use Rattle.can_segment.specs.Copies.{Copies}
 use Rattle.can_segment.specs.Runs.{IsRun}
 use Rattle.can_segment.specs.Segments.{IsRecordOf}
-use Rattle.can_segment.specs.declared.event.Event.{Event}
-use Rattle.can_segment.specs.declared.event.Told.{Told}
+use Rattle.can_station.specs.declared.event.Event.{Event}
+use Rattle.can_station.specs.declared.event.Told.{Told}
 use Rattle.can_segment.specs.declared.record.Record.{Record}
 use Rattle.bx_controller.specs.Intakes.{IntakeStands}
 use Rattle.bx_controller.specs.Ports.{SinkStands}

@@ -6,9 +6,9 @@ use Rattle.bx_core.specs.Lists.{Each, Has}
 use Rattle.bx_core.specs.TxBus.{no_bus_past}
 use Rattle.bx_core.specs.States.{numbers}
 use Rattle.bx_core.specs.Stands.{entries_of, numbers_of}
-use Rattle.can_segment.specs.declared.event.Event.{Event}
-use Rattle.can_segment.specs.declared.event.Told.{Told}
-use Rattle.can_segment.specs.declared.plan.SegmentPlan.{SegmentPlan}
+use Rattle.can_station.specs.declared.event.Event.{Event}
+use Rattle.can_station.specs.declared.event.Told.{Told}
+use Rattle.can_station.specs.declared.plan.SegmentPlan.{SegmentPlan}
 use Rattle.can_segment.specs.declared.record.Record.{Record}
 use Rattle.can_segment.specs.Brought.{StartsUndone, told_of, all_in, start_in, sent_in, reaped_in, taken_in}
 use Rattle.can_segment.specs.Attempts.{RequestsTryFailures}

@@ -1,7 +1,7 @@
 -- What is at the places of a run when one port changed, and nothing else.
 use Rattle.std.proofs.Common.{◌≡◌, ◌≢◌, ℕ, ◌⊎◌, inl, inr, Some, Option, List, length, slice_get, refl, sym, ap, subst, ◌∙◌}
 use Rattle.std.proofs.lemmas.Bool.Decides.{eqb_tells}
-use Rattle.can_segment.proofs.Places.{same_some}
+use Rattle.can_station.proofs.Places.{same_some}
 use Rattle.bx_controller.specs.declared.intake.Intake.{Intake}
 use Rattle.gw_opening.specs.declared.place.Place.{Place}
 use Rattle.bx_controller.specs.declared.port.Port.{Port}

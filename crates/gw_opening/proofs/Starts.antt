@@ -7,7 +7,7 @@ use Rattle.bx_rx.specs.Bank.{BankValue}
 use Rattle.bx_rx.specs.declared.rx_frame.RxFrame.{RxFrame}
 use Rattle.can_segment.specs.Brought.{told_of, all_in, taken_in, grown, StartsUndone}
 use Rattle.can_segment.specs.Segments.{SegmentValue}
-use Rattle.can_segment.specs.declared.event.Event.{Event}
+use Rattle.can_station.specs.declared.event.Event.{Event}
 use Rattle.bx_controller.proofs.Intakes.{left-length}
 use Rattle.bx_controller.specs.Intakes.GoTo.{nothing}
 use Rattle.bx_controller.specs.Ports.{SinkStands}

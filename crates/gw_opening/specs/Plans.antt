@@ -1,10 +1,10 @@
 -- What a script says of a segment and of a route, as the plan of a run.
 use Rattle.std.specs.Prelude.{◌≡◌, ℕ, ◌<◌, ◌==◌, Option, Some, None, List, slice_get, filter_map, if◌then◌else◌}
-use Rattle.can_segment.specs.declared.plan.Talker.{Talker}
-use Rattle.can_segment.specs.declared.plan.Controller.{Controller}
-use Rattle.can_segment.specs.declared.plan.NodeFault.{NodeFault}
-use Rattle.can_segment.specs.declared.plan.LineFault.{LineFault}
-use Rattle.can_segment.specs.declared.plan.SegmentPlan.{SegmentPlan}
+use Rattle.can_station.specs.declared.plan.Talker.{Talker}
+use Rattle.can_station.specs.declared.plan.Controller.{Controller}
+use Rattle.can_station.specs.declared.plan.NodeFault.{NodeFault}
+use Rattle.can_station.specs.declared.plan.LineFault.{LineFault}
+use Rattle.can_station.specs.declared.plan.SegmentPlan.{SegmentPlan}
 use Rattle.gw_config.specs.declared.planned_fault.PlannedFault.{PlannedFault}
 use Rattle.gw_config.specs.declared.planned_fault.PlannedFault.TheVariants.{AtNode, OnLine}
 use Rattle.gw_config.specs.declared.planned_abort.PlannedAbort.{PlannedAbort}

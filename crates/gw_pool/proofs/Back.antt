@@ -3,8 +3,7 @@ use Rattle.std.specs.Prelude.{if◌then◌else◌}
 use Rattle.std.proofs.Common.{◌≡◌, ◌≢◌, ℕ, zero, suc, ◌+◌, ◌<◌, ◌≤◌, ◌==◌, List, [], ◌∷◌, ◌++◌, Option, Some, inl, inr, length, slice_get, set, refl, sym, ap, subst, ◌∙◌, arith}
 use Rattle.std.proofs.lemmas.Bool.{cases_eq, cases_lt}
 use Rattle.std.proofs.lemmas.Option.{slice_get_within}
-use Rattle.can_segment.proofs.NextBits.{some_there}
-use Rattle.can_segment.proofs.Places.{get_set_same, get_set_other, same_some}
+use Rattle.can_station.proofs.Places.{some_there, get_set_same, get_set_other, same_some}
 use Rattle.gw_site.specs.Pairs.{Pairs}
 use Rattle.gw_pool.specs.Pool.{weigh, places}
 use Rattle.gw_pool.specs.Collecting.{AreBack, AreFull}

@@ -2,7 +2,7 @@
 use Rattle.std.proofs.Common.{◌≡◌, ℕ, ◌+◌, ◌≤◌, List, [], ◌∷◌, ◌++◌, length, sym, ap, subst, arith, ◌∙◌, length-append, append_assoc}
 use Rattle.std.proofs.lemmas.List.{append-nil}
 use Rattle.std.proofs.lemmas.Option.{slice_get_within}
-use Rattle.can_segment.proofs.NextBits.{some_there}
+use Rattle.can_station.proofs.Places.{some_there}
 use Rattle.bx_core.specs.Lists.{Each}
 use Rattle.gw_site.specs.Pairs.{Pairs}
 

@@ -4,8 +4,8 @@ use Rattle.std.proofs.lemmas.Option.{slice_get_within}
 use Rattle.std.proofs.lemmas.Bool.{lt-ltb}
 use Rattle.std.proofs.Math.Nat.{div-eq_of_lt-le, div-add-mod, div-le_self, mod-lt, zero-div, mul-suc, suc-mul, mul_comm, mul-zero}
 use Rattle.bx_core.specs.PlainMail.{short_of}
-use Rattle.can_segment.specs.Places.{AtPlaces}
-use Rattle.can_segment.proofs.NextBits.{some_there}
+use Rattle.can_station.specs.Places.{AtPlaces}
+use Rattle.can_station.proofs.Places.{some_there}
 use Rattle.gw_route.specs.Turn.{next_turn}
 use Rattle.gw_config.specs.Scripts.{ScriptValue}
 use Rattle.gw_opening.specs.declared.lane.Lane.{Lane}

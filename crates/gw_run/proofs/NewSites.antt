@@ -1,7 +1,7 @@
 -- Segments before the first bit, with new mailboxes at each controller.
 use Rattle.std.proofs.Common.{◌≡◌, ℕ, ◌≤◌, List, length, arith}
 use Rattle.std.proofs.lemmas.Option.{slice_get_within}
-use Rattle.can_segment.proofs.NextBits.{some_there}
+use Rattle.can_station.proofs.Places.{some_there}
 use Rattle.gw_config.specs.Scripts.{ScriptValue}
 use Rattle.gw_site.proofs.Pairs.{PairsBelow}
 use Rattle.gw_opening.specs.Openings.{IsNewSite, AreNewSites, HaveMails}

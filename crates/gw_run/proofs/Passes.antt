@@ -2,9 +2,8 @@
 use Rattle.std.proofs.Common.{◌≡◌, ℕ, inl, inr, Some, List, length, set, slice_get, refl, sym, ap, subst, arith, ◌∙◌}
 use Rattle.std.proofs.lemmas.List.{length-set}
 use Rattle.std.proofs.lemmas.Option.{slice_get_within}
-use Rattle.can_segment.specs.Places.{AtPlaces}
-use Rattle.can_segment.proofs.Places.{same_some}
-use Rattle.can_segment.proofs.NextBits.{some_there}
+use Rattle.can_station.specs.Places.{AtPlaces}
+use Rattle.can_station.proofs.Places.{same_some, some_there}
 use Rattle.gw_opening.specs.declared.lane.Lane.{Lane}
 use Rattle.gw_run.specs.Ports.{Site}
 use Rattle.gw_run.specs.Sites.{IsAhead, SiteMakes, SiteMoves}

@@ -2,8 +2,8 @@
 use Rattle.std.proofs.Common.{◌≡◌, ◌==◌, Bool, true, false, cond, Option, Some, None, List, refl, ap, arith, ◌∙◌}
 use Rattle.std.proofs.lemmas.Option.{slice_get_within}
 use Rattle.bx_core.specs.Stands.{BusKeeps}
-use Rattle.can_segment.specs.Places.{AtPlaces}
-use Rattle.can_segment.proofs.NextBits.{some_there}
+use Rattle.can_station.specs.Places.{AtPlaces}
+use Rattle.can_station.proofs.Places.{some_there}
 use Rattle.bx_controller.specs.declared.intake.Intake.{Intake}
 use Rattle.gw_opening.specs.declared.lane.Lane.{Lane}
 use Rattle.gw_opening.specs.declared.place.Place.{Place}

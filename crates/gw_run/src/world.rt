@@ -1,7 +1,7 @@
 //! All segments and routes of a run.
 
 ghost use Rattle.std.specs.Prelude.{◌≡◌, ◌≢◌, ◌<◌, ◌≤◌, ◌+◌, ◌%◌, ℕ, true, false, List, OnOk, Some, length, slice_get};
-ghost use Rattle.can_segment.specs.Places.{AtPlaces};
+ghost use Rattle.can_station.specs.Places.{AtPlaces};
 ghost use Rattle.gw_opening.specs.declared.lane.Lane.{Lane};
 ghost use Rattle.gw_run.specs.Ports.{Site};
 ghost use Rattle.gw_run.specs.Sites.{SiteHolds, SiteMoves};

@@ -1,8 +1,8 @@
 -- Parts of the line of an event.
 use Rattle.std.specs.Prelude.{◌≡◌, ℕ, List, [], ◌∷◌, ◌++◌, All, vec_len, codes}
 use Rattle.std.specs.Fmt.{decimal}
-use Rattle.can_segment.specs.declared.event.Event.{Event}
-use Rattle.can_segment.specs.declared.event.Told.{Told}
+use Rattle.can_station.specs.declared.event.Event.{Event}
+use Rattle.can_station.specs.declared.event.Told.{Told}
 use Rattle.gw_config.specs.Scripts.{ScriptValue}
 use Rattle.gw_script.specs.NamedPlaces.{label_of}
 use Rattle.gw_script.specs.declared.repeats.Front.{Front}

@@ -1,7 +1,7 @@
 //! Parts of lines that stay the same in lines in a row.
 
 ghost use Rattle.std.specs.Prelude.{◌≡◌, ◌<◌, ◌++◌, true, None, vec_len, IfOk, OnOk};
-ghost use Rattle.can_segment.specs.declared.event.Told.TheVariants.{Started, Took, Lost};
+ghost use Rattle.can_station.specs.declared.event.Told.TheVariants.{Started, Took, Lost};
 ghost use Rattle.gw_script.specs.LineParts.{front_text, end_text, IsFront, IsEnd, AreEnds};
 
 use crate::digits::push_decimal_and_space;

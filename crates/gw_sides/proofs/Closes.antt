@@ -12,8 +12,7 @@ use Rattle.gw_site.proofs.Pairs.{pairs_more}
 use Rattle.gw_site.specs.Pairs.{Pairs}
 use Rattle.gw_site.specs.declared.site.Site.{Site}
 use Rattle.bx_core.specs.Ties.{AreSides}
-use Rattle.can_segment.proofs.NextBits.{some_there}
-use Rattle.can_segment.proofs.Places.{same_some}
+use Rattle.can_station.proofs.Places.{some_there, same_some}
 use Rattle.gw_sides.specs.Seats.{seat_of, HoldsAll, Leaves, LeavesOn, Seated}
 use Rattle.gw_sides.specs.Sets.{MayClose, ClosesPort, ClosesSite}
 use Rattle.gw_sides.proofs.SeatLaws.{elsewhere, on_one_segment, one_place}

@@ -12,7 +12,7 @@ use Rattle.gw_site.specs.declared.site.Site.{Site}
 use Rattle.gw_sides.specs.Seats.{seat_of, HoldsAll, IsElsewhere, Leaves, LeavesOn, Seated}
 use Rattle.bx_core.specs.RouteTx.{RoutePast}
 use Rattle.bx_core.specs.Ties.{AreSides, AreNew}
-use Rattle.can_segment.proofs.NextBits.{some_there}
+use Rattle.can_station.proofs.Places.{some_there}
 use Rattle.gw_config.specs.Segments.{SegmentValue}
 use Rattle.gw_sides.specs.Sets.{IsNewSide, OpensPort, OpensSite}
 use Rattle.gw_sides.proofs.SeatLaws.{elsewhere, on_one_segment, one_place}

@@ -1,8 +1,7 @@
 -- Laws of two lists, place by place.
 use Rattle.std.proofs.Common.{◌≡◌, ℕ, zero, suc, ◌+◌, inl, inr, Some, List, [], ◌∷◌, ◌++◌, length, slice_get, map, refl, sym, ap, ap₂, subst, arith, ◌∙◌, length-append}
 use Rattle.std.proofs.lemmas.Option.{slice_get_within}
-use Rattle.can_segment.proofs.NextBits.{some_there}
-use Rattle.can_segment.proofs.Places.{same_some}
+use Rattle.can_station.proofs.Places.{some_there, same_some}
 use Rattle.bx_core.specs.Lists.{Each}
 pub use Rattle.bx_core.proofs.Words.{pushed}
 use Rattle.gw_site.specs.Pairs.{Pairs}

@@ -3,13 +3,12 @@ use Rattle.std.proofs.Common.{◌≡◌, ℕ, ◌+◌, Bool, Option, slice_get, 
 use Rattle.std.proofs.lemmas.Option.{slice_get_within}
 use Rattle.can_frame.specs.Frames.{FrameValue}
 use Rattle.bx_core.specs.TxBus.{Item, BusPast, BusCall, no_bus_past}
-use Rattle.can_segment.specs.declared.event.Event.{Event}
-use Rattle.can_segment.specs.declared.plan.SegmentPlan.{SegmentPlan}
+use Rattle.can_station.specs.declared.event.Event.{Event}
+use Rattle.can_station.specs.declared.plan.SegmentPlan.{SegmentPlan}
 use Rattle.can_segment.specs.Brought.{told_of, all_in, taken_in, grown, StartsUndone, IsBrought}
 use Rattle.can_segment.specs.Segments.{SegmentValue, Fit, MakesBit}
 use Rattle.can_segment.proofs.Brought.{of-append, all-append, grown-append, starts_undone-append}
-use Rattle.can_segment.proofs.NextBits.{some_there}
-use Rattle.can_segment.proofs.Places.{same_some}
+use Rattle.can_station.proofs.Places.{some_there, same_some}
 use Rattle.can_segment.proofs.QuietBits.{LeftQuietly}
 use Rattle.gw_site.specs.Sites.{PortHolds, SiteHolds, PortsLeave}
 

@@ -6,8 +6,7 @@ use Rattle.bx_core.specs.RouteTx.{RoutePast, no_route_past}
 use Rattle.bx_core.specs.TxBus.{Item, BusPast, BusCall, no_bus_past}
 use Rattle.bx_controller.specs.Ports.{SinkStands}
 use Rattle.bx_controller.specs.declared.port.Port.{Port}
-use Rattle.can_segment.proofs.NextBits.{some_there}
-use Rattle.can_segment.proofs.Places.{same_some}
+use Rattle.can_station.proofs.Places.{some_there, same_some}
 use Rattle.gw_config.specs.Nodes.{controller_places, route_places, route_at}
 use Rattle.gw_config.specs.Routes.{RouteValue}
 use Rattle.gw_config.specs.Scripts.{ScriptValue}

@@ -8,8 +8,7 @@ use Rattle.bx_core.specs.TxBus.{Item, BusPast, no_bus_past}
 use Rattle.bx_controller.specs.Ports.{SinkStands, slot_leaves}
 use Rattle.bx_controller.specs.declared.port.Port.{Port}
 use Rattle.can_frame.specs.Frames.{FrameValue}
-use Rattle.can_segment.proofs.NextBits.{some_there}
-use Rattle.can_segment.proofs.Places.{same_some}
+use Rattle.can_station.proofs.Places.{some_there, same_some}
 use Rattle.can_segment.specs.Brought.{told_of, grown}
 use Rattle.can_segment.specs.Segments.{SegmentValue}
 use Rattle.gw_config.specs.Nodes.{controller_places, route_places, route_at}

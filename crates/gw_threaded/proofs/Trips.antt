@@ -8,8 +8,7 @@ use Rattle.bx_controller.specs.Ports.{SinkStands, PortLeaves}
 use Rattle.bx_controller.specs.Slots.{SameFifo}
 use Rattle.bx_controller.specs.declared.intake.Intake.{Intake}
 use Rattle.bx_controller.specs.declared.port.Port.{Port}
-use Rattle.can_segment.proofs.NextBits.{some_there}
-use Rattle.can_segment.proofs.Places.{same_some}
+use Rattle.can_station.proofs.Places.{some_there, same_some}
 use Rattle.gw_config.specs.Controllers.{ControllerValue}
 use Rattle.gw_config.specs.Nodes.{controller_places, route_places, route_at}
 use Rattle.gw_config.specs.Routes.{RouteValue}

@@ -2,8 +2,7 @@
 use Rattle.std.proofs.Common.{◌≡◌, ◌≢◌, ℕ, zero, suc, ◌+◌, ◌<◌, ◌≤◌, ◌⊎◌, inl, inr, Option, Some, List, [], ◌∷◌, ◌++◌, length, map, slice_get, refl, sym, ap, subst, arith, ◌∙◌, length-append}
 use Rattle.std.proofs.lemmas.List.{append-nil}
 use Rattle.std.proofs.lemmas.Option.{slice_get_within}
-use Rattle.can_segment.proofs.NextBits.{some_there}
-use Rattle.can_segment.proofs.Places.{same_some}
+use Rattle.can_station.proofs.Places.{some_there, same_some}
 use Rattle.gw_opening.specs.declared.lane.Lane.{Lane}
 use Rattle.gw_site.proofs.Pairs.{pushed}
 use Rattle.gw_pool.specs.declared.courier.Courier.{Courier}

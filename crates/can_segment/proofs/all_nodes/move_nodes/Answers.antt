@@ -1,9 +1,9 @@
 use Rattle.std.proofs.Common.{◌≡◌, ◌+◌, length, ap, subst, ◌∙◌, arith}
 use Rattle.std.proofs.lemmas.Option.{slice_get_within}
-use Rattle.can_segment.specs.Faults.{line_level, sampled_level}
-use Rattle.can_segment.specs.Members.{Samples, SamplesAndSettles}
+use Rattle.can_station.specs.Faults.{line_level, sampled_level}
+use Rattle.can_station.specs.Members.{Samples, SamplesAndSettles}
 use Rattle.can_segment.specs.Rests.{members_at}
-use Rattle.can_segment.proofs.NextBits.{some_there}
+use Rattle.can_station.proofs.Places.{some_there}
 use Rattle.can_segment.proofs.Moves.{talker_clock, controller_clock, port_moves}
 use Rattle.can_segment.proofs.Rests.{awake_at, members_length}
 use Rattle.can_segment.proofs.all_nodes.move_nodes.Goals as goal

@@ -1,12 +1,13 @@
-use Rattle.std.proofs.Common.{◌≡◌, ◌+◌, length, ap, arith, sym, subst, ◌∙◌}
+use Rattle.std.proofs.Common.{◌≡◌, ◌+◌, length, ap, sym, subst, ◌∙◌}
 use Rattle.std.proofs.lemmas.Bool.{or_parts}
-use Rattle.can_segment.specs.Faults.{sampled_level}
-use Rattle.can_segment.specs.Members.{NodeSamples, PortSettles}
-use Rattle.can_segment.specs.Places.{AtBoth, AtPlaces}
-use Rattle.can_segment.specs.Rests.{HasRoom, TransmitsAll, Undisturbed, members_at}
+use Rattle.can_station.specs.Faults.{sampled_level}
+use Rattle.can_station.specs.Members.{NodeSamples, PortSettles}
+use Rattle.can_station.specs.Places.{AtBoth, AtPlaces}
+use Rattle.can_station.specs.RestingNodes.{HasRoom, TransmitsAll}
+use Rattle.can_segment.specs.Rests.{members_at}
 use Rattle.can_segment.proofs.Holds.{left_holds, left_rests}
 use Rattle.can_segment.proofs.Rests.{all_quiet, controllers_sample, members_length, members_sample, room_real, transmits_real}
-use Rattle.can_segment.proofs.Spans.{within_both, within_places}
+use Rattle.can_station.proofs.Spans.{within_both, within_places}
 use Rattle.can_segment.proofs.Woken.{left_both, left_on, left_places, others_both, others_places}
 use Rattle.can_segment.proofs.all_nodes.sample_all.Goals as goal
 
@@ -70,8 +71,7 @@ pub returns-clause-quiet : goal.returns-clause-quiet
 returns-clause-quiet g c none =
     let rest = c.go_through.new.self in
     let rests = returns-clause-rests g c in
-    let parts = or_parts c.sample_nodes-talkers_told.result c.sample_controllers-controllers_told.result none in
-    (
+    let parts = or_parts c.sample_nodes-talkers_told.result c.sample_controllers-controllers_told.result none in (
       all_quiet rest c.args.bit c.sample_nodes-talkers_told.new.members rests.talkers_rest (c.sample_nodes-talkers_told.ensures.quiet parts.0),
       all_quiet rest c.args.bit c.sample_controllers-controllers_told.new.members rests.controllers_rest (c.sample_controllers-controllers_told.ensures.quiet parts.1),
     )
@@ -82,11 +82,10 @@ returns-clause-left g c =
     let goes = c.go_through.ensures in
     let cs = c.go_through.new.controllers in
     let same = goes.controllers.same ∙ c.disturb.ensures.controllers in
-    let size : length c.args.ports.now ≡ length cs = c.requires.ports ∙ sym (members_length c.args.rest.now c.args.bit c.args.controllers.now) ∙ ap length (sym same) ∙ members_length before c.args.bit cs in
-    (
+    let size : length c.args.ports.now ≡ length cs = c.requires.ports ∙ sym (members_length c.args.rest.now c.args.bit c.args.controllers.now) ∙ ap length (sym same) ∙ members_length before c.args.bit cs in (
       left_on c.args.talkers.now c.disturb.new.talkers c.sample_nodes-talkers_told.new.members c.disturb.ensures.left.0
-      (left_on c.disturb.new.talkers c.go_through.new.talkers c.sample_nodes-talkers_told.new.members goes.talkers.left (left_places _ c.go_through.new.talkers c.sample_nodes-talkers_told.new.members c.sample_nodes-talkers_told.ensures.samples)),
+          (left_on c.disturb.new.talkers c.go_through.new.talkers c.sample_nodes-talkers_told.new.members goes.talkers.left (left_places _ c.go_through.new.talkers c.sample_nodes-talkers_told.new.members c.sample_nodes-talkers_told.ensures.samples)),
       left_on c.args.controllers.now c.disturb.new.controllers c.sample_controllers-controllers_told.new.members c.disturb.ensures.left.1
-      (left_on c.disturb.new.controllers cs c.sample_controllers-controllers_told.new.members goes.controllers.left
-      (left_both _ cs c.sample_controllers-controllers_told.new.members c.args.ports.now c.sample_controllers-controllers_told.new.ports size c.sample_controllers-controllers_told.ensures.settles)),
+          (left_on c.disturb.new.controllers cs c.sample_controllers-controllers_told.new.members goes.controllers.left
+          (left_both _ cs c.sample_controllers-controllers_told.new.members c.args.ports.now c.sample_controllers-controllers_told.new.ports size c.sample_controllers-controllers_told.ensures.settles)),
     )

@@ -1,11 +1,12 @@
 use Rattle.std.proofs.Common.{◌≡◌, cond, length, ap, sym, subst, ◌∙◌, ◌&&◌}
 use Rattle.std.specs.List.{list_all}
-use Rattle.can_segment.specs.Members.{PortStarts, TalkerStarts, drives_at}
-use Rattle.can_segment.specs.Places.{AtBoth, AtPlaces}
-use Rattle.can_segment.specs.Rests.{TransmitsAll, members_at}
+use Rattle.can_station.specs.Members.{PortStarts, TalkerStarts, drives_at}
+use Rattle.can_station.specs.Places.{AtBoth, AtPlaces}
+use Rattle.can_station.specs.RestingNodes.{TransmitsAll}
+use Rattle.can_segment.specs.Rests.{members_at}
 use Rattle.can_segment.proofs.Holds.{left_holds, left_rests}
 use Rattle.can_segment.proofs.Rests.{all_drive, controllers_start, members_length, talkers_start, transmits_real}
-use Rattle.can_segment.proofs.Spans.{within_both, within_places}
+use Rattle.can_station.proofs.Spans.{within_both, within_places}
 use Rattle.can_segment.proofs.Woken.{left_both, left_on, left_places, others_both, others_places}
 use Rattle.can_segment.proofs.all_nodes.start_all.Goals as goal
 
@@ -72,9 +73,8 @@ pub returns-clause-left : goal.returns-clause-left
 returns-clause-left g c =
     let roused = c.rouse.ensures in
     let size : length c.args.ports.now ≡ length c.rouse.new.controllers =
-    c.requires.ports ∙ sym (members_length c.args.rest.now c.args.bit c.args.controllers.now) ∙ ap length (sym roused.controllers) ∙ members_length c.rouse.new.self c.args.bit c.rouse.new.controllers in
-    (
+    c.requires.ports ∙ sym (members_length c.args.rest.now c.args.bit c.args.controllers.now) ∙ ap length (sym roused.controllers) ∙ members_length c.rouse.new.self c.args.bit c.rouse.new.controllers in (
       left_on c.args.talkers.now c.rouse.new.talkers c.start_talkers.new.members roused.left.0 (left_places _ c.rouse.new.talkers c.start_talkers.new.members c.start_talkers.ensures),
       left_on c.args.controllers.now c.rouse.new.controllers c.start_controllers.new.members roused.left.1
-      (left_both _ c.rouse.new.controllers c.start_controllers.new.members c.args.ports.now c.start_controllers.new.ports size c.start_controllers.ensures),
+          (left_both _ c.rouse.new.controllers c.start_controllers.new.members c.args.ports.now c.start_controllers.new.ports size c.start_controllers.ensures),
     )

@@ -1,9 +1,9 @@
 use Rattle.std.proofs.Common.{rules, ◌≡◌, ◌+◌, ◌++◌, ◌∷◌, [], length, slice_get, ap, arith, sym, subst, length-append, ◌∙◌}
 use Rattle.can_segment.specs.Kept.{SegmentKept}
-use Rattle.can_segment.specs.Members.{wants_at}
+use Rattle.can_station.specs.Members.{wants_at}
 use Rattle.can_segment.specs.Moves.{PortMoves}
 use Rattle.can_segment.specs.Rests.{members_at}
-use Rattle.can_segment.specs.Tellings.{bit_lines}
+use Rattle.can_station.specs.Tellings.{bit_lines}
 use Rattle.can_segment.proofs.Keeps.{talker_clocks, controller_clocks, kept_on}
 use Rattle.can_segment.proofs.Quiet.{quiet_lines}
 use Rattle.can_segment.proofs.Rests.{members_length}

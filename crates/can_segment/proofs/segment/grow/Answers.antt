@@ -1,18 +1,17 @@
-use Rattle.std.proofs.Common.{rules, ◌≡◌, ◌+◌, ◌++◌, ◌∷◌, [], Some, length, slice_get, refl, arith, sym, ap, subst, ◌∙◌, length-append}
+use Rattle.std.proofs.Common.{rules, ◌≡◌, ◌+◌, ◌++◌, ◌∷◌, [], Some, length, slice_get, refl, arith, sym, ap, ◌∙◌, length-append}
 use Rattle.std.proofs.lemmas.List.{append-nil}
 use Rattle.std.proofs.lemmas.Option.{slice_get_within}
 use Rattle.can_segment.specs.Brought.{told_of}
-use Rattle.can_segment.specs.FaultOrder.{IsFaultless, StandsAt}
-use Rattle.can_segment.specs.Members.{wants_at}
-use Rattle.can_segment.specs.Rests.{RestHolds, SendsAlone, members_at}
-use Rattle.can_segment.specs.Tellings.{bit_lines}
+use Rattle.can_station.specs.Members.{wants_at}
+use Rattle.can_segment.specs.Rests.{members_at}
+use Rattle.can_station.specs.Tellings.{bit_lines}
 use Rattle.can_segment.proofs.Brought.{of_controller, port_brought}
 use Rattle.can_segment.proofs.Keeps.{controller_clocks, run_length, talker_clocks}
 use Rattle.can_segment.proofs.Moves.{port_moves}
-use Rattle.can_segment.proofs.NextBits.{some_there}
+use Rattle.can_station.proofs.Places.{some_there}
 use Rattle.can_segment.proofs.QuietBits.{grown_holds, grown_kept, grown_rests}
 use Rattle.can_segment.proofs.Woken.{found_awake}
-use Rattle.can_segment.proofs.SoleSender.{controllers_settle_alone, controllers_start_alone, rests_alone}
+use Rattle.can_segment.proofs.SoleSender.{controllers_settle_alone, controllers_start_alone}
 use Rattle.can_segment.proofs.segment.grow.Goals as goal
 
 pub grow_quietly-requires-clause-talker_room : goal.grow_quietly-requires-clause-talker_room

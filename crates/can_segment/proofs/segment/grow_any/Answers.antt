@@ -2,14 +2,15 @@ use Rattle.std.proofs.Common.{rules, ◌≡◌, ◌+◌, ◌∷◌, [], length, 
 use Rattle.std.proofs.lemmas.Option.{slice_get_within}
 use Rattle.can_segment.specs.Brought.{IsBrought, told_of}
 use Rattle.can_segment.specs.Kept.{SegmentKept}
-use Rattle.can_segment.specs.Members.{wants_at}
-use Rattle.can_segment.specs.Ports.{item_of}
-use Rattle.can_segment.specs.Rests.{AreAlike, members_at}
+use Rattle.can_station.specs.Members.{wants_at}
+use Rattle.can_station.specs.Ports.{item_of}
+use Rattle.can_station.specs.RestingNodes.{AreAlike}
+use Rattle.can_segment.specs.Rests.{members_at}
 use Rattle.can_segment.specs.Segments.{AreFrom}
-use Rattle.can_segment.specs.Tellings.{bit_lines}
+use Rattle.can_station.specs.Tellings.{bit_lines}
 use Rattle.can_segment.proofs.Brought.{of_controller, port_brought}
 use Rattle.can_segment.proofs.Keeps.{run_length}
-use Rattle.can_segment.proofs.NextBits.{some_there}
+use Rattle.can_station.proofs.Places.{some_there}
 use Rattle.can_segment.proofs.Rests.{members_length}
 use Rattle.can_segment.proofs.Wholes.{from_left, from_real, from_whole, holds_alike}
 use Rattle.can_segment.proofs.segment.grow_any.Goals as goal

@@ -3,7 +3,7 @@ use Rattle.bx_core.specs.Stands.{entries_of}
 use Rattle.bx_core.specs.Ties.{left_of}
 use Rattle.can_segment.specs.Brought.{all_in, sent_in, told_of}
 use Rattle.can_segment.specs.Segments.{SegmentValue}
-use Rattle.can_segment.proofs.Places.{same_some}
+use Rattle.can_station.proofs.Places.{same_some}
 use Rattle.gw_route.specs.RouteHand.{hand_value}
 use Rattle.gw_opening.proofs.Changes.{mail_after}
 use Rattle.gw_ending.specs.Ends.{IsEndOf}

@@ -1,5 +1,5 @@
 use Rattle.std.proofs.Common.{sym, ◌∙◌}
-use Rattle.can_segment.proofs.NextBits.{some_there}
+use Rattle.can_station.proofs.Places.{some_there}
 use Rattle.gw_opening.proofs.Openings.{place_there, sites_set, mails_set, slot_set, takes_other}
 use Rattle.gw_opening.proofs.route_start.start_lane.Goals as goal
 

@@ -1,5 +1,5 @@
 use Rattle.std.proofs.Common.{ℕ, ◌+◌, length, ap, arith, subst, sym}
-use Rattle.can_segment.proofs.NextBits.{some_there}
+use Rattle.can_station.proofs.Places.{some_there}
 use Rattle.gw_config.specs.Segments.{SegmentValue}
 use Rattle.gw_site.proofs.Pairs.{PairsBelow, pairs_step}
 use Rattle.gw_run.specs.Ports.{Site}

@@ -1,6 +1,6 @@
 use Rattle.std.proofs.Common.{arith, sym, ◌∙◌}
 use Rattle.std.proofs.lemmas.Option.{slice_get-get_or}
-use Rattle.can_segment.proofs.Places.{places_step, places_end}
+use Rattle.can_station.proofs.Places.{places_step, places_end}
 use Rattle.gw_run.specs.Sites.{SiteMakes}
 use Rattle.gw_run.proofs.Passes.{made_bits, moves_of}
 use Rattle.gw_run.proofs.Worlds.{world_bits}

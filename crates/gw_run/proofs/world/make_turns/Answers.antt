@@ -1,6 +1,6 @@
 use Rattle.std.proofs.Common.{arith}
 use Rattle.std.proofs.lemmas.Option.{slice_get-get_or}
-use Rattle.can_segment.proofs.Places.{places_start, places_step, places_end}
+use Rattle.can_station.proofs.Places.{places_start, places_step, places_end}
 use Rattle.gw_run.specs.Worlds.{CountsTurn}
 use Rattle.gw_run.proofs.WorldTurns.{world_turn}
 use Rattle.gw_run.proofs.Passes.{segments_start, segments_turn, lanes_start, lanes_turn}

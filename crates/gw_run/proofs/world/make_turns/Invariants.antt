@@ -1,4 +1,4 @@
-use Rattle.can_segment.specs.Places.{AtPlacesBelow}
+use Rattle.can_station.specs.Places.{AtPlacesBelow}
 use Rattle.gw_run.specs.Worlds.{WorldHolds, SameSegments, LanesKeep, SitesKeep, CountsTurn, NoneShort}
 use Rattle.gw_run.proofs.world.make_turns.Given as goal
 

@@ -1,7 +1,7 @@
 use Rattle.std.proofs.Common.{◌≡◌, ◌<◌, Some, get_or, length, slice_get, refl, sym, ap, subst, ◌∙◌}
 use Rattle.std.proofs.lemmas.List.{length-set}
 use Rattle.std.proofs.lemmas.Option.{slice_get-get_or, slice_get_within}
-use Rattle.can_segment.proofs.Places.{same_some, get_set_same, get_set_other}
+use Rattle.can_station.proofs.Places.{same_some, get_set_same, get_set_other}
 use Rattle.std.proofs.lemmas.Result.{on_ok_weaker}
 use Rattle.gw_run.specs.Ports.{Site}
 use Rattle.gw_run.proofs.Counted.{short_turn}

@@ -1,6 +1,6 @@
 use Rattle.std.proofs.Common.{◌≡◌, ◌<◌, ◌+◌, ◌++◌, ◌∷◌, [], ℕ, Some, length, slice_get, append_assoc, length-append, refl, sym, ap, subst, arith, ◌∙◌}
 use Rattle.std.specs.Vec.Iter.{into_iter_items}
-use Rattle.can_segment.proofs.Places.{same_some}
+use Rattle.can_station.proofs.Places.{same_some}
 use Rattle.gw_config.specs.Nodes.{controller_places}
 use Rattle.gw_site.proofs.Pairs.{pairs_more}
 use Rattle.gw_site.specs.Pairs.{Pairs}

@@ -1,5 +1,5 @@
 use Rattle.std.proofs.Common.{sym, subst, arith, ◌∙◌}
-use Rattle.can_segment.proofs.NextBits.{some_there}
+use Rattle.can_station.proofs.Places.{some_there}
 use Rattle.gw_opening.specs.Openings.{routes_at, priority_of}
 use Rattle.gw_sides.specs.Seats.{Seated}
 use Rattle.gw_sides.specs.Sets.{IsNewSet, IsNewSide}

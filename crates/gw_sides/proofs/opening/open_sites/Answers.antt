@@ -1,5 +1,5 @@
 use Rattle.std.proofs.Common.{◌≡◌, ◌+◌, length, sym, ap, subst, arith, ◌∙◌}
-use Rattle.can_segment.proofs.NextBits.{some_there}
+use Rattle.can_station.proofs.Places.{some_there}
 use Rattle.gw_config.specs.Nodes.{controller_places}
 use Rattle.gw_site.proofs.Pairs.{PairsBelow}
 use Rattle.gw_site.specs.Pairs.{Pairs}

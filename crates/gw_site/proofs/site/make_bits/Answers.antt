@@ -1,5 +1,5 @@
 use Rattle.std.proofs.Common.{ap, arith, ◌∙◌}
-use Rattle.can_segment.specs.declared.plan.SegmentPlan.{SegmentPlan}
+use Rattle.can_station.specs.declared.plan.SegmentPlan.{SegmentPlan}
 use Rattle.can_segment.proofs.QuietBits.{left_quietly}
 use Rattle.gw_site.proofs.Sites.{site_quietly}
 use Rattle.gw_site.proofs.site.make_bits.Goals as goal

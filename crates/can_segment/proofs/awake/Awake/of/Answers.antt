@@ -1,6 +1,6 @@
 use Rattle.std.proofs.Common.{arith, ap, sym, Some, ◌∙◌}
 use Rattle.std.proofs.lemmas.Option.{slice_get-get_or}
-use Rattle.can_segment.proofs.Spans.{awake_end, awake_start, awake_step}
+use Rattle.can_station.proofs.Spans.{awake_end, awake_step}
 use Rattle.can_segment.proofs.awake.Awake.of.Goals as goal
 
 pub loop-place-preserved : goal.loop-place-preserved

@@ -1,4 +1,4 @@
-use Rattle.can_segment.proofs.Spans.{AwakeBelow}
+use Rattle.can_station.proofs.Spans.{AwakeBelow}
 use Rattle.can_segment.proofs.awake.Awake.of.Given as goal
 
 abbrev pub invariant-loop-place : goal.invariant-loop-place

@@ -1,5 +1,6 @@
 use Rattle.std.proofs.Common.{◌≤◌, length, refl, subst, sym, ap, ◌∙◌}
-use Rattle.can_segment.specs.Rests.{AreAlike, AwakeWithin, members_at}
+use Rattle.can_station.specs.RestingNodes.{AreAlike, AwakeWithin}
+use Rattle.can_segment.specs.Rests.{members_at}
 use Rattle.can_segment.proofs.ComesToRest.{alike_at_rest, alike_self, chosen_awake, chosen_rests, chosen_same, chosen_spent, lain_within, less_rests}
 use Rattle.can_segment.proofs.rest.Rest.come_to_rest.Goals as goal
 
@@ -36,18 +37,20 @@ settle-requires c =
     let few_is = c.lull_controllers.ensures.less.few_is ∙ c.lull_talkers.ensures.less.few_is ∙ c.choose.ensures.many in
     let talkers_is = c.lull_controllers.ensures.less.talkers_is ∙ c.lull_talkers.ensures.less.talkers_is ∙ c.choose.ensures.talkers_is in
     let controllers_is = c.lull_controllers.ensures.less.controllers_is ∙ c.lull_talkers.ensures.less.controllers_is ∙ c.choose.ensures.controllers_is in
-    record { holds = record {
-      talkers_rest = less_rests c.lull_talkers.new.self c.lull_controllers.new.self c.args.bit c.lull_talkers.new.members c.lull_controllers.ensures.less c.lull_talkers.ensures.rests;
-      controllers_rest = c.lull_controllers.ensures.rests;
-      talkers_spent = λ s. c.lull_talkers.ensures.spent (c.lull_controllers.ensures.less.spends s);
-      controllers_awake = c.lull_controllers.ensures.spent;
-      talkers_within = subst (λ span. AwakeWithin span c.lull_talkers.new.members) (sym talkers_is) (lain_within c.choose.new.self.listener c.args.bit c.args.talkers.now c.lull_talkers.new.members c.args.self.now.talkers c.lull_talkers.ensures.lie c.requires.holds.talkers_within);
-      controllers_within = subst (λ span. AwakeWithin span c.lull_controllers.new.members) (sym controllers_is)
-          (lain_within c.lull_talkers.new.self.listener c.args.bit c.args.controllers.now c.lull_controllers.new.members c.args.self.now.controllers c.lull_controllers.ensures.lie c.requires.holds.controllers_within);
-      other_talkers = λ few. absurd (cc (few, few_is));
-      apart = λ few. absurd (cc (few, few_is));
-      other_controllers = λ few. absurd (cc (few, few_is));
-    } }
+    record {
+      holds = record {
+        talkers_rest = less_rests c.lull_talkers.new.self c.lull_controllers.new.self c.args.bit c.lull_talkers.new.members c.lull_controllers.ensures.less c.lull_talkers.ensures.rests;
+        controllers_rest = c.lull_controllers.ensures.rests;
+        talkers_spent = λ s. c.lull_talkers.ensures.spent (c.lull_controllers.ensures.less.spends s);
+        controllers_awake = c.lull_controllers.ensures.spent;
+        talkers_within = subst (λ span. AwakeWithin span c.lull_talkers.new.members) (sym talkers_is) (lain_within c.choose.new.self.listener c.args.bit c.args.talkers.now c.lull_talkers.new.members c.args.self.now.talkers c.lull_talkers.ensures.lie c.requires.holds.talkers_within);
+        controllers_within = subst (λ span. AwakeWithin span c.lull_controllers.new.members) (sym controllers_is)
+            (lain_within c.lull_talkers.new.self.listener c.args.bit c.args.controllers.now c.lull_controllers.new.members c.args.self.now.controllers c.lull_controllers.ensures.lie c.requires.holds.controllers_within);
+        other_talkers = λ few. absurd (cc (few, few_is));
+        apart = λ few. absurd (cc (few, few_is));
+        other_controllers = λ few. absurd (cc (few, few_is));
+      };
+    }
 
 pub returns-clause-talkers : goal.returns-clause-talkers
 returns-clause-talkers c =

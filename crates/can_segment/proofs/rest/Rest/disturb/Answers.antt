@@ -1,9 +1,9 @@
-use Rattle.std.proofs.Common.{◌≡◌, map, refl, ap, ◌∙◌}
-use Rattle.can_segment.specs.Rests.{WakesDisturbed, woken}
+use Rattle.std.proofs.Common.{map, refl, ap, ◌∙◌}
+use Rattle.can_station.specs.RestingNodes.{WakesDisturbed, woken}
 use Rattle.can_segment.proofs.Holds.{woken_holds}
-use Rattle.can_segment.proofs.Spans.{whole_within}
+use Rattle.can_station.proofs.Spans.{whole_within}
 use Rattle.can_segment.proofs.Woken.{wakes_left, wakes_same}
-use Rattle.can_segment.proofs.Wakes.{undisturbed_at}
+use Rattle.can_station.proofs.Wakes.{undisturbed_at}
 use Rattle.can_segment.proofs.rest.Rest.disturb.Goals as goal
 
 pub returns-clause-talkers : goal.returns-clause-talkers

@@ -1,5 +1,3 @@
-use Rattle.std.proofs.Common.{rules, ◌≡◌, ◌+◌, true, refl, ap, sym, subst, ◌∙◌}
-use Rattle.can_segment.specs.Rests.{members_at}
 use Rattle.can_segment.proofs.Holds.{through_holds}
 use Rattle.can_segment.proofs.rest.Rest.go_through.Goals as goal
 

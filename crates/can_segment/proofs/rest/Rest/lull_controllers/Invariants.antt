@@ -1,5 +1,5 @@
 use Rattle.std.proofs.Common.{◌≡◌, true}
-use Rattle.can_segment.specs.Rests.{NoneRests}
+use Rattle.can_station.specs.RestingNodes.{NoneRests}
 use Rattle.can_segment.proofs.ComesToRest.{LullsBelow}
 use Rattle.can_segment.proofs.rest.Rest.lull_controllers.Given as goal
 

@@ -1,7 +1,7 @@
-use Rattle.std.proofs.Common.{◌≡◌, get_or, arith, true, None, sym, slice_get, subst, ◌∙◌}
+use Rattle.std.proofs.Common.{◌≡◌, get_or, arith, None, sym, slice_get, subst, ◌∙◌}
 use Rattle.std.proofs.lemmas.Option.{slice_get-get_or}
 use Rattle.can_segment.proofs.ComesToRest.{lulls_end, lulls_start, lulls_step, spent_step}
-use Rattle.can_segment.proofs.Places.{same_some}
+use Rattle.can_station.proofs.Places.{same_some}
 use Rattle.can_segment.proofs.rest.Rest.lull_talkers.Goals as goal
 
 pub loop-place-init : goal.loop-place-init

@@ -1,9 +1,9 @@
-use Rattle.std.proofs.Common.{◌≡◌, true, map, inr, refl, ap, ◌∙◌}
-use Rattle.can_segment.specs.Rests.{MayWake, WakesUnspent, woken}
+use Rattle.std.proofs.Common.{map, inr, refl, ap, ◌∙◌}
+use Rattle.can_station.specs.RestingNodes.{WakesUnspent, woken}
 use Rattle.can_segment.proofs.Holds.{same_rests}
-use Rattle.can_segment.proofs.Spans.{whole_within}
+use Rattle.can_station.proofs.Spans.{whole_within}
 use Rattle.can_segment.proofs.Woken.{all_woken, wakes_left, wakes_same}
-use Rattle.can_segment.proofs.Wakes.{unspent_at}
+use Rattle.can_station.proofs.Wakes.{unspent_at}
 use Rattle.can_segment.proofs.rest.Rest.rouse.Goals as goal
 
 pub returns-clause-talkers : goal.returns-clause-talkers

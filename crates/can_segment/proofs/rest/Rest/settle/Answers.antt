@@ -1,4 +1,4 @@
-use Rattle.can_segment.proofs.Spans.{others_within}
+use Rattle.can_station.proofs.Spans.{others_within}
 use Rattle.can_segment.proofs.rest.Rest.settle.Goals as goal
 
 pub returns-then-outnumber-clause-holds : goal.returns-then-outnumber-clause-holds

@@ -1,7 +1,7 @@
-use Rattle.std.proofs.Common.{rules, ◌≡◌, map, inr, refl, ap, false, ◌∙◌}
+use Rattle.std.proofs.Common.{rules, map, inr, refl, ap, ◌∙◌}
 use Rattle.can_segment.proofs.Holds.{none_rests, none_rests_on, not_resting}
-use Rattle.can_segment.specs.Rests.{woken}
-use Rattle.can_segment.proofs.Spans.{whole_within}
+use Rattle.can_station.specs.RestingNodes.{woken}
+use Rattle.can_station.proofs.Spans.{whole_within}
 use Rattle.can_segment.proofs.Woken.{all_woken, wakes_same}
 use Rattle.can_segment.proofs.rest.Rest.wake.Goals as goal
 

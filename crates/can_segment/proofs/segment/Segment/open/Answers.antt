@@ -1,14 +1,14 @@
 use Rattle.std.proofs.Common.{rules, length, arith, sym, ap, subst, refl, ◌≡◌, ◌∙◌}
 use Rattle.std.proofs.lemmas.List.{length-map}
 use Rattle.can_segment.specs.declared.record.Record.{Record}
-use Rattle.can_segment.specs.Ports.{item_of}
-use Rattle.can_segment.specs.FaultOrder.{StandsAt}
-use Rattle.can_segment.specs.Fresh.{AreFresh}
+use Rattle.can_station.specs.Ports.{item_of}
+use Rattle.can_station.specs.FaultOrder.{StandsAt}
+use Rattle.can_station.specs.Fresh.{AreFresh}
 use Rattle.can_segment.specs.Rests.{members_at}
 use Rattle.can_segment.specs.Segments.{SegmentHolds}
 use Rattle.can_segment.proofs.Fresh.{fresh_awake, fresh_shown, kept_fresh, idle_fresh}
 use Rattle.can_segment.proofs.Holds.{none_rests}
-use Rattle.can_segment.proofs.Spans.{whole_within}
+use Rattle.can_station.proofs.Spans.{whole_within}
 use Rattle.can_segment.proofs.Woken.{none_resting}
 use Rattle.can_segment.proofs.Wholes.{holds_awake}
 use Rattle.can_segment.proofs.segment.Segment.open.Goals as goal
@@ -41,7 +41,7 @@ invariant_of-result c =
       holds_awake c.args.plan made c.none-rest.result (length made.levels.items) talkers controllers awake awake_too held,
       subst (λ n. StandsAt c.args.plan n c.in_ok-faults.faults) (sym (ap length c.new-2.ensures.items)) c.in_ok-faults.ensures,
       none_rests c.none-rest.result (length made.levels.items) c.args.plan.talkers.items talkers controllers c.none-rest.ensures.few
-      (whole_within c.none-rest.result.talkers _ talkers c.none-rest.ensures.talkers (search rules)) (whole_within c.none-rest.result.controllers _ controllers c.none-rest.ensures.controllers (search rules)) awake awake_too,
+          (whole_within c.none-rest.result.talkers _ talkers c.none-rest.ensures.talkers (search rules)) (whole_within c.none-rest.result.controllers _ controllers c.none-rest.ensures.controllers (search rules)) awake awake_too,
     )
 
 pub returns : goal.returns

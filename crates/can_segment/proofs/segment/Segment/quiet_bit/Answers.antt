@@ -1,5 +1,5 @@
 use Rattle.std.proofs.Common.{rules, length-append, ◌≡◌, ◌+◌, ◌<◌, ◌++◌, ◌∷◌, [], length, slice_get, refl, arith, sym, ap, subst, ◌∙◌}
-use Rattle.can_segment.specs.FaultOrder.{StandsAt}
+use Rattle.can_station.specs.FaultOrder.{StandsAt}
 use Rattle.can_segment.specs.QuietBits.{GrowsQuietly}
 use Rattle.can_segment.specs.Rests.{members_at}
 use Rattle.can_segment.specs.Segments.{sending_of_all, wants_next}

@@ -1,4 +1,3 @@
-use Rattle.std.proofs.Common.{◌≡◌, ◌≤◌, length}
 use Rattle.can_segment.proofs.QuietBits.{QuietSoFar}
 use Rattle.can_segment.proofs.segment.Segment.quiet_bits.Given as goal
 

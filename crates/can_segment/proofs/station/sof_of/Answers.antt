@@ -1,4 +1,0 @@
-use Rattle.can_segment.proofs.station.sof_of.Goals as goal
-
-pub returns-in-Some : goal.returns-in-Some
-returns-in-Some c past h = rw (← c.in-Some.is) (c.sends_from.ensures.sends past h)

@@ -1,0 +1,6 @@
+pub mod Places
+pub mod Tellings
+pub mod Settles
+pub mod FaultsInOrder
+pub mod Wakes
+pub mod Spans

@@ -1,0 +1,41 @@
+use Rattle.std.proofs.Common.{◌+◌, arith}
+use Rattle.std.proofs.lemmas.Option.{slice_get_within}
+use Rattle.can_station.specs.Faults.{sampled_level}
+use Rattle.can_station.proofs.Places.{some_there}
+use Rattle.can_station.proofs.Spans.{within_places}
+use Rattle.can_station.proofs.Settles.{quiet_both, settles_both, unsettled_awake}
+use Rattle.can_station.proofs.members.sample_controllers.Goals as goal
+
+pub settle_ports-requires-clause-awake : goal.settle_ports-requires-clause-awake
+settle_ports-requires-clause-awake g c = within_places _ c.args.awake c.args.members.now c.sample_nodes-told.new.members c.sample_nodes-told.ensures.samples c.requires.awake
+
+pub settle_ports-requires-clause-unsettled : goal.settle_ports-requires-clause-unsettled
+settle_ports-requires-clause-unsettled g c k m p e f awake =
+    let samples = c.sample_nodes-told.ensures.samples in
+    let within = slice_get_within c.sample_nodes-told.new.members k m e in
+    let old = some_there c.args.members.now k (omega (arith, within, samples.size)) in
+    unsettled_awake (g.P.TxBus.transmitting p) c.args.bit (sampled_level c.args.faults.now (c.args.first + k) c.args.bit c.args.level) old.0 m (c.requires.port k old.0 p old.1 f) (samples.at k old.0 m old.1 e) awake
+
+pub returns-clause-settles : goal.returns-clause-settles
+returns-clause-settles g c =
+    let samples = c.sample_nodes-told.ensures.samples in
+    let settles = c.settle_ports.ensures in
+    record {
+      at = λ k a b p q ea eb ep eq.
+          let within = slice_get_within c.args.members.now k a ea in
+          let mid = some_there c.sample_nodes-told.new.members k (omega (arith, within, samples.size)) in
+          settles_both g.P.TxBus.bus_after g.P.TxBus.bus_asked g.P.TxBus.transmitting g.P.RxSink.sink_after g.P.RxSink.port_stays c.args.bit (sampled_level c.args.faults.now (c.args.first + k) c.args.bit c.args.level) a mid.0 b p q
+          (samples.at k a mid.0 ea mid.1) (settles.at k mid.0 b p q mid.1 eb ep eq);
+      size = omega (arith, samples.size, settles.size);
+      size_too = settles.size_too;
+    }
+
+pub returns-clause-quiet : goal.returns-clause-quiet
+returns-clause-quiet g c none k m e awake =
+    let settles = c.settle_ports.ensures in
+    let within = slice_get_within c.settle_ports.new.members k m e in
+    let mid = some_there c.sample_nodes-told.new.members k (omega (arith, within, settles.size)) in
+    let from = some_there c.args.ports.now k (omega (arith, within, settles.size, c.sample_nodes-told.ensures.samples.size, c.requires.size)) in
+    let to = some_there c.settle_ports.new.ports k (omega (arith, within, settles.size, settles.size_too, c.sample_nodes-told.ensures.samples.size, c.requires.size)) in
+    quiet_both g.P.TxBus.bus_after g.P.TxBus.bus_asked g.P.TxBus.transmitting g.P.RxSink.sink_after g.P.RxSink.port_stays c.args.bit mid.0 m from.0 to.0 (settles.at k mid.0 m from.0 to.0 mid.1 e from.1 to.1)
+    (c.sample_nodes-told.ensures.quiet none k mid.0 mid.1) awake

@@ -1,0 +1,12 @@
+pub mod Faults
+pub mod Outcomes
+pub mod Lines
+pub mod Stations
+pub mod Ports
+pub mod Deeds
+pub mod Members
+pub mod Places
+pub mod Tellings
+pub mod Fresh
+pub mod FaultOrder
+pub mod RestingNodes

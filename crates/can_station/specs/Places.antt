@@ -1,0 +1,40 @@
+-- What a loop over the nodes of a segment does, place by place; and one over nodes and their ports.
+use Rattle.std.specs.Prelude.{◌≡◌, ◌≢◌, ℕ, ◌<◌, ◌≤◌, List, Some, slice_get, length}
+
+-- each element made this step
+pub record AtPlaces {M : Type 0} (Step : ℕ → M → M → Type 0) (old new : List M) : Type 0 where
+  pub at : (k : ℕ) (a b : M) → slice_get old k ≡ Some a → slice_get new k ≡ Some b → Step k a b
+  pub size : length new ≡ length old
+
+-- so did those below i, and the others are as they were
+pub record AtPlacesBelow {M : Type 0} (Step : ℕ → M → M → Type 0) (old new : List M) (i : ℕ) : Type 0 where
+  pub below : (k : ℕ) (a b : M) → k < i → slice_get old k ≡ Some a → slice_get new k ≡ Some b → Step k a b
+  pub above : (k : ℕ) → i ≤ k → slice_get new k ≡ slice_get old k
+  pub size : length new ≡ length old
+
+-- each element made this step with the one at its place in the other list
+pub record AtBoth {M P : Type 0} (Step : ℕ → M → M → P → P → Type 0) (old new : List M) (from to : List P) : Type 0 where
+  pub at : (k : ℕ) (a b : M) (p q : P) → slice_get old k ≡ Some a → slice_get new k ≡ Some b → slice_get from k ≡ Some p → slice_get to k ≡ Some q → Step k a b p q
+  pub size : length new ≡ length old
+  pub size_too : length to ≡ length from
+
+pub record AtBothBelow {M P : Type 0} (Step : ℕ → M → M → P → P → Type 0) (old new : List M) (from to : List P) (i : ℕ) : Type 0 where
+  pub below : (k : ℕ) (a b : M) (p q : P) → k < i → slice_get old k ≡ Some a → slice_get new k ≡ Some b → slice_get from k ≡ Some p → slice_get to k ≡ Some q → Step k a b p q
+  pub above : (k : ℕ) → i ≤ k → slice_get new k ≡ slice_get old k
+  pub above_too : (k : ℕ) → i ≤ k → slice_get to k ≡ slice_get from k
+  pub size : length new ≡ length old
+  pub size_too : length to ≡ length from
+
+-- the element at this place, if there is one, made this step, and the others are as they were
+pub record MovesOne {M : Type 0} (place : ℕ) (Step : M → M → Type 0) (old new : List M) : Type 0 where
+  pub at : (a b : M) → slice_get old place ≡ Some a → slice_get new place ≡ Some b → Step a b
+  pub others : (k : ℕ) → k ≢ place → slice_get new k ≡ slice_get old k
+  pub size : length new ≡ length old
+
+-- so did that and the one at its place in the other list
+pub record MovesBoth {M P : Type 0} (place : ℕ) (Step : M → M → P → P → Type 0) (old new : List M) (from to : List P) : Type 0 where
+  pub at : (a b : M) (p q : P) → slice_get old place ≡ Some a → slice_get new place ≡ Some b → slice_get from place ≡ Some p → slice_get to place ≡ Some q → Step a b p q
+  pub others : (k : ℕ) → k ≢ place → slice_get new k ≡ slice_get old k
+  pub others_too : (k : ℕ) → k ≢ place → slice_get to k ≡ slice_get from k
+  pub size : length new ≡ length old
+  pub size_too : length to ≡ length from

@@ -1,0 +1,31 @@
+//! A node of a segment, bit by bit: what it sends, what its port learns, and what is told of it; and what a segment is
+//! made of.
+#![tactic(auto)]
+
+mod event;
+mod fault_order;
+mod faults;
+mod member;
+mod members;
+mod plan;
+mod port;
+mod rx_sink;
+mod span;
+mod station;
+mod tell;
+mod transmission;
+mod wake;
+
+pub use crate::event::{Event, Label, Told};
+pub use crate::fault_order::FaultOrder;
+pub use crate::member::{Deed, Member};
+pub use crate::members::{
+    driven_by_all, sample_controllers, sample_nodes, start_controllers, start_talkers,
+};
+pub use crate::plan::{Controller, LineFault, NodeFault, SegmentPlan, Talker};
+pub use crate::rx_sink::RxSink;
+pub use crate::span::Span;
+pub use crate::station::Station;
+pub use crate::tell::{tell_rests, tell_starts};
+pub use crate::transmission::Transmission;
+pub use crate::wake::{wake_all, wake_disturbed, wake_unspent};

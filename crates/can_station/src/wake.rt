@@ -1,0 +1,48 @@
+//! Nodes that wake.
+
+ghost use Rattle.std.specs.Prelude.{◌≡◌, ◌+◌, ◌≤◌, length};
+ghost use Rattle.can_station.specs.Places.{AtPlaces};
+ghost use Rattle.can_station.specs.RestingNodes.{WakesDisturbed, WakesUnspent, woken};
+
+use crate::faults::is_inverted;
+use crate::member::Member;
+use crate::plan::{NodeFault, Talker};
+use can_node::Listener;
+
+/// All of these wake before this bit that rest: each has come as far as the listener then.
+pub fn wake_all(members: &mut [Member], listener: &Listener, bit: u64)
+    ensures { AtPlaces (λ k a b. b ≡ woken listener.now bit a) members.old members.new }
+{
+    for place in 0..members.len() {
+        members[place].wake(listener, bit);
+    }
+}
+
+/// So do those talkers that have a frame left. Each stands at the place of its plan.
+pub fn wake_unspent(members: &mut [Member], plan: &[Talker], listener: &Listener, bit: u64)
+    requires { length plan.now ≡ length members.old }
+    ensures { AtPlaces (WakesUnspent listener.now bit plan.now) members.old members.new }
+{
+    for place in 0..members.len() {
+        let spent = members[place].is_spent(plan[place].frames.as_slice());
+        members[place].wake_unless(spent, listener, bit);
+    }
+}
+
+/// So do those nodes, the first of which has this number, that have a fault of their own at this bit. All numbers are
+/// below 1000.
+pub fn wake_disturbed(
+    members: &mut [Member],
+    faults: &[NodeFault],
+    first: u32,
+    listener: &Listener,
+    bit: u64,
+)
+    requires { first + length members.old ≤ 1000 }
+    ensures { AtPlaces (WakesDisturbed listener.now bit faults.now first) members.old members.new }
+{
+    for place in 0..members.len() {
+        let undisturbed = !is_inverted(faults, first + place as u32, bit);
+        members[place].wake_unless(undisturbed, listener, bit);
+    }
+}
