@@ -9,12 +9,16 @@ use Rattle.can_confinement.specs.KnownCounts.{Knows}
 use Rattle.can_confinement.specs.declared.known_counts.KnownCounts.{KnownCounts}
 use Rattle.can_confinement.specs.declared.known_counts.KnownCounts.TheVariants.{Zero}
 use Rattle.can_node.specs.Histories.{Past, IsHistory}
-use Rattle.can_node.specs.Machine.{is_sending, listens}
+use Rattle.can_node.specs.Machine.{is_in_region, is_sending, listens}
 use Rattle.can_node.specs.Node.{StandsAfter, IsSample, bit_of, counters_in, driven_by, may_begin}
 
 -- it sends no frame
 abbrev pub IsListening : Listener → Type 0
 IsListening listener = is_sending listener.state ≡ false
+
+-- it reads within the stuffed region of a frame, and may not begin to send instead
+abbrev pub is_reading : Listener → Bool
+is_reading listener = is_in_region listener.state
 
 -- it has come as far as this node
 abbrev pub listener_of : Node → Listener

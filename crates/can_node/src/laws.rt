@@ -38,8 +38,8 @@ pub fn outcomes_have_episodes()
     ensures taken { FramesTakenAreTakes }
 {}
 
-/// What a node begins to send becomes an attempt, however its history is cut, or goes on where the history ends. From the
-/// first bit of an attempt to its last nothing else is begun or told; of one that goes on nothing is told.
+/// What a node begins to send becomes an attempt, however its history is cut, or goes on where the history ends. From
+/// the first bit of an attempt to its last nothing else is begun or told; of one that goes on nothing is told.
 pub fn attempts_stand_alone()
     ensures attempts { AttemptsStandAlone }
     ensures goes_on { OpenAttemptsTellNothing }

@@ -5,7 +5,7 @@ ghost use Rattle.can_node.specs.declared.node.Node.{Node};
 ghost use Rattle.can_confinement.specs.KnownCounts.{Admits};
 ghost use Rattle.can_node.specs.Machine.{Goes, GoesReading, is_sending, is_taking, quiet};
 ghost use Rattle.can_node.specs.Node.{driven_by, may_begin};
-ghost use Rattle.can_node.specs.Listener.{IsListening, IsUnseen, Follows, ReadsAlong, caught_up};
+ghost use Rattle.can_node.specs.Listener.{IsListening, IsUnseen, Follows, ReadsAlong, caught_up, is_reading};
 ghost use Rattle.can_confinement.specs.declared.confinement.ErrorState.{ErrorState as ErrorStateValue};
 ghost use Rattle.can_confinement.specs.declared.confinement.ErrorState.TheVariants.{Active as ErrorActive};
 
@@ -43,9 +43,12 @@ impl Listener {
         may_start(self.state)
     }
 
-    /// Whether they read within the stuffed region of a frame, and need not choose any more between reading and sending.
+    /// Whether they read within the stuffed region of a frame, and need not choose any more between reading and
+    /// sending.
     #[inline(always)]
-    pub fn is_reading(&self) -> bool {
+    pub fn is_reading(&self) -> bool
+        ensures { result ≡ is_reading self.now }
+    {
         is_in_region(self.state)
     }
 
@@ -219,7 +222,8 @@ fn reads_alike(
 /// So of a turn outside of frames.
 fn goes_alike(state: State, bit: u64, level: bool, turn: &Turn, known: KnownCounts) -> bool
     ensures { result ≡ true → is_taking state ≡ false → is_sending state ≡ false
-        → (errors : ErrorStateValue) → Admits known errors → errors ≢ ErrorActive → Goes state bit errors level turn.now }
+        → (errors : ErrorStateValue) → Admits known errors → errors ≢ ErrorActive
+        → Goes state bit errors level turn.now }
 {
     if known != KnownCounts::Any {
         return true;

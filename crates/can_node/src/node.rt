@@ -184,7 +184,8 @@ impl Node {
         )
     }
 
-    /// Whether the node is in bus off, and no run of eleven recessive bits ends with its next bit, whatever its level is.
+    /// Whether the node is in bus off, and no run of eleven recessive bits ends with its next bit, whatever its level
+    /// is.
     #[inline(always)]
     pub fn is_recovering(&self) -> bool
         ensures { result ≡ true → IsRecovering self.now }
@@ -216,8 +217,8 @@ impl Node {
 
     /// One bit of a frame that the node sends while all others listen: what `drive`, `sample` and `Listener::follow`
     /// do where the others read along, in one step, and the level that the line has then. `None` where it sends no
-    /// frame, has come to its ACK slot or its last bit, or the listener does not read along with that level: then nothing
-    /// is changed.
+    /// frame, has come to its ACK slot or its last bit, or the listener does not read along with that level: then
+    /// nothing is changed.
     #[inline(always)]
     pub fn send_to(&mut self, listener: &mut Listener) -> Option<bool>
         requires { bit_of self.old < u64.MAX }

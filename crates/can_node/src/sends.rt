@@ -19,7 +19,8 @@ use can_confinement::{ErrorEvent, ErrorState, Role};
 /// Nobody acknowledged the frame. A node that is error passive owes the error until it samples a dominant
 /// level in its flag.
 fn unacknowledged(errors: ErrorState) -> Turn
-    ensures flags { (text : List Bool) (later : ℕ) → Agrees result.state text later (flag_of errors (SenderError ∷ []) Sender) [] [] }
+    ensures flags { (text : List Bool) (later : ℕ)
+        → Agrees result.state text later (flag_of errors (SenderError ∷ []) Sender) [] [] }
     ensures event { listed result.event ≡ ack_events errors }
     ensures outcome { result.outcome ≡ Outcome.Errored ErrorKind.Ack }
     ensures reads_none { is_taking result.state ≡ false }

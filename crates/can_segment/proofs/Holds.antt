@@ -1,5 +1,5 @@
 -- What stands of nodes that rest stands on where fewer do.
-use Rattle.std.proofs.Common.{◌≡◌, ◌≢◌, ◌⊎◌, inl, inr, ℕ, ◌+◌, ◌≤◌, Bool, true, false, Some, None, List, length, slice_get, refl, sym, ap, subst, arith, ◌∙◌}
+use Rattle.std.proofs.Common.{◌≡◌, inl, inr, ℕ, ◌+◌, Bool, true, false, List, length, refl, sym, subst, arith, ◌∙◌}
 use Rattle.can_confinement.specs.KnownCounts.{Knows}
 use Rattle.can_node.specs.Listener.{IsListening}
 use Rattle.can_node.specs.Node.{counters_in}
@@ -7,7 +7,7 @@ use Rattle.can_station.specs.declared.member.Member.{Member}
 use Rattle.can_station.specs.declared.plan.Talker.{Talker}
 use Rattle.can_segment.specs.declared.rest.Rest.{Rest}
 use Rattle.can_station.specs.declared.span.Span.{Span}
-use Rattle.can_segment.specs.Rests.{AreResting, AreSpent, IsResting, IsSame, RestHolds, RestsThrough}
+use Rattle.can_segment.specs.Rests.{AreResting, AreSpent, IsSame, RestHolds, RestsThrough}
 use Rattle.can_station.specs.RestingNodes.{AreApart, AwakeWithin, LeavesResting, NoneRests, OthersRest}
 use Rattle.can_segment.proofs.Rests.{next_rests}
 

@@ -41,8 +41,8 @@ fn tell(events: &mut Vec<Event>, bit: u64, talkers: &[Member], controllers: &[Me
     tell_rests(events, bit, first, controllers);
 }
 
-/// The nodes make one more bit, and the record grows by its level and its lines. Whether something may be told of one of
-/// them.
+/// The nodes make one more bit, and the record grows by its level and its lines. Whether something may be told of one
+/// of them.
 pub(crate) fn make_bit<R, P: RxSink<R>>(
     rt: &R,
     plan: &SegmentPlan,

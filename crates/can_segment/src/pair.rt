@@ -77,7 +77,8 @@ fn one_of(place: usize, behind: usize, is_off: bool) -> Pair
 fn rest_between(members: &[Member], first: usize, last: usize) -> bool
     requires first { first < last }
     requires last { last < length members.now }
-    ensures { result ≡ true → (k : ℕ) (m : Member) → slice_get members.now k ≡ Some m → first < k → k < last → m.rests ≡ true }
+    ensures { result ≡ true → (k : ℕ) (m : Member) → slice_get members.now k ≡ Some m → first < k → k < last
+        → m.rests ≡ true }
 {
     for place in first + 1..last {
         if !members[place].rests {

@@ -38,8 +38,8 @@ pub(crate) struct Rest {
     // all talkers rest but some of those at these places, and so do all controllers
     pub(crate) talkers: Span,
     pub(crate) controllers: Span,
-    // all talkers rest but those at these two places, of which the second may be in bus off, and all controllers but the
-    // first of theirs; a place behind the last is none
+    // all talkers rest but those at these two places, of which the second may be in bus off, and all controllers but
+    // the first of theirs; a place behind the last is none
     pub(crate) few: bool,
     pub(crate) sender: usize,
     pub(crate) off: usize,
@@ -214,8 +214,8 @@ impl Rest {
         self.wake(plan, talkers, controllers, bit);
     }
 
-    /// Nodes come to rest before this bit that listen and have come equally far. At the bit before something was told of
-    /// a node, or nothing.
+    /// Nodes come to rest before this bit that listen and have come equally far. At the bit before something was told
+    /// of a node, or nothing.
     pub(crate) fn come_to_rest(
         &mut self,
         plan: &[Talker],
@@ -244,13 +244,7 @@ impl Rest {
     }
 
     /// Whether none that is awake can have come as far as the listener at the last bit, as far as that is seen at once.
-    fn stays_so(
-        &self,
-        talkers: &[Member],
-        controllers: &[Member],
-        bit: u64,
-        told: bool,
-    ) -> bool {
+    fn stays_so(&self, talkers: &[Member], controllers: &[Member], bit: u64, told: bool) -> bool {
         if self.steady && !told {
             return true;
         }

@@ -47,8 +47,8 @@ fn none_sends(rest: &mut Rest, bit: u64) -> Option<bool>
     Some(true)
 }
 
-/// The level of the line at a bit at which all nodes rest, or all but one that sends on, and but a talker that is in bus
-/// off, which is left as it is. `None` where they don't: then nothing is changed.
+/// The level of the line at a bit at which all nodes rest, or all but one that sends on, and but a talker that is in
+/// bus off, which is left as it is. `None` where they don't: then nothing is changed.
 #[inline(always)]
 fn level_at_rest(
     talkers: &mut [Member],
@@ -92,7 +92,8 @@ fn level_beside_off(
     requires room { HasRoom u64.MAX bit controllers.old }
     ensures sends { IfSome result (λ level. GoesQuietly bit level rest.old rest.new
         talkers.old talkers.new controllers.old controllers.new) }
-    ensures none { IfNone result ((rest.new ≡ rest.old) × (talkers.new ≡ talkers.old) × (controllers.new ≡ controllers.old)) }
+    ensures none { IfNone result ((rest.new ≡ rest.old) × (talkers.new ≡ talkers.old)
+        × (controllers.new ≡ controllers.old)) }
 {
     let off = rest.off;
     if !talkers[off].is_recovering(bit) {
@@ -103,8 +104,8 @@ fn level_beside_off(
     Some(level)
 }
 
-/// The level of the line at a bit at which all nodes rest, or all but one that sends on and one that is in bus off, if no
-/// fault stands there. `None` where they don't: then nothing is changed.
+/// The level of the line at a bit at which all nodes rest, or all but one that sends on and one that is in bus off, if
+/// no fault stands there. `None` where they don't: then nothing is changed.
 #[inline(always)]
 fn level_of_few(
     talkers: &mut [Member],
@@ -117,7 +118,8 @@ fn level_of_few(
     requires room { HasRoom u64.MAX bit controllers.old }
     ensures sends { IfSome result (λ level. GoesQuietly bit level rest.old rest.new
         talkers.old talkers.new controllers.old controllers.new) }
-    ensures none { IfNone result ((rest.new ≡ rest.old) × (talkers.new ≡ talkers.old) × (controllers.new ≡ controllers.old)) }
+    ensures none { IfNone result ((rest.new ≡ rest.old) × (talkers.new ≡ talkers.old)
+        × (controllers.new ≡ controllers.old)) }
 {
     if !rest.few {
         return None;
@@ -128,8 +130,8 @@ fn level_of_few(
     level_at_rest(talkers, controllers, rest, bit)
 }
 
-/// The level of the line at a bit at which no fault stands, and all nodes rest or all but one that sends on and one that
-/// is in bus off. `None` where it is no such bit: then nothing is changed.
+/// The level of the line at a bit at which no fault stands, and all nodes rest or all but one that sends on and one
+/// that is in bus off. `None` where it is no such bit: then nothing is changed.
 #[inline(always)]
 pub(crate) fn quiet_level(
     talkers: &mut [Member],

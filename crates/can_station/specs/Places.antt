@@ -30,11 +30,3 @@ pub record MovesOne {M : Type 0} (place : ℕ) (Step : M → M → Type 0) (old 
   pub at : (a b : M) → slice_get old place ≡ Some a → slice_get new place ≡ Some b → Step a b
   pub others : (k : ℕ) → k ≢ place → slice_get new k ≡ slice_get old k
   pub size : length new ≡ length old
-
--- so did that and the one at its place in the other list
-pub record MovesBoth {M P : Type 0} (place : ℕ) (Step : M → M → P → P → Type 0) (old new : List M) (from to : List P) : Type 0 where
-  pub at : (a b : M) (p q : P) → slice_get old place ≡ Some a → slice_get new place ≡ Some b → slice_get from place ≡ Some p → slice_get to place ≡ Some q → Step a b p q
-  pub others : (k : ℕ) → k ≢ place → slice_get new k ≡ slice_get old k
-  pub others_too : (k : ℕ) → k ≢ place → slice_get to k ≡ slice_get from k
-  pub size : length new ≡ length old
-  pub size_too : length to ≡ length from

@@ -281,11 +281,14 @@ impl Member {
     }
 
     /// Whether its node is in bus off, and no run of eleven recessive bits ends with its next bit.
-    pub fn is_in_bus_off(&self) -> bool {
+    pub fn is_in_bus_off(&self) -> bool
+        ensures { result ≡ true → IsRecovering self.now.station.node }
+    {
         self.station.node.is_recovering()
     }
 
-    /// Whether it is awake and in bus off, and goes on so with this bit (`Node::is_recovering`), and nothing is told of it.
+    /// Whether it is awake and in bus off, and goes on so with this bit (`Node::is_recovering`), and nothing is told of
+    /// it.
     #[inline(always)]
     pub fn is_recovering(&self, bit: u64) -> bool
         ensures { result ≡ true → MayRecover bit self.now }

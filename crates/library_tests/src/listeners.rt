@@ -1,7 +1,8 @@
-//! One that follows a line in place of nodes that listen, a node that sends to them, and the reader's short ways.
+//! One that follows a line in place of nodes that listen, a node that sends to them or is in bus off, and the reader's
+//! short ways.
 
 use can_frame::{Frame, Reader, Step};
-use can_node::{KnownCounts, Listener, Node, Outcome};
+use can_node::{Counters, KnownCounts, Listener, Node, Outcome};
 
 /// A data frame of identifier 0 without bytes as all sample it, its ACK slot, the level at place 41, dominant.
 const FRAME: &str = "00000100000100000100000100000100000100001011111111";
@@ -20,6 +21,15 @@ fn send_to(node: &mut Node, listener: &mut Listener) -> Option<bool> {
         return None;
     }
     node.send_to(listener)
+}
+
+/// The node samples a level in bus off, if no run ends with that bit and it has a bit left.
+fn recover(node: &mut Node, level: bool) -> Option<Outcome> {
+    if node.bit() == u64::MAX || !node.is_recovering() {
+        return None;
+    }
+    node.recover(level);
+    Some(Outcome::Nothing)
 }
 
 /// A node that came to an idle bus at bit 11.
@@ -55,6 +65,7 @@ fn one_follows_for_those_that_listen(rt: HostRuntime) {
             // the last bit of the CRC, at which the frame is read, and the ACK slot, at which a receiver answers
             39 | 41 => {
                 assert_eq!(rt; listener.drive(), place != 41);
+                assert_eq!(rt; listener.is_reading(), place == 39);
                 assert_eq!(rt; send_to(&mut sender, &mut listener), None);
                 assert_eq!(rt; sample(&mut sender, level), Some(Outcome::Nothing));
                 assert!(rt; listener.follow(sender.bit(), level, receiver.known_counts()));
@@ -87,6 +98,39 @@ fn one_follows_for_those_that_listen(rt: HostRuntime) {
         KnownCounts::Zero.and(sender.known_counts()),
         KnownCounts::Zero
     );
+}
+
+#[test]
+fn one_in_bus_off_counts_runs_of_recessive_bits(rt: HostRuntime) {
+    let mut node = synchronized();
+    // each SOF that it drives is sampled recessive, which adds 8 to its transmit error count, and 32 of them end it
+    for _ in 0..1000u16 {
+        assert!(rt; !node.is_recovering());
+        let starts = node.wants_start();
+        if starts {
+            node.begin(Frame::default());
+        }
+        let level = starts || node.drive();
+        if sample(&mut node, level) == Some(Outcome::WentOff) {
+            break;
+        }
+    }
+    assert_eq!(rt; node.counters().tec(), 256);
+    let start = node.bit();
+    // a run that a dominant bit breaks does not count
+    for level in [true, true, true, false] {
+        assert_eq!(rt; recover(&mut node, level), Some(Outcome::Nothing));
+    }
+    for run in 1..=128u8 {
+        for _ in 0..10u8 {
+            assert_eq!(rt; recover(&mut node, true), Some(Outcome::Nothing));
+        }
+        assert_eq!(rt; recover(&mut node, true), None);
+        let comes_back = run == 128;
+        assert_eq!(rt; sample(&mut node, true) == Some(Outcome::CameBack), comes_back);
+    }
+    assert_eq!(rt; node.bit(), start + 4 + 128 * 11);
+    assert_eq!(rt; node.counters(), Counters::new());
 }
 
 #[test]

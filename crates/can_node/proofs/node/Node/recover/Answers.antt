@@ -1,7 +1,6 @@
 use Rattle.std.proofs.Common.{◌≡◌, ◌+◌, ◌<◌, arith, subst, sym, ◌∙◌}
 use Rattle.can_node.specs.declared.state.State.TheVariants.{Recovering}
-use Rattle.can_node.specs.Recovery.{Recovers}
-use Rattle.can_node.proofs.Recovery.{behind, recovers_broken, recovers_longer}
+use Rattle.can_node.proofs.Recovery.{recovers_broken, recovers_longer}
 use Rattle.can_node.proofs.node.Node.recover.Goals as goal
 
 pub returns-then-not-level : goal.returns-then-not-level
