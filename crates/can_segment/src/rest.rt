@@ -251,7 +251,12 @@ impl Rest {
         if !self.resting || !self.few {
             return false;
         }
+        // two have come to stand the other way round, or one is none
+        if is_off(talkers, self.sender) && !is_off(talkers, self.off) {
+            return false;
+        }
         !listens_there(talkers, self.sender, bit)
+            && !listens_there(talkers, self.off, bit)
             && !listens_there(controllers, self.controllers.from, bit)
     }
 
@@ -361,6 +366,14 @@ fn asks_at_each_bit(controllers: &[Member]) -> bool {
 fn listens_there(members: &[Member], place: usize, bit: u64) -> bool {
     match members.get(place) {
         Some(member) => member.listens_at(bit),
+        None => false,
+    }
+}
+
+/// Whether the node at this place is in bus off, if there is one.
+fn is_off(members: &[Member], place: usize) -> bool {
+    match members.get(place) {
+        Some(member) => member.is_in_bus_off(),
         None => false,
     }
 }
