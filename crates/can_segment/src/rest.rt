@@ -100,6 +100,7 @@ impl Rest {
     }
 
     /// Those that rest wake before this bit if they may have something to start at it.
+    #[inline(always)]
     pub(crate) fn rouse(
         &mut self,
         plan: &[Talker],
@@ -125,6 +126,7 @@ impl Rest {
     }
 
     /// Those that rest wake before this bit if they have a fault of their own at it.
+    #[inline(always)]
     pub(crate) fn disturb(
         &mut self,
         faults: &[NodeFault],
@@ -195,6 +197,7 @@ impl Rest {
 
     /// The listener follows through a bit at which those that rest sample this level; where it can't, they wake before
     /// it.
+    #[inline(always)]
     pub(crate) fn go_through(
         &mut self,
         plan: &[Talker],

@@ -296,10 +296,7 @@ impl Member {
         if self.rests || bit < self.on {
             return false;
         }
-        if !self.deed.is_quiet() {
-            return false;
-        }
-        self.station.node.is_recovering()
+        self.deed.is_quiet() && self.station.node.is_recovering()
     }
 
     /// One bit of bus off, at which it samples this level (`Node::recover`).
