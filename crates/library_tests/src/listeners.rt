@@ -129,7 +129,7 @@ fn one_in_bus_off_counts_runs_of_recessive_bits(rt: HostRuntime) {
         let comes_back = run == 128;
         assert_eq!(rt; sample(&mut node, true) == Some(Outcome::CameBack), comes_back);
     }
-    assert_eq!(rt; node.bit(), start + 4 + 128 * 11);
+    assert_eq!(rt; node.bit().checked_sub(start), Some(4 + 128 * 11));
     assert_eq!(rt; node.counters(), Counters::new());
 }
 
