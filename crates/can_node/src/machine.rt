@@ -240,8 +240,8 @@ fn turn_taking(
     level: bool,
 ) -> Outcome
     ensures { (may_begin : Bool) (old new : Reader) (spelling : Spelling) (now : ℕ) → IsPush old level step new
-        → Steps (State.Taking start may_begin stage) counters.old old spelling now level result state.new counters.new
-            new }
+        → Steps (State.Taking start may_begin stage) counters.old old spelling now level
+        result state.new counters.new new }
 {
     let errors = counters.state();
     make(

@@ -127,7 +127,10 @@ fn one_in_bus_off_counts_runs_of_recessive_bits(rt: HostRuntime) {
         }
         assert_eq!(rt; recover(&mut node, true), None);
         let comes_back = run == 128;
-        assert_eq!(rt; sample(&mut node, true) == Some(Outcome::CameBack), comes_back);
+        assert_eq!(rt;
+            sample(&mut node, true) == Some(Outcome::CameBack),
+            comes_back
+        );
     }
     assert_eq!(rt; node.bit().checked_sub(start), Some(4 + 128 * 11));
     assert_eq!(rt; node.counters(), Counters::new());

@@ -12,7 +12,7 @@ make_bits-requires c =
     record {
       size = c.requires.port ∙ sym (opening.one_each ∙ c.requires.one);
       transmits = λ k sends p e f.
-        ap (λ (q : Port). sending (core_of q.mail)) (sym (get_or_from_slice_get ports k p p f))
-        ∙ c.requires.idle k p (slice_get_within ports k p f)
-        ∙ sym (opening.idle k sends e);
+          ap (λ (q : Port). sending (core_of q.mail)) (sym (get_or_from_slice_get ports k p p f))
+          ∙ c.requires.idle k p (slice_get_within ports k p f)
+          ∙ sym (opening.idle k sends e);
     }
