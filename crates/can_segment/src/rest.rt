@@ -254,7 +254,7 @@ impl Rest {
         if !self.resting || !self.few {
             return false;
         }
-        // two have come to stand the other way round, or one is none
+        // it went off since the places were told apart
         if is_off(talkers, self.sender) && !is_off(talkers, self.off) {
             return false;
         }
