@@ -24,5 +24,6 @@ pub mod Rests
 pub mod Holds
 pub mod ComesToRest
 pub mod Wholes
+pub mod Going
 pub mod SoleSender
 pub mod QuietBits

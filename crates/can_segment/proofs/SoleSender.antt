@@ -7,221 +7,26 @@ use Rattle.std.proofs.lemmas.List.{length-map, length-set}
 use Rattle.std.proofs.lemmas.Option.{slice_get_past, slice_get_within}
 use Rattle.bx_core.specs.TxBus.{Item, BusPast, BusCall}
 use Rattle.can_frame.specs.Frames.{FrameValue}
-use Rattle.can_node.specs.Histories.{Past, IsHistory}
-use Rattle.can_node.specs.Node.{IsSample, StandsAfter, bit_of, counters_in, driven_by, may_begin}
-use Rattle.can_node.specs.declared.outcome.Outcome.TheVariants.{Nothing}
+use Rattle.can_node.specs.Node.{driven_by, may_begin}
 use Rattle.can_confinement.specs.declared.counters.Counters.{Counters}
 use Rattle.can_node.specs.declared.listener.Listener.{Listener}
 use Rattle.can_station.specs.declared.member.Member.{Member}
 use Rattle.can_station.specs.declared.plan.Talker.{Talker}
 use Rattle.can_segment.specs.declared.rest.Rest.{Rest}
-use Rattle.can_station.specs.Deeds.{AreQuiet, IsQuiet}
-use Rattle.can_station.specs.Members.{PortSettles, PortStarts, Samples, SamplesOn, TalkerStarts, drives_at, is_on, wants_at}
+use Rattle.can_station.specs.Deeds.{AreQuiet}
+use Rattle.can_station.specs.Members.{PortSettles, PortStarts, Samples, TalkerStarts, drives_at, is_on, wants_at}
 use Rattle.can_station.specs.Places.{AtPlaces, AtBoth, MovesOne}
 use Rattle.can_station.specs.Ports.{item_of}
 use Rattle.can_segment.specs.Rests.{Drives, GoesQuietly, RestHolds, RestsThrough, SendsAlone, StartsNone, members_at}
-use Rattle.can_station.specs.RestingNodes.{AreApart, AwakeAreQuiet, IfAwake, IfAwakeBoth, MayRecover, MemberRecovers, MemberSends, OneSends, OthersRest, TransmitsAll, caught_up, passes, woken}
+use Rattle.can_station.specs.RestingNodes.{AreApart, MayRecover, MemberRecovers, MemberSends, OneSends, OthersRest, TransmitsAll, caught_up, passes, woken}
 use Rattle.can_segment.specs.Segments.{AreFrom, sending_of_all}
-use Rattle.can_station.specs.Outcomes.{completed_by, sending_after}
 use Rattle.can_station.proofs.Places.{get_set_other, get_set_same, same_some, some_there}
 use Rattle.can_segment.proofs.Holds.{left_holds, through_holds}
 use Rattle.can_segment.proofs.Rests.{all_drive, all_quiet, controllers_sample, controllers_start, members_length, members_sample, talkers_start, transmits_real, wishes_none}
 use Rattle.can_segment.proofs.Shown.{map_at, map_there}
 use Rattle.can_station.proofs.Spans.{all_pass, within_places}
-use Rattle.can_segment.proofs.Unmoved.{unmoved_requests, unmoved_settles, unmoved_talks}
 use Rattle.can_segment.proofs.Woken.{awake_woken, left_places, others_places, resting_woken, same_list}
-
--- One that is awake goes on with this level, and nothing is told of it.
-pub record MemberGoes (bit : ℕ) (level : Bool) (old new : Member) : Type 0 where
-  pub awake : old.rests ≡ false
-  pub is_on : old.on ≤ bit
-  pub quiet : IsQuiet old.deed
-  pub begins_none : may_begin old.station.node ≡ false
-  pub samples : IsSample old.station.node level Nothing new.station.node
-  pub history : (past : Past) → StandsAfter new.station.node past → IsHistory past
-  pub bit_is : bit_of new.station.node ≡ bit_of old.station.node + 1
-  pub counts_none : counters_in new.station.node ≡ counters_in old.station.node
-  pub awake_too : new.rests ≡ false
-  pub on_is : new.on ≡ old.on
-  pub deed_is : new.deed ≡ old.deed
-  pub sending_is : new.station.sending ≡ old.station.sending
-  pub completed_is : new.station.completed ≡ old.station.completed
-
-goes_sending : (bit : ℕ) (before after : Listener) (level : Bool) (old new : Member) → MemberSends bit before level after old new → MemberGoes bit level old new
-goes_sending bit before after level old new h = record {
-  awake = h.awake;
-  is_on = h.is_on;
-  quiet = h.quiet;
-  begins_none = h.sends.begins_none;
-  samples = h.sends.samples;
-  history = h.sends.history;
-  bit_is = h.sends.bit_is;
-  counts_none = h.sends.counts_none;
-  awake_too = h.awake_too;
-  on_is = h.on_is;
-  deed_is = h.deed_is;
-  sending_is = h.sending_is;
-  completed_is = h.completed_is;
-}
-
-goes_recovering : (bit : ℕ) (level : Bool) (old new : Member) → MemberRecovers bit level old new → MemberGoes bit level old new
-goes_recovering bit level old new h = record {
-  awake = h.may.awake;
-  is_on = h.may.is_on;
-  quiet = h.may.quiet;
-  begins_none = h.recovers.begins_none;
-  samples = h.recovers.samples;
-  history = h.recovers.history;
-  bit_is = h.recovers.bit_is;
-  counts_none = h.recovers.counts_none;
-  awake_too = h.awake_too;
-  on_is = h.on_is;
-  deed_is = h.deed_is;
-  sending_is = h.sending_is;
-  completed_is = h.completed_is;
-}
-
-still_quiet : (bit : ℕ) (level : Bool) (old new : Member) → MemberGoes bit level old new → IsQuiet new.deed
-still_quiet bit level old new h = subst IsQuiet (sym h.deed_is) h.quiet
-
-goes_samples_on : (bit : ℕ) (level : Bool) (old new : Member) → MemberGoes bit level old new → SamplesOn level old new
-goes_samples_on bit level old new h =
-    let quiet = still_quiet bit level old new h in
-    let none = quiet.no_end in
-    record {
-      began_is = ap (λ deed. deed.began) h.deed_is;
-      names = inl quiet;
-      stands = subst (λ o. IsSample old.station.node level o new.station.node) (sym none) h.samples;
-      history = h.history;
-      sending_is = h.sending_is ∙ sym (ap (sending_after old.station.sending) none);
-      completed_is = omega (arith, h.completed_is, ap completed_by none);
-      bit_is = h.bit_is;
-    }
-
-goes_samples : (bit : ℕ) (level : Bool) (old new : Member) → MemberGoes bit level old new → Samples bit level old new
-goes_samples bit level old new h = record {
-  off = λ early. absurd (omega (arith, early, h.is_on));
-  on_is = h.on_is;
-  samples = λ late. goes_samples_on bit level old new h;
-  reaps_none = λ late. (still_quiet bit level old new h).no_reaping;
-}
-
--- those that are awake go on
-abbrev pub AllGo : ℕ → Bool → List Member → List Member → Type 0
-AllGo bit level = AtPlaces (λ k. IfAwake (MemberGoes bit level))
-
-going : (bit : ℕ) (level : Bool) (old new : Member) → MemberGoes bit level old new → IfAwake (MemberGoes bit level) old new
-going bit level old new h = let awake = h.awake in record { rests_on = λ e. absurd (cc (e, awake)); stays_awake = λ e. h.awake_too; steps = λ e. h }
-
-resting_on : (bit : ℕ) (level : Bool) (old new : Member) → new ≡ old → old.rests ≡ true → IfAwake (MemberGoes bit level) old new
-resting_on bit level old new same is = record { rests_on = λ e. same; stays_awake = λ e. absurd (cc (e, is)); steps = λ e. absurd (cc (e, is)) }
-
-pub controllers_go : (place bit : ℕ) (before after : Listener) (level : Bool) (old new : List Member) → OthersRest place place old → MovesOne place (MemberSends bit before level after) old new → AllGo bit level old new
-controllers_go place bit before after level old new others moves = record {
-  at = λ k a b p q. elim (cases_eq k place) [
-    | inl here ↦ going bit level a b (goes_sending bit before after level a b (moves.at a b (ap (slice_get old) (sym here) ∙ p) (ap (slice_get new) (sym here) ∙ q)))
-    | inr other ↦ resting_on bit level a b (same_some b a (sym q ∙ moves.others k other ∙ p)) (others k a p other other)
-  ];
-  size = moves.size;
-}
-
-pub talkers_go : (sender off bit : ℕ) (before after : Listener) (level : Bool) (old mid new : List Member) → OthersRest sender off old → AreApart sender off old → MovesOne sender (MemberSends bit before level after) old mid →
-    MovesOne off (MemberRecovers bit level) mid new → AllGo bit level old new
-talkers_go sender off bit before after level old mid new others apart sends recovers = record {
-  at = λ k a b p q.
-      let there = slice_get_within old k a p in
-      let x = some_there mid k (omega (arith, there, sends.size)) in
-      elim (cases_eq k sender) [
-        | inl here ↦ (let not : k ≢ off = λ is. elim apart [ inl apart ↦ apart (sym here ∙ is) | inr past ↦ omega (arith, there, is, past) ] in
-            let same : b ≡ x.0 = same_some b x.0 (sym q ∙ recovers.others k not ∙ x.1) in
-            going bit level a b (goes_sending bit before after level a b (subst (MemberSends bit before level after a) (sym same) (sends.at a x.0 (ap (slice_get old) (sym here) ∙ p) (ap (slice_get mid) (sym here) ∙ x.1)))))
-        | inr other ↦ (let still = sends.others k other ∙ p in elim (cases_eq k off) [
-          | inl here ↦ going bit level a b (goes_recovering bit level a b (recovers.at a b (ap (slice_get mid) (sym here) ∙ still) (ap (slice_get new) (sym here) ∙ q)))
-          | inr not ↦ resting_on bit level a b (same_some b a (sym q ∙ recovers.others k not ∙ still)) (others k a p other not)
-        ])
-      ];
-  size = recovers.size ∙ sends.size;
-}
-
--- so they start nothing,
-pub go_starts : (bit : ℕ) (level : Bool) (plan : List Talker) (old new : List Member) → AllGo bit level old new → AtPlaces (λ k. IfAwake (TalkerStarts bit plan k)) old old
-go_starts bit level plan old new go = record {
-  at = λ k a b p q.
-      let same : b ≡ a = same_some b a (sym q ∙ p) in
-      record {
-        rests_on = λ e. same;
-        stays_awake = λ e. ap (λ m. m.rests) same ∙ e;
-        steps = λ e.
-            let n = some_there new k (let there = slice_get_within old k a p in omega (arith, there, go.size)) in
-            let h = (go.at k a n.0 p n.1).steps e in
-            subst (TalkerStarts bit plan k a) (sym same) (unmoved_talks bit plan k a h.begins_none h.quiet);
-      };
-  size = refl;
-}
-
-pub go_requests : {P : Type 0} (after : P → BusPast → Type 0) (asked : P → List BusCall → Type 0) (transmitting : P → Option Item) (stays : P → P → Type 0) (bit : ℕ) (level : Bool) (old new : List Member) (ports : List P) → ((x : P) → stays x x) →
-    AllGo bit level old new → TransmitsAll transmitting old ports → AtBoth (λ k. IfAwakeBoth (PortStarts after asked transmitting stays bit)) old old ports ports
-go_requests after asked transmitting stays bit level old new ports same go sends = record {
-  at = λ k a b p q ea eb ep eq.
-      let same_member : b ≡ a = same_some b a (sym eb ∙ ea) in
-      let same_port : q ≡ p = same_some q p (sym eq ∙ ep) in
-      record {
-        rests_on = λ e. (same_member, same_port);
-        stays_awake = λ e. ap (λ m. m.rests) same_member ∙ e;
-        steps = λ e.
-            let n = some_there new k (let there = slice_get_within old k a ea in omega (arith, there, go.size)) in
-            let h = (go.at k a n.0 ea n.1).steps e in
-            subst (λ m. PortStarts after asked transmitting stays bit a m p q) (sym same_member)
-            (subst (PortStarts after asked transmitting stays bit a a p) (sym same_port) (unmoved_requests after asked transmitting stays bit a p h.begins_none h.quiet (sends k a p ea ep) (same p)));
-      };
-  size = refl;
-  size_too = refl;
-}
-
--- sample the level,
-pub go_samples : (bit : ℕ) (level : Bool) (old new : List Member) → AllGo bit level old new → AtPlaces (λ k. IfAwake (Samples bit level)) old new
-go_samples bit level old new go = record {
-  at = λ k a b p q. let s = go.at k a b p q in record { rests_on = s.rests_on; stays_awake = s.stays_awake; steps = λ e. goes_samples bit level a b (s.steps e) };
-  size = go.size;
-}
-
-pub go_settles : {P : Type 0} (after : P → BusPast → Type 0) (asked : P → List BusCall → Type 0) (transmitting : P → Option Item) (sink : P → List FrameValue → Type 0) (stays : P → P → Type 0) (bit : ℕ) (level : Bool) (old new : List Member) (ports : List P) →
-    ((x : P) → stays x x) → AllGo bit level old new → TransmitsAll transmitting old ports → AtBoth (λ k. IfAwakeBoth (PortSettles after asked transmitting sink stays bit level)) old new ports ports
-go_settles after asked transmitting sink stays bit level old new ports same go sends = record {
-  at = λ k a b p q ea eb ep eq.
-      let same_port : q ≡ p = same_some q p (sym eq ∙ ep) in
-      let s = go.at k a b ea eb in
-      record {
-        rests_on = λ e. (s.rests_on e, same_port);
-        stays_awake = s.stays_awake;
-        steps = λ e.
-            let h = s.steps e in
-            subst (PortSettles after asked transmitting sink stays bit level a b p) (sym same_port)
-            (unmoved_settles after asked transmitting sink stays bit level a b p h.is_on h.on_is (goes_samples_on bit level a b h) (still_quiet bit level a b h) (sends k a p ea ep ∙ ap item_of (sym h.sending_is)) (same p));
-      };
-  size = go.size;
-  size_too = refl;
-}
-
--- nothing is told of them,
-pub go_quiet : (bit : ℕ) (level : Bool) (old new : List Member) → AllGo bit level old new → AwakeAreQuiet bit new
-go_quiet bit level old new go k m e awake on =
-    let a = some_there old k (let there = slice_get_within new k m e in omega (arith, there, go.size)) in
-    by a.0 (go.at k a.0 m a.1 e) a.0.rests refl
-  where
-    by : (a : Member) → IfAwake (MemberGoes bit level) a m → (b : Bool) → a.rests ≡ b → IsQuiet m.deed
-    by a s true is = let same = ap (λ y. y.rests) (s.rests_on is) in absurd (cc (awake, same, is))
-    by a s false is = still_quiet bit level a m (s.steps is)
-
--- and counters that are shown of them stay shown
-pub go_shown : (first bit : ℕ) (level : Bool) (old new : List Member) (counters : List Counters) → AllGo bit level old new → AreFrom first old counters → AreFrom first new counters
-go_shown first bit level old new counters go h k m shown e f =
-    let a = some_there old k (let there = slice_get_within new k m e in omega (arith, there, go.size)) in
-    h k a.0 shown a.1 f ∙ by a.0 (go.at k a.0 m a.1 e) a.0.rests refl
-  where
-    by : (a : Member) → IfAwake (MemberGoes bit level) a m → (b : Bool) → a.rests ≡ b → counters_in a.station.node ≡ counters_in m.station.node
-    by a s true is = ap (λ y. counters_in y.station.node) (sym (s.rests_on is))
-    by a s false is = sym (s.steps is).counts_none
+use Rattle.can_segment.proofs.Going.{AllGo, MemberGoes, controllers_go, go_quiet, go_requests, go_samples, go_settles, go_shown, go_starts, talkers_go}
 
 -- the one's level is that of the line
 sole_level : (place bit : ℕ) (before after : Listener) (level : Bool) (old new : List Member) → OneSends place bit before level after old new → level ≡ passes (drives_at bit) (slice_get old place)
@@ -244,13 +49,9 @@ and_true true = refl
 and_true false = refl
 
 -- the AND of what all drive is what it drives
-and_only : (b : Bool) → (b && true) ≡ b
-and_only true = refl
-and_only false = refl
-
 one_passes : {M : Type 0} (test : M → Bool) (place : ℕ) (xs : List M) → ((k : ℕ) (m : M) → slice_get xs k ≡ Some m → k ≢ place → test m ≡ true) → list_all test xs ≡ passes test (slice_get xs place)
 one_passes test place [] h = refl
-one_passes test zero (x ∷ xs) h = ap (λ b. test x && b) (all_pass test xs (λ k m e. h (suc k) m e (λ is. omega (arith, is)))) ∙ and_only (test x)
+one_passes test zero (x ∷ xs) h = ap (λ b. test x && b) (all_pass test xs (λ k m e. h (suc k) m e (λ is. omega (arith, is)))) ∙ and_true (test x)
 one_passes test (suc place) (x ∷ xs) h = ap (λ b. b && list_all test xs) (h zero x refl (λ is. omega (arith, is))) ∙ one_passes test place xs (λ k m e not. h (suc k) m e (λ is. not (omega (arith, is))))
 
 sole_drives : (sender off bit : ℕ) (members : List Member) → OthersRest sender off members → ((m : Member) → slice_get members sender ≡ Some m → m.rests ≡ false) → ((m : Member) → slice_get members off ≡ Some m → off ≢ sender → drives_at bit m ≡ true) →
