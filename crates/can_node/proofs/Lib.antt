@@ -36,4 +36,4 @@ pub mod OneCuttingEnds
 pub mod OneCuttingEpisodes
 pub mod OneCutting
 pub mod OneCuttingPlaces
-pub mod Recovery
+pub mod PlainBits

@@ -324,15 +324,19 @@ pub counts_none : (counters : Counters) (event : Option ErrorEvent) → event �
 counts_none counters event is events = subst (λ e. Counts counters counters e false events) (sym is) (record { stands = λ h. h ∙ ap counts_after (sym (append-nil events)); leads = λ h. no_event })
 
 -- a bit that counts nothing and tells nothing
-pub quiet_steps : (state next : State) (counters : Counters) (old new : Reader) (spelling : Spelling) (now : ℕ) (level : Bool) →
-    ((errors : ErrorState) → Advances state old spelling now errors level (quiet next) new) → Steps state counters old spelling now level Nothing next counters new
-quiet_steps state next counters old new spelling now level advances = record {
+pub quiet_steps_now : (state next : State) (counters : Counters) (old new : Reader) (spelling : Spelling) (now : ℕ) (level : Bool) →
+    Advances state old spelling now (state_of (counts_of counters)) level (quiet next) new → Steps state counters old spelling now level Nothing next counters new
+quiet_steps_now state next counters old new spelling now level advances = record {
   turn = quiet next;
   errors = state_of (counts_of counters);
   shows = λ events h. ap state_of h;
-  advances = advances (state_of (counts_of counters));
+  advances = advances;
   is_made = record { off = false; counts = counts_none counters None refl; ends_in = (refl, refl) };
 }
+
+pub quiet_steps : (state next : State) (counters : Counters) (old new : Reader) (spelling : Spelling) (now : ℕ) (level : Bool) →
+    ((errors : ErrorState) → Advances state old spelling now errors level (quiet next) new) → Steps state counters old spelling now level Nothing next counters new
+quiet_steps state next counters old new spelling now level advances = quiet_steps_now state next counters old new spelling now level (advances (state_of (counts_of counters)))
 
 leads_by : (events : List ErrorEvent) (event : ErrorEvent) (off b : Bool) → off ≡ b → is_off (counts_after (events ++ event ∷ [])) ≡ b → LeadsTo events (Some event) off
 leads_by events event off true e is = subst (LeadsTo events (Some event)) (sym e) (goes_off event is)

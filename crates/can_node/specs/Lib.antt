@@ -15,4 +15,4 @@ pub mod Cuts
 pub mod Copies
 pub mod Attempts
 pub mod Cuttings
-pub mod Recovery
+pub mod PlainBits

@@ -20,6 +20,7 @@ ghost use Rattle.can_node.specs.Machine.{
   may_start,
   sof_of,
 };
+ghost use Rattle.can_node.specs.PlainBits.{IsPlain, LeavesPlainly, is_plain, turns_plainly};
 
 use crate::outcome::Outcome;
 use crate::sends::after_sending;
@@ -28,7 +29,7 @@ use crate::state::{Stage, State, Turn};
 use crate::takes::after_taking;
 use crate::turns::{
     after_closing, after_delimiting, after_flag, after_idle, after_passive_flag, after_recovering,
-    after_resting, after_suspending, after_sync, after_waiting, plain,
+    after_resting, after_suspending, after_sync, after_waiting, behind_passive_flag, plain,
 };
 use can_confinement::{Counters, ErrorEvent, ErrorState, Role};
 use can_frame::{Reader, Step};
@@ -136,8 +137,9 @@ pub(crate) fn is_taking(state: State) -> bool
 
 /// What a level makes of a state that neither reads nor sends a frame.
 pub(crate) fn turn_of(state: State, now: u64, errors: ErrorState, level: bool) -> Turn
-    ensures { is_taking state ≡ false → is_sending state ≡ false
+    ensures goes { is_taking state ≡ false → is_sending state ≡ false
         → Goes state now errors level result }
+    ensures plain { turns_plainly level state ≡ true → IsPlain result }
 {
     match state {
         State::Syncing(ones) => after_sync(ones, now, errors, level),
@@ -336,6 +338,37 @@ pub(crate) fn advance(
             Outcome::Nothing
         }
         _ => turn_outside(state, counters, reader, now, level),
+    }
+}
+
+/// Whether nothing begins, is told or counted with this level in this state, in which no frame is read or sent.
+pub(crate) fn is_plain(state: State, level: bool) -> bool
+    ensures { result ≡ is_plain level state }
+{
+    match state {
+        State::Recovering(_, ones) => ones <= 9,
+        State::PassiveFlagging(_, owes, _, _) => level || !owes,
+        State::Flagging(_, _, _, _) => !level,
+        State::Waiting(_, _, _, _) => level,
+        State::Delimiting(_, _) => level,
+        State::Resting(_, _) => level,
+        State::Suspending(_) => level,
+        _ => false,
+    }
+}
+
+/// Where this level leaves a node in such a state.
+#[inline(always)]
+pub(crate) fn behind_plain(state: State, counters: &Counters, now: u64, level: bool) -> State
+    ensures { is_plain level state ≡ true → LeavesPlainly state counters.now now level result }
+{
+    match state {
+        State::Recovering(runs, _) if !level => State::Recovering(runs, 0),
+        State::Recovering(runs, ones) => State::Recovering(runs, ones.saturating_add(1)),
+        State::PassiveFlagging(role, owes, ones, zeros) => {
+            behind_passive_flag(role, owes, ones, zeros, level)
+        }
+        _ => turn_of(state, now, counters.state(), level).state,
     }
 }
 

@@ -5,7 +5,7 @@ ghost use Rattle.can_confinement.specs.Counters.{StandsAfter as CountersStandAft
 ghost use Rattle.can_node.specs.Histories.{Past, no_past, IsHistory};
 ghost use Rattle.can_node.specs.Listener.{SendsTo, StandsWith, caught_up, listener_of, listens_in};
 ghost use Rattle.can_confinement.specs.KnownCounts.{Knows, known_of};
-ghost use Rattle.can_node.specs.Recovery.{IsRecovering, Recovers};
+ghost use Rattle.can_node.specs.PlainBits.{GoesOn, MayGoOn, is_in_plain};
 ghost use Rattle.can_node.specs.Node.{
   StandsAfter,
   IsSample,
@@ -20,7 +20,9 @@ ghost use Rattle.can_node.specs.Node.{
 };
 
 use crate::listener::Listener;
-use crate::machine::{advance, begin, level_in, listens, may_start, sof_of};
+use crate::machine::{
+    advance, begin, behind_plain, is_plain, level_in, listens, may_start, sof_of,
+};
 use crate::outcome::Outcome;
 use crate::spelled::Spelled;
 use crate::state::State;
@@ -184,35 +186,38 @@ impl Node {
         )
     }
 
-    /// Whether the node is in bus off, and no run of eleven recessive bits ends with its next bit, whatever its level
-    /// is.
+    /// Whether the node goes on with its next bit, if that has this level: nothing begins then, and nothing is told or
+    /// counted. So it is where it sends a frame and drives this level, but in the ACK slot and at the last bit; in a
+    /// flag, and behind it up to the end of the intermission and of suspend transmission, with the levels that belong
+    /// there; and in bus off, but at the end of a run of eleven recessive bits.
     #[inline(always)]
-    pub fn is_recovering(&self) -> bool
-        ensures { result ≡ true → IsRecovering self.now }
+    pub fn goes_on(&self, level: bool) -> bool
+        ensures may { result ≡ true → MayGoOn level self.now }
+        ensures plain { is_in_plain level self.now ≡ true → result ≡ true }
     {
         match self.state {
-            State::Recovering(_, ones) => ones < 10,
-            _ => false,
+            State::Sending(_, place) => match self.spelling.spelling().level_elsewhere(place) {
+                Some(own) => own == level,
+                None => false,
+            },
+            state => is_plain(state, level),
         }
     }
 
-    /// One bit of bus off with which no run of eleven recessive bits ends, at which the node samples this level: what
-    /// `sample` does there. Nothing is told and nothing counted.
+    /// One bit with which the node goes on, and at which it samples this level: what `sample` does there.
     #[inline(always)]
-    pub fn recover(&mut self, level: bool)
-        requires recovering { IsRecovering self.old }
+    pub fn go_on(&mut self, level: bool)
+        requires goes { MayGoOn level self.old }
         requires room { bit_of self.old < u64.MAX }
-        ensures { Recovers self.old level self.new }
+        ensures { GoesOn self.old level self.new }
     {
-        let State::Recovering(_runs, ones) = &mut self.state else {
-            return;
-        };
-        self.clock += 1;
-        if !level {
-            *ones = 0;
+        let bit = self.clock;
+        self.clock = bit + 1;
+        if let State::Sending(_start, sent) = &mut self.state {
+            *sent = sent.saturating_add(1);
             return;
         }
-        *ones = ones.saturating_add(1);
+        self.state = behind_plain(self.state, &self.counters, bit, level);
     }
 
     /// One bit of a frame that the node sends while all others listen: what `drive`, `sample` and `Listener::follow`

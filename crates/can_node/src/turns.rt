@@ -1,9 +1,10 @@
 //! What one sampled level makes of a node that reads no frame: one function for each state.
 
-ghost use Rattle.std.specs.Prelude.{◌≡◌, ℕ, List, Bool, [], Some, None};
+ghost use Rattle.std.specs.Prelude.{◌≡◌, ◌<◌, ◌≤◌, ℕ, List, Bool, true, false, [], Some, None};
 ghost use Rattle.can_node.specs.Phases.{suspends, flag_of};
 ghost use Rattle.can_node.specs.Flags.{behind_flag};
-ghost use Rattle.can_node.specs.Machine.{Agrees, Goes, listed};
+ghost use Rattle.can_node.specs.Machine.{Agrees, Goes, is_taking, listed, quiet};
+ghost use Rattle.can_node.specs.PlainBits.{IsPlain};
 ghost use Rattle.can_node.specs.Episodes.{error_of};
 
 use crate::flag::FlagKind;
@@ -76,7 +77,8 @@ pub(crate) fn after_flag(
     errors: ErrorState,
     level: bool,
 ) -> Turn
-    ensures { Goes (State.Flagging kind role sent until) now errors level result }
+    ensures goes { Goes (State.Flagging kind role sent until) now errors level result }
+    ensures plain { level ≡ false → IsPlain result }
 {
     if level {
         if sent < 5 {
@@ -96,7 +98,37 @@ pub(crate) fn after_flag(
     plain(State::Waiting(kind, role, until.saturating_sub(1), true))
 }
 
-/// A passive error flag: the sixth equal level in a row is the last one.
+/// Whether this level is the first dominant one of a passive error flag that owes an error count for it.
+fn is_due(owes: bool, zeros: u8, level: bool) -> bool
+    ensures due { result ≡ true → (owes ≡ true) × (level ≡ false) × (zeros < 5) }
+    ensures not_due { result ≡ false → owes ≡ true → level ≡ false → 5 ≤ zeros }
+{
+    if !owes || level {
+        return false;
+    }
+    zeros < 5
+}
+
+/// Where a level of a passive error flag leaves a node that counts nothing for it: the sixth equal level in a row is
+/// the last one.
+pub(crate) fn behind_passive_flag(role: Role, owes: bool, ones: u8, zeros: u8, level: bool) -> State
+    ensures goes { (owes ≡ true → level ≡ false → 5 ≤ zeros) → (now : ℕ) (errors : ErrorState)
+        → Goes (State.PassiveFlagging role owes ones zeros) now errors level (quiet result) }
+    ensures reads { is_taking result ≡ false }
+{
+    if level {
+        if ones < 5 {
+            return State::PassiveFlagging(role, owes, ones + 1, 0);
+        }
+        return State::Waiting(FlagKind::PassiveError, role, 8, true);
+    }
+    if zeros < 5 {
+        return State::PassiveFlagging(role, false, 0, zeros + 1);
+    }
+    State::Waiting(FlagKind::PassiveError, role, 8, true)
+}
+
+/// A passive error flag, whose first dominant level may count an error.
 pub(crate) fn after_passive_flag(
     role: Role,
     owes: bool,
@@ -108,22 +140,13 @@ pub(crate) fn after_passive_flag(
 ) -> Turn
     ensures { Goes (State.PassiveFlagging role owes ones zeros) now errors level result }
 {
-    if level {
-        if ones < 5 {
-            return plain(State::PassiveFlagging(role, owes, ones + 1, 0));
-        }
-        return plain(State::Waiting(FlagKind::PassiveError, role, 8, true));
+    if is_due(owes, zeros, level) {
+        return counted(
+            State::PassiveFlagging(role, false, 0, zeros + 1),
+            ErrorEvent::SenderError,
+        );
     }
-    if zeros < 5 {
-        if owes {
-            return counted(
-                State::PassiveFlagging(role, false, 0, zeros + 1),
-                ErrorEvent::SenderError,
-            );
-        }
-        return plain(State::PassiveFlagging(role, false, 0, zeros + 1));
-    }
-    plain(State::Waiting(FlagKind::PassiveError, role, 8, true))
+    plain(behind_passive_flag(role, owes, ones, zeros, level))
 }
 
 /// The state at the start of an error flag, by the error state before the error.
@@ -155,7 +178,8 @@ pub(crate) fn after_delimiting(
     errors: ErrorState,
     level: bool,
 ) -> Turn
-    ensures { Goes (State.Delimiting role ones) now errors level result }
+    ensures goes { Goes (State.Delimiting role ones) now errors level result }
+    ensures plain { level ≡ true → IsPlain result }
 {
     if level {
         if ones < 7 {
@@ -197,7 +221,8 @@ pub(crate) fn after_waiting(
     errors: ErrorState,
     level: bool,
 ) -> Turn
-    ensures { Goes (State.Waiting kind role until first) now errors level result }
+    ensures goes { Goes (State.Waiting kind role until first) now errors level result }
+    ensures plain { level ≡ true → IsPlain result }
 {
     if level {
         return plain(State::Delimiting(role, 1));
@@ -230,7 +255,8 @@ fn is_suspended(role: Role, errors: ErrorState) -> bool
 
 /// Intermission: what comes behind it is decided at its third bit.
 pub(crate) fn after_resting(role: Role, ones: u8, now: u64, errors: ErrorState, level: bool) -> Turn
-    ensures { Goes (State.Resting role ones) now errors level result }
+    ensures goes { Goes (State.Resting role ones) now errors level result }
+    ensures plain { level ≡ true → IsPlain result }
 {
     if ones < 2 {
         if level {
@@ -250,7 +276,8 @@ pub(crate) fn after_resting(role: Role, ones: u8, now: u64, errors: ErrorState, 
 
 /// Suspend transmission: a dominant level is SOF of a frame that is read.
 pub(crate) fn after_suspending(ones: u8, now: u64, errors: ErrorState, level: bool) -> Turn
-    ensures { Goes (State.Suspending ones) now errors level result }
+    ensures goes { Goes (State.Suspending ones) now errors level result }
+    ensures plain { level ≡ true → IsPlain result }
 {
     if !level {
         return plain(State::Taking(now, false, Stage::Region));

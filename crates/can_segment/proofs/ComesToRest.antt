@@ -6,22 +6,23 @@ use Rattle.std.proofs.lemmas.Option.{slice_get_within}
 use Rattle.can_node.specs.Listener.{IsListening, caught_up as node_caught_up}
 use Rattle.can_node.specs.Node.{StandsAfter, counters_in, may_begin}
 use Rattle.can_node.specs.declared.listener.Listener.{Listener}
+use Rattle.can_station.specs.declared.member.Deed.{Deed}
 use Rattle.can_station.specs.declared.member.Member.{Member}
 use Rattle.can_station.specs.declared.plan.Talker.{Talker}
 use Rattle.can_segment.specs.declared.rest.Rest.{Rest}
 use Rattle.can_station.specs.declared.span.Span.{Span}
 use Rattle.can_station.specs.Deeds.{IsQuiet, no_deed}
 use Rattle.can_station.specs.Places.{AtPlaces, AtPlacesBelow}
-use Rattle.can_station.specs.RestingNodes.{AreAlike, AwakeWithin, IsAlike, MayLieDown, MayRest, NoneRests, laid_down, woken}
+use Rattle.can_station.specs.RestingNodes.{AreAlike, AwakeWithin, IfAwake, IsAlike, MayFallSilent, MayLieDown, MayRest, NoneRests, laid_down, woken}
 use Rattle.can_segment.specs.Rests.{AreResting, AreSpent, Chooses, IsLess, IsResting, Lulls, members_at}
 use Rattle.can_segment.proofs.Holds.{not_resting, same_rests}
 use Rattle.can_station.proofs.Places.{some_there, get_set_other, get_set_same, places_step, same_some}
 use Rattle.can_segment.proofs.Shown.{map_at}
 use Rattle.can_segment.proofs.Woken.{awake_woken, none_resting}
 
--- each is like itself
-like_itself : (m : Member) → IsAlike m m
-like_itself m = record {
+-- each is like one of which something else is told, or nothing
+like_told : (m : Member) (deed : Deed) → (m.deed ≡ no_deed → deed ≡ no_deed) → IsAlike m (record { on = m.on; rests = m.rests; station = m.station; deed = deed })
+like_told m deed none = record {
   on_is = refl;
   sending_is = refl;
   completed_is = refl;
@@ -29,13 +30,58 @@ like_itself m = record {
   counters_are = refl;
   begins = refl;
   stands = λ past h. h;
-  quiet = λ h. h;
+  quiet = none;
 }
+
+like_itself : (m : Member) → IsAlike m m
+like_itself m = like_told m m.deed (λ h. h)
 
 pub alike_self : (old new : List Member) → new ≡ old → AreAlike old new
 alike_self old new is = record {
   at = λ k a b p q. subst (IsAlike a) (same_some a b (sym p ∙ ap (λ ms. slice_get ms k) (sym is) ∙ q)) (like_itself a);
   size = ap length is;
+}
+
+alike_on : (a b c : Member) → IsAlike a b → IsAlike b c → IsAlike a c
+alike_on a b c one other = record {
+  on_is = other.on_is ∙ one.on_is;
+  sending_is = other.sending_is ∙ one.sending_is;
+  completed_is = other.completed_is ∙ one.completed_is;
+  bit_is = other.bit_is ∙ one.bit_is;
+  counters_are = other.counters_are ∙ one.counters_are;
+  begins = other.begins ∙ one.begins;
+  stands = λ past h. other.stands past (one.stands past h);
+  quiet = λ h. other.quiet (one.quiet h);
+}
+
+pub all_alike_on : (old mid new : List Member) → AreAlike old mid → AreAlike mid new → AreAlike old new
+all_alike_on old mid new one other = record {
+  at = λ k a c p q.
+      let b = some_there mid k (let within = slice_get_within old k a p in omega (arith, within, one.size)) in
+      alike_on a b.0 c (one.at k a b.0 p b.1) (other.at k b.0 c b.1 q);
+  size = other.size ∙ one.size;
+}
+
+-- those of which nothing is told any more
+alike_silent : (listener : Listener) (bit : ℕ) (old new : Member) → MayFallSilent old new → IsAlike (woken listener bit old) (woken listener bit new)
+alike_silent listener bit old new (inl same) = subst (λ m. IsAlike (woken listener bit old) (woken listener bit m)) (sym same) (like_itself (woken listener bit old))
+alike_silent listener bit old new (inr silent) = subst (λ m. IsAlike (woken listener bit old) (woken listener bit m)) (sym silent)
+    (like_told (woken listener bit old) no_deed (λ h. refl))
+
+if_alike_silent : (listener : Listener) (bit : ℕ) (old new : Member) → IfAwake MayFallSilent old new → IsAlike (woken listener bit old) (woken listener bit new)
+if_alike_silent listener bit old new s = by old.rests refl
+  where
+    by : (b : Bool) → old.rests ≡ b → IsAlike (woken listener bit old) (woken listener bit new)
+    by true is = alike_silent listener bit old new (inl (s.rests_on is))
+    by false is = alike_silent listener bit old new (s.steps is)
+
+pub all_silent : (listener : Listener) (bit : ℕ) (old new : List Member) → AtPlaces (λ k. IfAwake MayFallSilent) old new → AreAlike (map (woken listener bit) old) (map (woken listener bit) new)
+all_silent listener bit old new moves = record {
+  at = λ k a b p q.
+      let x = map_at (woken listener bit) old k a p in
+      let y = map_at (woken listener bit) new k b q in
+      subst (λ m. IsAlike m b) x.2 (subst (IsAlike (woken listener bit x.0)) y.2 (if_alike_silent listener bit x.0 y.0 (moves.at k x.0 y.0 x.1 y.1)));
+  size = length-map new (woken listener bit) ∙ moves.size ∙ sym (length-map old (woken listener bit));
 }
 
 -- one that has come to rest

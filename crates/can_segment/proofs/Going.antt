@@ -1,12 +1,10 @@
 -- What those that are awake do at a bit of which nothing is told, and what follows for all.
-use Rattle.std.proofs.Common.{◌≡◌, ◌≢◌, ℕ, ◌+◌, ◌≤◌, Bool, true, false, Option, List, slice_get, refl, sym, ap, subst, arith, inl, inr, ◌∙◌}
+use Rattle.std.proofs.Common.{◌≡◌, ℕ, Bool, true, false, Option, List, slice_get, refl, sym, ap, subst, arith, inl, inr, ◌∙◌}
 use Rattle.std.proofs.lemmas.Bool.{cases_eq}
 use Rattle.std.proofs.lemmas.Option.{slice_get_within}
 use Rattle.bx_core.specs.TxBus.{Item, BusPast, BusCall}
 use Rattle.can_frame.specs.Frames.{FrameValue}
-use Rattle.can_node.specs.Histories.{Past, IsHistory}
-use Rattle.can_node.specs.Node.{IsSample, StandsAfter, bit_of, counters_in, may_begin}
-use Rattle.can_node.specs.declared.outcome.Outcome.TheVariants.{Nothing}
+use Rattle.can_node.specs.Node.{IsSample, counters_in}
 use Rattle.can_confinement.specs.declared.counters.Counters.{Counters}
 use Rattle.can_node.specs.declared.listener.Listener.{Listener}
 use Rattle.can_station.specs.declared.member.Member.{Member}
@@ -15,28 +13,13 @@ use Rattle.can_station.specs.Deeds.{IsQuiet}
 use Rattle.can_station.specs.Members.{PortSettles, PortStarts, Samples, SamplesOn, TalkerStarts}
 use Rattle.can_station.specs.Places.{AtPlaces, AtBoth, MovesOne}
 use Rattle.can_station.specs.Ports.{item_of}
-use Rattle.can_station.specs.RestingNodes.{AreApart, AwakeAreQuiet, IfAwake, IfAwakeBoth, MemberRecovers, MemberSends, OthersRest, TransmitsAll}
+use Rattle.can_station.specs.RestingNodes.{AllGo, AwakeAreQuiet, IfAwake, IfAwakeBoth, MemberGoes, MemberSends, OthersRest, TransmitsAll}
 use Rattle.can_segment.specs.Segments.{AreFrom}
 use Rattle.can_station.specs.Outcomes.{completed_by, sending_after}
 use Rattle.can_station.proofs.Places.{same_some, some_there}
 use Rattle.can_segment.proofs.Unmoved.{unmoved_requests, unmoved_settles, unmoved_talks}
 
--- One that is awake goes on with this level, and nothing is told of it.
-pub record MemberGoes (bit : ℕ) (level : Bool) (old new : Member) : Type 0 where
-  pub awake : old.rests ≡ false
-  pub is_on : old.on ≤ bit
-  pub quiet : IsQuiet old.deed
-  pub begins_none : may_begin old.station.node ≡ false
-  pub samples : IsSample old.station.node level Nothing new.station.node
-  pub history : (past : Past) → StandsAfter new.station.node past → IsHistory past
-  pub bit_is : bit_of new.station.node ≡ bit_of old.station.node + 1
-  pub counts_none : counters_in new.station.node ≡ counters_in old.station.node
-  pub awake_too : new.rests ≡ false
-  pub on_is : new.on ≡ old.on
-  pub deed_is : new.deed ≡ old.deed
-  pub sending_is : new.station.sending ≡ old.station.sending
-  pub completed_is : new.station.completed ≡ old.station.completed
-
+-- one that sends on goes on
 goes_sending : (bit : ℕ) (before after : Listener) (level : Bool) (old new : Member) → MemberSends bit before level after old new → MemberGoes bit level old new
 goes_sending bit before after level old new h = record {
   awake = h.awake;
@@ -47,23 +30,6 @@ goes_sending bit before after level old new h = record {
   history = h.sends.history;
   bit_is = h.sends.bit_is;
   counts_none = h.sends.counts_none;
-  awake_too = h.awake_too;
-  on_is = h.on_is;
-  deed_is = h.deed_is;
-  sending_is = h.sending_is;
-  completed_is = h.completed_is;
-}
-
-goes_recovering : (bit : ℕ) (level : Bool) (old new : Member) → MemberRecovers bit level old new → MemberGoes bit level old new
-goes_recovering bit level old new h = record {
-  awake = h.may.awake;
-  is_on = h.may.is_on;
-  quiet = h.may.quiet;
-  begins_none = h.recovers.begins_none;
-  samples = h.recovers.samples;
-  history = h.recovers.history;
-  bit_is = h.recovers.bit_is;
-  counts_none = h.recovers.counts_none;
   awake_too = h.awake_too;
   on_is = h.on_is;
   deed_is = h.deed_is;
@@ -96,41 +62,20 @@ goes_samples bit level old new h = record {
   reaps_none = λ late. (still_quiet bit level old new h).no_reaping;
 }
 
--- those that are awake go on
-abbrev pub AllGo : ℕ → Bool → List Member → List Member → Type 0
-AllGo bit level = AtPlaces (λ k. IfAwake (MemberGoes bit level))
-
+-- so where one is awake
 going : (bit : ℕ) (level : Bool) (old new : Member) → MemberGoes bit level old new → IfAwake (MemberGoes bit level) old new
 going bit level old new h = let awake = h.awake in record { rests_on = λ e. absurd (cc (e, awake)); stays_awake = λ e. h.awake_too; steps = λ e. h }
 
 resting_on : (bit : ℕ) (level : Bool) (old new : Member) → new ≡ old → old.rests ≡ true → IfAwake (MemberGoes bit level) old new
 resting_on bit level old new same is = record { rests_on = λ e. same; stays_awake = λ e. absurd (cc (e, is)); steps = λ e. absurd (cc (e, is)) }
 
-pub controllers_go : (place bit : ℕ) (before after : Listener) (level : Bool) (old new : List Member) → OthersRest place place old → MovesOne place (MemberSends bit before level after) old new → AllGo bit level old new
-controllers_go place bit before after level old new others moves = record {
+pub one_goes : (place bit : ℕ) (before after : Listener) (level : Bool) (old new : List Member) → OthersRest place old → MovesOne place (MemberSends bit before level after) old new → AllGo bit level old new
+one_goes place bit before after level old new others moves = record {
   at = λ k a b p q. elim (cases_eq k place) [
     | inl here ↦ going bit level a b (goes_sending bit before after level a b (moves.at a b (ap (slice_get old) (sym here) ∙ p) (ap (slice_get new) (sym here) ∙ q)))
-    | inr other ↦ resting_on bit level a b (same_some b a (sym q ∙ moves.others k other ∙ p)) (others k a p other other)
+    | inr other ↦ resting_on bit level a b (same_some b a (sym q ∙ moves.others k other ∙ p)) (others k a p other)
   ];
   size = moves.size;
-}
-
-pub talkers_go : (sender off bit : ℕ) (before after : Listener) (level : Bool) (old mid new : List Member) → OthersRest sender off old → AreApart sender off old → MovesOne sender (MemberSends bit before level after) old mid →
-    MovesOne off (MemberRecovers bit level) mid new → AllGo bit level old new
-talkers_go sender off bit before after level old mid new others apart sends recovers = record {
-  at = λ k a b p q.
-      let there = slice_get_within old k a p in
-      let x = some_there mid k (omega (arith, there, sends.size)) in
-      elim (cases_eq k sender) [
-        | inl here ↦ (let not : k ≢ off = λ is. elim apart [ inl apart ↦ apart (sym here ∙ is) | inr past ↦ omega (arith, there, is, past) ] in
-            let same : b ≡ x.0 = same_some b x.0 (sym q ∙ recovers.others k not ∙ x.1) in
-            going bit level a b (goes_sending bit before after level a b (subst (MemberSends bit before level after a) (sym same) (sends.at a x.0 (ap (slice_get old) (sym here) ∙ p) (ap (slice_get mid) (sym here) ∙ x.1)))))
-        | inr other ↦ (let still = sends.others k other ∙ p in elim (cases_eq k off) [
-          | inl here ↦ going bit level a b (goes_recovering bit level a b (recovers.at a b (ap (slice_get mid) (sym here) ∙ still) (ap (slice_get new) (sym here) ∙ q)))
-          | inr not ↦ resting_on bit level a b (same_some b a (sym q ∙ recovers.others k not ∙ still)) (others k a p other not)
-        ])
-      ];
-  size = recovers.size ∙ sends.size;
 }
 
 -- so they start nothing,

@@ -1,5 +1,5 @@
 -- What stands of nodes that rest stands on where fewer do.
-use Rattle.std.proofs.Common.{◌≡◌, inl, inr, ℕ, ◌+◌, Bool, true, false, List, length, refl, sym, subst, arith, ◌∙◌}
+use Rattle.std.proofs.Common.{◌≡◌, ℕ, ◌+◌, ◌≤◌, Bool, true, false, List, refl, sym, subst, ◌∙◌}
 use Rattle.can_confinement.specs.KnownCounts.{Knows}
 use Rattle.can_node.specs.Listener.{IsListening}
 use Rattle.can_node.specs.Node.{counters_in}
@@ -8,7 +8,7 @@ use Rattle.can_station.specs.declared.plan.Talker.{Talker}
 use Rattle.can_segment.specs.declared.rest.Rest.{Rest}
 use Rattle.can_station.specs.declared.span.Span.{Span}
 use Rattle.can_segment.specs.Rests.{AreResting, AreSpent, IsSame, RestHolds, RestsThrough}
-use Rattle.can_station.specs.RestingNodes.{AreApart, AwakeWithin, LeavesResting, NoneRests, OthersRest}
+use Rattle.can_station.specs.RestingNodes.{AwakeWithin, LeavesResting, NoneRests}
 use Rattle.can_segment.proofs.Rests.{next_rests}
 
 -- where none rests
@@ -21,9 +21,7 @@ none_rests rest bit plan talkers controllers many w w_too t c = record {
   controllers_awake = λ s. c;
   talkers_within = w;
   controllers_within = w_too;
-  other_talkers = λ few. absurd (cc (few, many));
-  apart = λ few. absurd (cc (few, many));
-  other_controllers = λ few. absurd (cc (few, many));
+  few_are = λ few. absurd (cc (few, many));
 }
 
 pub none_rests_on : (rest : Rest) (bit next : ℕ) (plan : List Talker) (talkers controllers : List Member) → NoneRests talkers → NoneRests controllers → RestHolds rest bit plan talkers controllers → RestHolds rest next plan talkers controllers
@@ -34,9 +32,7 @@ none_rests_on rest bit next plan talkers controllers t c h = record {
   controllers_awake = λ s. c;
   talkers_within = h.talkers_within;
   controllers_within = h.controllers_within;
-  other_talkers = h.other_talkers;
-  apart = h.apart;
-  other_controllers = h.other_controllers;
+  few_are = h.few_are;
 }
 
 -- where it is known that none does
@@ -73,18 +69,16 @@ left_awake old new left none k m e = by m.rests refl
     by false off = off
 
 -- behind steps of those that are awake
-pub left_holds : (rest : Rest) (bit : ℕ) (plan : List Talker) (t0 t1 c0 c1 : List Member) → LeavesResting t0 t1 → LeavesResting c0 c1 → ((one other : ℕ) → OthersRest one other t0 → OthersRest one other t1) → ((one other : ℕ) → OthersRest one other c0 → OthersRest one other c1) →
-    ((span : Span) → AwakeWithin span t0 → AwakeWithin span t1) → ((span : Span) → AwakeWithin span c0 → AwakeWithin span c1) → length t1 ≡ length t0 → RestHolds rest bit plan t0 c0 → RestHolds rest bit plan t1 c1
-left_holds rest bit plan t0 t1 c0 c1 t c others others_too w w_too size h = record {
+pub left_holds : (rest : Rest) (bit : ℕ) (plan : List Talker) (t0 t1 c0 c1 : List Member) → LeavesResting t0 t1 → LeavesResting c0 c1 →
+    ((span : Span) → AwakeWithin span t0 → AwakeWithin span t1) → ((span : Span) → AwakeWithin span c0 → AwakeWithin span c1) → RestHolds rest bit plan t0 c0 → RestHolds rest bit plan t1 c1
+left_holds rest bit plan t0 t1 c0 c1 t c w w_too h = record {
   talkers_rest = left_rests rest bit t0 t1 t h.talkers_rest;
   controllers_rest = left_rests rest bit c0 c1 c h.controllers_rest;
   talkers_spent = left_spent rest plan t0 t1 t h.talkers_spent;
   controllers_awake = λ s. left_awake c0 c1 c (h.controllers_awake s);
   talkers_within = w rest.talkers h.talkers_within;
   controllers_within = w_too rest.controllers h.controllers_within;
-  other_talkers = λ few. others rest.sender rest.off (h.other_talkers few);
-  apart = λ few. elim (h.apart few) [ inl not ↦ inl not | inr past ↦ inr (omega (arith, past, size)) ];
-  other_controllers = λ few. others_too rest.controllers.from rest.controllers.from (h.other_controllers few);
+  few_are = h.few_are;
 }
 
 -- where some woke
@@ -97,9 +91,7 @@ woken_holds old new bit plan t0 t1 c0 c1 same many w w_too t c h = record {
   controllers_awake = λ s. left_awake c0 c1 c (h.controllers_awake (sym same.spent_is ∙ s));
   talkers_within = w;
   controllers_within = w_too;
-  other_talkers = λ few. absurd (cc (few, many));
-  apart = λ few. absurd (cc (few, many));
-  other_controllers = λ few. absurd (cc (few, many));
+  few_are = λ few. absurd (cc (few, many));
 }
 
 -- behind a bit through which they rest
@@ -114,7 +106,8 @@ through_holds old new bit level plan t c through h = record {
   controllers_awake = λ s. h.controllers_awake (sym through.spent_is ∙ s);
   talkers_within = subst (λ span. AwakeWithin span t) (sym through.talkers_is) h.talkers_within;
   controllers_within = subst (λ span. AwakeWithin span c) (sym through.controllers_is) h.controllers_within;
-  other_talkers = λ few. subst (λ one. OthersRest one new.off t) (sym through.sender_is) (subst (λ other. OthersRest old.sender other t) (sym through.off_is) (h.other_talkers (sym through.few_is ∙ few)));
-  apart = λ few. subst (λ one. AreApart one new.off t) (sym through.sender_is) (subst (λ other. AreApart old.sender other t) (sym through.off_is) (h.apart (sym through.few_is ∙ few)));
-  other_controllers = λ few. subst (λ span. OthersRest span.from span.from c) (sym through.controllers_is) (h.other_controllers (sym through.few_is ∙ few));
+  few_are = λ few. let are = h.few_are (sym through.few_is ∙ few) in record {
+    talkers = subst (λ span. span.to ≤ span.from + 1) (sym through.talkers_is) are.talkers;
+    controllers = subst (λ span. span.to ≤ span.from + 1) (sym through.controllers_is) are.controllers;
+  };
 }

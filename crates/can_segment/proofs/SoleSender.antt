@@ -1,9 +1,8 @@
--- A bit at which one node alone sends, and all others rest but one that is in bus off.
-use Rattle.std.proofs.Common.{◌≡◌, ◌≢◌, ℕ, zero, suc, ◌+◌, ◌<◌, ◌≤◌, ◌&&◌, nat_le, cond, Bool, true, false, Some, None, IfSome, Option, List, [], ◌∷◌, length, slice_get, set, refl, sym, ap, subst, arith, inl, inr, ◌∙◌}
+-- A bit of which nothing is told, and one of those at which one node alone sends and all others rest.
+use Rattle.std.proofs.Common.{◌≡◌, ◌≢◌, ℕ, zero, suc, ◌+◌, ◌≤◌, ◌&&◌, nat_le, cond, Bool, true, false, Some, None, IfSome, Option, List, [], ◌∷◌, length, slice_get, refl, sym, ap, subst, arith, inl, inr, ◌∙◌}
 use Rattle.std.specs.List.{list_all}
-use Rattle.std.proofs.lemmas.Bool.{cases_eq}
 use Rattle.std.proofs.lemmas.Bool.Decides.{leb_tells}
-use Rattle.std.proofs.lemmas.List.{length-map, length-set}
+use Rattle.std.proofs.lemmas.List.{length-map}
 use Rattle.std.proofs.lemmas.Option.{slice_get_past, slice_get_within}
 use Rattle.bx_core.specs.TxBus.{Item, BusPast, BusCall}
 use Rattle.can_frame.specs.Frames.{FrameValue}
@@ -17,16 +16,16 @@ use Rattle.can_station.specs.Deeds.{AreQuiet}
 use Rattle.can_station.specs.Members.{PortSettles, PortStarts, Samples, TalkerStarts, drives_at, is_on, wants_at}
 use Rattle.can_station.specs.Places.{AtPlaces, AtBoth, MovesOne}
 use Rattle.can_station.specs.Ports.{item_of}
-use Rattle.can_segment.specs.Rests.{Drives, GoesQuietly, RestHolds, RestsThrough, SendsAlone, StartsNone, members_at}
-use Rattle.can_station.specs.RestingNodes.{AreApart, MayRecover, MemberRecovers, MemberSends, OneSends, OthersRest, TransmitsAll, caught_up, passes, woken}
+use Rattle.can_segment.specs.Rests.{Drives, GoesQuietly, driven_beside, RestHolds, RestsThrough, SendsAlone, StartsNone, members_at}
+use Rattle.can_station.specs.RestingNodes.{AllGo, MemberGoes, MemberSends, OneSends, OthersRest, TransmitsAll, caught_up, passes, woken}
 use Rattle.can_segment.specs.Segments.{AreFrom, sending_of_all}
-use Rattle.can_station.proofs.Places.{get_set_other, get_set_same, same_some, some_there}
+use Rattle.can_station.proofs.Places.{same_some, some_there}
 use Rattle.can_segment.proofs.Holds.{left_holds, through_holds}
 use Rattle.can_segment.proofs.Rests.{all_drive, all_quiet, controllers_sample, controllers_start, members_length, members_sample, talkers_start, transmits_real, wishes_none}
 use Rattle.can_segment.proofs.Shown.{map_at, map_there}
 use Rattle.can_station.proofs.Spans.{all_pass, within_places}
-use Rattle.can_segment.proofs.Woken.{awake_woken, left_places, others_places, resting_woken, same_list}
-use Rattle.can_segment.proofs.Going.{AllGo, MemberGoes, controllers_go, go_quiet, go_requests, go_samples, go_settles, go_shown, go_starts, talkers_go}
+use Rattle.can_segment.proofs.Woken.{awake_woken, left_places, resting_woken, same_list}
+use Rattle.can_segment.proofs.Going.{go_quiet, go_requests, go_samples, go_settles, go_shown, go_starts, one_goes}
 
 -- the one's level is that of the line
 sole_level : (place bit : ℕ) (before after : Listener) (level : Bool) (old new : List Member) → OneSends place bit before level after old new → level ≡ passes (drives_at bit) (slice_get old place)
@@ -54,19 +53,13 @@ one_passes test place [] h = refl
 one_passes test zero (x ∷ xs) h = ap (λ b. test x && b) (all_pass test xs (λ k m e. h (suc k) m e (λ is. omega (arith, is)))) ∙ and_true (test x)
 one_passes test (suc place) (x ∷ xs) h = ap (λ b. b && list_all test xs) (h zero x refl (λ is. omega (arith, is))) ∙ one_passes test place xs (λ k m e not. h (suc k) m e (λ is. not (omega (arith, is))))
 
-sole_drives : (sender off bit : ℕ) (members : List Member) → OthersRest sender off members → ((m : Member) → slice_get members sender ≡ Some m → m.rests ≡ false) → ((m : Member) → slice_get members off ≡ Some m → off ≢ sender → drives_at bit m ≡ true) →
-    list_all (λ m. cond m.rests true (drives_at bit m)) members ≡ passes (drives_at bit) (slice_get members sender)
-sole_drives sender off bit members others awake recessive =
-    one_passes (λ m. cond m.rests true (drives_at bit m)) sender members (λ k m e not. elim (cases_eq k off) [
-      | inl here ↦ drives m m.rests (recessive m (ap (slice_get members) (sym here) ∙ e) (λ is. not (here ∙ is)))
-      | inr other ↦ ap (λ b. cond b true (drives_at bit m)) (others k m e not other)
-    ]) ∙ by (slice_get members sender) refl
+-- so where the others rest
+sole_drives : (place bit : ℕ) (members : List Member) → OthersRest place members → ((m : Member) → slice_get members place ≡ Some m → m.rests ≡ false) →
+    driven_beside bit true members ≡ passes (drives_at bit) (slice_get members place)
+sole_drives place bit members others awake =
+    one_passes (λ m. cond m.rests true (drives_at bit m)) place members (λ k m e not. ap (λ b. cond b true (drives_at bit m)) (others k m e not)) ∙ by (slice_get members place) refl
   where
-    drives : (m : Member) (rests : Bool) → drives_at bit m ≡ true → cond rests true (drives_at bit m) ≡ true
-    drives m true is = refl
-    drives m false is = is
-
-    by : (found : Option Member) → slice_get members sender ≡ found → passes (λ m. cond m.rests true (drives_at bit m)) found ≡ passes (drives_at bit) found
+    by : (found : Option Member) → slice_get members place ≡ found → passes (λ m. cond m.rests true (drives_at bit m)) found ≡ passes (drives_at bit) found
     by None e = refl
     by (Some m) e = ap (λ b. cond b true (drives_at bit m)) (awake m e)
 
@@ -80,25 +73,13 @@ sends_there place bit before after level old new m moves e =
 sole_awake : (place bit : ℕ) (before after : Listener) (level : Bool) (old new : List Member) → MovesOne place (MemberSends bit before level after) old new → (m : Member) → slice_get old place ≡ Some m → m.rests ≡ false
 sole_awake place bit before after level old new moves m e = (sends_there place bit before after level old new m moves e).2.awake
 
--- the one in bus off drives recessive
-off_drives : (off bit : ℕ) (level : Bool) (mid new : List Member) → MovesOne off (MemberRecovers bit level) mid new → (m : Member) → slice_get mid off ≡ Some m → drives_at bit m ≡ true
-off_drives off bit level mid new moves m e =
-    let n = some_there new off (let within = slice_get_within mid off m e in omega (arith, within, moves.size)) in
-    driven (is_on bit m) (moves.at m n.0 e n.1).recovers.drives
-  where
-    driven : (on : Bool) → driven_by m.station.node ≡ true → cond on (driven_by m.station.node) true ≡ true
-    driven true is = is
-    driven false is = refl
-
 rests_through_alone : (rest : Rest) (place bit : ℕ) (after : Listener) (level : Bool) (old new : List Member) → OneSends place bit rest.listener level after old new →
-    RestsThrough bit level rest (record { listener = after; resting = rest.resting; known = rest.known; spent = rest.spent; talkers = rest.talkers; controllers = rest.controllers; few = rest.few; sender = rest.sender; off = rest.off; steady = rest.steady })
+    RestsThrough bit level rest (record { listener = after; resting = rest.resting; known = rest.known; spent = rest.spent; talkers = rest.talkers; controllers = rest.controllers; few = rest.few; settled = rest.settled; asleep = rest.asleep; steady = rest.steady; leader = rest.leader })
 rests_through_alone rest place bit after level old new h = record {
   resting = refl;
   talkers_is = refl;
   controllers_is = refl;
   few_is = refl;
-  sender_is = refl;
-  off_is = refl;
   known_is = refl;
   spent_is = refl;
   follows = h.step.sends.follows rest.known bit;
@@ -108,42 +89,39 @@ rests_through_alone rest place bit after level old new h = record {
 drives_alone : (rest : Rest) (place bit : ℕ) (after : Listener) (level : Bool) (old new : List Member) → OneSends place bit rest.listener level after old new → Drives rest true
 drives_alone rest place bit after level old new h = λ listening node at. sym (h.step.sends.others_drive node at)
 
-pub talker_alone : (rest : Rest) (bit : ℕ) (after : Listener) (level : Bool) (t0 t1 c : List Member) → rest.few ≡ true → length c ≤ rest.controllers.from → OneSends rest.sender bit rest.listener level after t0 t1 →
-    SendsAlone bit level rest (record { listener = after; resting = rest.resting; known = rest.known; spent = rest.spent; talkers = rest.talkers; controllers = rest.controllers; few = rest.few; sender = rest.sender; off = rest.off; steady = rest.steady }) t0 t1 c c
-talker_alone rest bit after level t0 t1 c few past h = record {
-  few = few;
+pub talker_alone : (rest : Rest) (sender controller bit : ℕ) (after : Listener) (level : Bool) (t0 t1 c : List Member) → length c ≤ controller → OneSends sender bit rest.listener level after t0 t1 →
+    SendsAlone bit level sender controller rest (record { listener = after; resting = rest.resting; known = rest.known; spent = rest.spent; talkers = rest.talkers; controllers = rest.controllers; few = rest.few; settled = rest.settled; asleep = rest.asleep; steady = rest.steady; leader = rest.leader }) t0 t1 c c
+talker_alone rest sender controller bit after level t0 t1 c past h = record {
   starts_none = inr h.step.sends.others_begin;
-  through = rests_through_alone rest rest.sender bit after level t0 t1 h;
-  drives = drives_alone rest rest.sender bit after level t0 t1 h;
+  through = rests_through_alone rest sender bit after level t0 t1 h;
+  drives = drives_alone rest sender bit after level t0 t1 h;
   talkers = h.moves;
-  controllers = none_moves rest.controllers.from (MemberSends bit rest.listener level after) c past;
-  level_is = sole_level rest.sender bit rest.listener after level t0 t1 h ∙ sym (and_true (passes (drives_at bit) (slice_get t0 rest.sender)))
-      ∙ ap (λ b. passes (drives_at bit) (slice_get t0 rest.sender) && b) (sym (none_passes rest.controllers.from bit c past));
+  controllers = none_moves controller (MemberSends bit rest.listener level after) c past;
+  level_is = sole_level sender bit rest.listener after level t0 t1 h ∙ sym (and_true (passes (drives_at bit) (slice_get t0 sender)))
+      ∙ ap (λ b. passes (drives_at bit) (slice_get t0 sender) && b) (sym (none_passes controller bit c past));
 }
 
-pub controller_alone : (rest : Rest) (bit : ℕ) (after : Listener) (level : Bool) (t c0 c1 : List Member) → rest.few ≡ true → length t ≤ rest.sender → OneSends rest.controllers.from bit rest.listener level after c0 c1 →
-    SendsAlone bit level rest (record { listener = after; resting = rest.resting; known = rest.known; spent = rest.spent; talkers = rest.talkers; controllers = rest.controllers; few = rest.few; sender = rest.sender; off = rest.off; steady = rest.steady }) t t c0 c1
-controller_alone rest bit after level t c0 c1 few past h = record {
-  few = few;
+pub controller_alone : (rest : Rest) (sender controller bit : ℕ) (after : Listener) (level : Bool) (t c0 c1 : List Member) → length t ≤ sender → OneSends controller bit rest.listener level after c0 c1 →
+    SendsAlone bit level sender controller rest (record { listener = after; resting = rest.resting; known = rest.known; spent = rest.spent; talkers = rest.talkers; controllers = rest.controllers; few = rest.few; settled = rest.settled; asleep = rest.asleep; steady = rest.steady; leader = rest.leader }) t t c0 c1
+controller_alone rest sender controller bit after level t c0 c1 past h = record {
   starts_none = inr h.step.sends.others_begin;
-  through = rests_through_alone rest rest.controllers.from bit after level c0 c1 h;
-  drives = drives_alone rest rest.controllers.from bit after level c0 c1 h;
-  talkers = none_moves rest.sender (MemberSends bit rest.listener level after) t past;
+  through = rests_through_alone rest controller bit after level c0 c1 h;
+  drives = drives_alone rest controller bit after level c0 c1 h;
+  talkers = none_moves sender (MemberSends bit rest.listener level after) t past;
   controllers = h.moves;
-  level_is = sole_level rest.controllers.from bit rest.listener after level c0 c1 h ∙ ap (λ b. b && passes (drives_at bit) (slice_get c0 rest.controllers.from)) (sym (none_passes rest.sender bit t past));
+  level_is = sole_level controller bit rest.listener after level c0 c1 h ∙ ap (λ b. b && passes (drives_at bit) (slice_get c0 controller)) (sym (none_passes sender bit t past));
 }
 
 -- all rest, and the line is recessive
-pub none_alone : (old new : Rest) (bit : ℕ) (level : Bool) (t c : List Member) → old.few ≡ true → length t ≤ old.sender → length c ≤ old.controllers.from → StartsNone old → Drives old level → level ≡ true → RestsThrough bit level old new →
-    SendsAlone bit level old new t t c c
-none_alone old new bit level t c few no_talker no_controller starts drives is through = record {
-  few = few;
+pub none_alone : (old new : Rest) (sender controller bit : ℕ) (level : Bool) (t c : List Member) → length t ≤ sender → length c ≤ controller → StartsNone old → Drives old level → level ≡ true → RestsThrough bit level old new →
+    SendsAlone bit level sender controller old new t t c c
+none_alone old new sender controller bit level t c no_talker no_controller starts drives is through = record {
   starts_none = starts;
   through = through;
   drives = subst (Drives old) is drives;
-  talkers = none_moves old.sender (MemberSends bit old.listener level new.listener) t no_talker;
-  controllers = none_moves old.controllers.from (MemberSends bit old.listener level new.listener) c no_controller;
-  level_is = is ∙ ap (λ b. b && true) (sym (none_passes old.sender bit t no_talker)) ∙ ap (λ b. passes (drives_at bit) (slice_get t old.sender) && b) (sym (none_passes old.controllers.from bit c no_controller));
+  talkers = none_moves sender (MemberSends bit old.listener level new.listener) t no_talker;
+  controllers = none_moves controller (MemberSends bit old.listener level new.listener) c no_controller;
+  level_is = is ∙ ap (λ b. b && true) (sym (none_passes sender bit t no_talker)) ∙ ap (λ b. passes (drives_at bit) (slice_get t sender) && b) (sym (none_passes controller bit c no_controller));
 }
 
 pub if_some : {A : Type 0} (P Q : A → Type 0) (o : Option A) → ((x : A) → P x → Q x) → IfSome o P → IfSome o Q
@@ -154,106 +132,79 @@ pub both_if_some : {A : Type 0} (P Q R : A → Type 0) (o : Option A) → ((x : 
 both_if_some P Q R None h one other = tt
 both_if_some P Q R (Some x) h one other = h x one other
 
--- no talker is in bus off
-pub none_recovers : (bit : ℕ) (level : Bool) (old new : Rest) (t0 t1 c0 c1 : List Member) → length t0 ≤ old.off → SendsAlone bit level old new t0 t1 c0 c1 → GoesQuietly bit level old new t0 t1 c0 c1
-none_recovers bit level old new t0 t1 c0 c1 none h = record {
-  mid = t1;
-  sends = h;
-  recovers = record { at = λ a b p q. absurd (let within = slice_get_within t1 old.off a p in omega (arith, within, none, h.talkers.size)); others = λ k not. refl; size = refl };
+-- where all others rest
+others_drive : (place bit : ℕ) (before after : Listener) (level : Bool) (old new : List Member) → OthersRest place old → MovesOne place (MemberSends bit before level after) old new → driven_beside bit true old ≡ passes (drives_at bit) (slice_get old place)
+others_drive place bit before after level old new others moves =
+    sole_drives place bit old others (sole_awake place bit before after level old new moves)
+
+pub alone_goes_quietly : (bit : ℕ) (level : Bool) (sender controller : ℕ) (old new : Rest) (t0 t1 c0 c1 : List Member) → OthersRest sender t0 → OthersRest controller c0 → SendsAlone bit level sender controller old new t0 t1 c0 c1 → GoesQuietly bit level old new t0 t1 c0 c1
+alone_goes_quietly bit level sender controller old new t0 t1 c0 c1 others others_too h = record {
+  starts_none = h.starts_none;
+  through = h.through;
+  resting = true;
+  drives = h.drives;
+  talkers = one_goes sender bit old.listener new.listener level t0 t1 others h.talkers;
+  controllers = one_goes controller bit old.listener new.listener level c0 c1 others_too h.controllers;
+  level_is = h.level_is ∙ ap (λ b. b && passes (drives_at bit) (slice_get c0 controller)) (sym (others_drive sender bit old.listener new.listener level t0 t1 others h.talkers))
+      ∙ ap (λ b. driven_beside bit true t0 && b) (sym (others_drive controller bit old.listener new.listener level c0 c1 others_too h.controllers));
 }
-
--- one is, and has sampled the level behind the one that sends
-pub recovered_beside : (bit : ℕ) (level : Bool) (old new : Rest) (t0 t1 c0 c1 : List Member) (before then after : Member) → old.off < length t0 → AreApart old.sender old.off t0 → slice_get t0 old.off ≡ Some before → slice_get t1 old.off ≡ Some then →
-    MayRecover bit before → SendsAlone bit level old new t0 t1 c0 c1 → ((at : ℕ) → MayRecover at then → MemberRecovers at level then after) → GoesQuietly bit level old new t0 (set t1 old.off after) c0 c1
-recovered_beside bit level old new t0 t1 c0 c1 before then after there apart here later may sends recovers =
-    let not : old.off ≢ old.sender = λ is. elim apart [ inl apart ↦ apart (sym is) | inr past ↦ omega (arith, there, past) ] in
-    let same : before ≡ then = same_some before then (sym here ∙ sym (sends.talkers.others old.off not) ∙ later) in
-    let step = recovers bit (subst (MayRecover bit) same may) in
-    record {
-      mid = t1;
-      sends = sends;
-      recovers = record {
-        at = λ a b p q.
-            let same_a : then ≡ a = same_some then a (sym later ∙ p) in
-            let same_b : after ≡ b = same_some after b (sym (get_set_same t1 old.off after (omega (arith, there, sends.talkers.size))) ∙ q) in
-            subst (λ m. MemberRecovers bit level m b) same_a (subst (MemberRecovers bit level then) same_b step);
-        others = λ k other. get_set_other t1 old.off k after other;
-        size = length-set t1 old.off after;
-      };
-    }
-
--- what all do at such a bit
-talkers_all_go : (plan : List Talker) (bit : ℕ) (level : Bool) (old new : Rest) (t0 t1 c0 c1 : List Member) → GoesQuietly bit level old new t0 t1 c0 c1 → RestHolds old bit plan t0 c0 → AllGo bit level t0 t1
-talkers_all_go plan bit level old new t0 t1 c0 c1 h rests =
-    let few = h.sends.few in
-    talkers_go old.sender old.off bit old.listener new.listener level t0 h.mid t1 (rests.other_talkers few) (rests.apart few) h.sends.talkers h.recovers
-
-controllers_all_go : (plan : List Talker) (bit : ℕ) (level : Bool) (old new : Rest) (t0 t1 c0 c1 : List Member) → GoesQuietly bit level old new t0 t1 c0 c1 → RestHolds old bit plan t0 c0 → AllGo bit level c0 c1
-controllers_all_go plan bit level old new t0 t1 c0 c1 h rests = controllers_go old.controllers.from bit old.listener new.listener level c0 c1 (rests.other_controllers h.sends.few) h.sends.controllers
 
 pub talkers_start_alone : (plan : List Talker) (bit : ℕ) (level : Bool) (old new : Rest) (t0 t1 c0 c1 : List Member) → GoesQuietly bit level old new t0 t1 c0 c1 → RestHolds old bit plan t0 c0 →
     AtPlaces (TalkerStarts bit plan) (members_at old bit t0) (members_at old bit t0)
 talkers_start_alone plan bit level old new t0 t1 c0 c1 h rests =
-    talkers_start old bit plan t0 t0 h.sends.starts_none rests.talkers_rest rests.talkers_spent (go_starts bit level plan t0 t1 (talkers_all_go plan bit level old new t0 t1 c0 c1 h rests))
+    talkers_start old bit plan t0 t0 h.starts_none rests.talkers_rest rests.talkers_spent (go_starts bit level plan t0 t1 h.talkers)
 
 pub talkers_sample_alone : (plan : List Talker) (bit : ℕ) (level : Bool) (old new : Rest) (t0 t1 c0 c1 : List Member) → GoesQuietly bit level old new t0 t1 c0 c1 → RestHolds old bit plan t0 c0 →
     AtPlaces (λ k. Samples bit level) (members_at old bit t0) (members_at new (bit + 1) t1)
 talkers_sample_alone plan bit level old new t0 t1 c0 c1 h rests =
-    members_sample old new bit 0 level [] t0 t1 rests.talkers_rest (λ k m e is. refl) (λ k m e is. h.sends.through) (go_samples bit level t0 t1 (talkers_all_go plan bit level old new t0 t1 c0 c1 h rests))
+    members_sample old new bit 0 level [] t0 t1 rests.talkers_rest (λ k m e is. refl) (λ k m e is. h.through) (go_samples bit level t0 t1 h.talkers)
 
 pub controllers_start_alone : {P : Type 0} (after : P → BusPast → Type 0) (asked : P → List BusCall → Type 0) (transmitting : P → Option Item) (stays : P → P → Type 0) (plan : List Talker) (bit : ℕ) (level : Bool) (old new : Rest)
     (t0 t1 c0 c1 : List Member) (ports : List P) → ((x : P) → stays x x) → GoesQuietly bit level old new t0 t1 c0 c1 → RestHolds old bit plan t0 c0 → TransmitsAll transmitting (members_at old bit c0) ports → length ports ≡ length c0 →
     AtBoth (λ k. PortStarts after asked transmitting stays bit) (members_at old bit c0) (members_at old bit c0) ports ports
 controllers_start_alone after asked transmitting stays plan bit level old new t0 t1 c0 c1 ports same h rests whole sizes =
     let sends = transmits_real transmitting old bit c0 ports whole in
-    controllers_start after asked transmitting stays old bit c0 c0 ports ports same h.sends.starts_none rests.controllers_rest rests.controllers_awake sends sizes
-    (go_requests after asked transmitting stays bit level c0 c1 ports same (controllers_all_go plan bit level old new t0 t1 c0 c1 h rests) sends)
+    controllers_start after asked transmitting stays old bit c0 c0 ports ports same h.starts_none rests.controllers_rest rests.controllers_awake sends sizes
+    (go_requests after asked transmitting stays bit level c0 c1 ports same h.controllers sends)
 
 pub controllers_settle_alone : {P : Type 0} (after : P → BusPast → Type 0) (asked : P → List BusCall → Type 0) (transmitting : P → Option Item) (sink : P → List FrameValue → Type 0) (stays : P → P → Type 0) (plan : List Talker) (bit : ℕ) (level : Bool)
     (old new : Rest) (t0 t1 c0 c1 : List Member) (ports : List P) → ((x : P) → stays x x) → GoesQuietly bit level old new t0 t1 c0 c1 → RestHolds old bit plan t0 c0 → TransmitsAll transmitting (members_at old bit c0) ports → length ports ≡ length c0 →
     AtBoth (λ k. PortSettles after asked transmitting sink stays bit level) (members_at old bit c0) (members_at new (bit + 1) c1) ports ports
 controllers_settle_alone after asked transmitting sink stays plan bit level old new t0 t1 c0 c1 ports same h rests whole sizes =
     let sends = transmits_real transmitting old bit c0 ports whole in
-    controllers_sample after asked transmitting sink stays old new bit 0 level [] c0 c1 ports ports same rests.controllers_rest (λ k m e is. refl) (λ k m e is. h.sends.through) sends sizes
-    (go_settles after asked transmitting sink stays bit level c0 c1 ports same (controllers_all_go plan bit level old new t0 t1 c0 c1 h rests) sends)
+    controllers_sample after asked transmitting sink stays old new bit 0 level [] c0 c1 ports ports same rests.controllers_rest (λ k m e is. refl) (λ k m e is. h.through) sends sizes
+    (go_settles after asked transmitting sink stays bit level c0 c1 ports same h.controllers sends)
 
 -- the line has the AND of what all drive
 pub level_alone : (plan : List Talker) (bit : ℕ) (level : Bool) (old new : Rest) (t0 t1 c0 c1 : List Member) → GoesQuietly bit level old new t0 t1 c0 c1 → RestHolds old bit plan t0 c0 →
     level ≡ (list_all (drives_at bit) (members_at old bit t0) && list_all (drives_at bit) (members_at old bit c0))
 level_alone plan bit level old new t0 t1 c0 c1 h rests =
-    let sends = h.sends in
-    let place = old.controllers.from in
-    let talkers = sole_drives old.sender old.off bit t0 (rests.other_talkers sends.few) (sole_awake old.sender bit old.listener new.listener level t0 h.mid sends.talkers)
-    (λ m e not. off_drives old.off bit level h.mid t1 h.recovers m (sends.talkers.others old.off not ∙ e)) in
-    let controllers = sole_drives place place bit c0 (rests.other_controllers sends.few) (sole_awake place bit old.listener new.listener level c0 c1 sends.controllers) (λ m e not. absurd (not refl)) in
-    sends.level_is
-    ∙ ap (λ b. b && passes (drives_at bit) (slice_get c0 place)) (sym talkers ∙ all_drive old bit true t0 sends.drives rests.talkers_rest)
-    ∙ ap (λ b. list_all (drives_at bit) (members_at old bit t0) && b) (sym controllers ∙ all_drive old bit true c0 sends.drives rests.controllers_rest)
+    h.level_is ∙ ap (λ b. b && driven_beside bit h.resting c0) (all_drive old bit h.resting t0 h.drives rests.talkers_rest)
+    ∙ ap (λ b. list_all (drives_at bit) (members_at old bit t0) && b) (all_drive old bit h.resting c0 h.drives rests.controllers_rest)
 
 -- those that rest still do,
 pub rests_alone : (plan : List Talker) (bit : ℕ) (level : Bool) (old new : Rest) (t0 t1 c0 c1 : List Member) → GoesQuietly bit level old new t0 t1 c0 c1 → RestHolds old bit plan t0 c0 → RestHolds new (bit + 1) plan t1 c1
 rests_alone plan bit level old new t0 t1 c0 c1 h rests =
-    let talkers = talkers_all_go plan bit level old new t0 t1 c0 c1 h rests in
-    let controllers = controllers_all_go plan bit level old new t0 t1 c0 c1 h rests in
+    let talkers = h.talkers in
+    let controllers = h.controllers in
     left_holds new (bit + 1) plan t0 t1 c0 c1 (left_places (λ k. MemberGoes bit level) t0 t1 talkers) (left_places (λ k. MemberGoes bit level) c0 c1 controllers)
-    (λ one other. others_places (λ k. MemberGoes bit level) one other t0 t1 talkers) (λ one other. others_places (λ k. MemberGoes bit level) one other c0 c1 controllers)
-    (λ span. within_places (λ k. MemberGoes bit level) span t0 t1 talkers) (λ span. within_places (λ k. MemberGoes bit level) span c0 c1 controllers) talkers.size (through_holds old new bit level plan t0 c0 h.sends.through rests)
+    (λ span. within_places (λ k. MemberGoes bit level) span t0 t1 talkers) (λ span. within_places (λ k. MemberGoes bit level) span c0 c1 controllers) (through_holds old new bit level plan t0 c0 h.through rests)
 
 -- nothing is told,
 pub quiet_alone : (plan : List Talker) (bit : ℕ) (level : Bool) (old new : Rest) (t0 t1 c0 c1 : List Member) → GoesQuietly bit level old new t0 t1 c0 c1 → RestHolds old bit plan t0 c0 →
     AreQuiet bit (members_at new (bit + 1) t1) × AreQuiet bit (members_at new (bit + 1) c1)
 quiet_alone plan bit level old new t0 t1 c0 c1 h rests =
     let behind = rests_alone plan bit level old new t0 t1 c0 c1 h rests in (
-      all_quiet new bit t1 behind.talkers_rest (go_quiet bit level t0 t1 (talkers_all_go plan bit level old new t0 t1 c0 c1 h rests)),
-      all_quiet new bit c1 behind.controllers_rest (go_quiet bit level c0 c1 (controllers_all_go plan bit level old new t0 t1 c0 c1 h rests)),
+      all_quiet new bit t1 behind.talkers_rest (go_quiet bit level t0 t1 h.talkers),
+      all_quiet new bit c1 behind.controllers_rest (go_quiet bit level c0 c1 h.controllers),
     )
 
 -- and what is shown of counters stays shown
 pub shown_alone : (first : ℕ) (plan : List Talker) (bit : ℕ) (level : Bool) (old new : Rest) (t0 t1 c0 c1 : List Member) (counters : List Counters) → GoesQuietly bit level old new t0 t1 c0 c1 → RestHolds old bit plan t0 c0 →
     (AreFrom first t0 counters → AreFrom first t1 counters) × (AreFrom first c0 counters → AreFrom first c1 counters)
 shown_alone first plan bit level old new t0 t1 c0 c1 counters h rests = (
-  go_shown first bit level t0 t1 counters (talkers_all_go plan bit level old new t0 t1 c0 c1 h rests),
-  go_shown first bit level c0 c1 counters (controllers_all_go plan bit level old new t0 t1 c0 c1 h rests),
+  go_shown first bit level t0 t1 counters h.talkers,
+  go_shown first bit level c0 c1 counters h.controllers,
 )
 
 and_false : (b : Bool) → (b && false) ≡ false
@@ -271,10 +222,10 @@ wishes_alone plan bit level old new t0 t1 c0 c1 h rests k m e =
     none_at x is = ap (λ b. is_on bit x && b) is ∙ and_false (is_on bit x)
 
     go : AllGo bit level c0 c1
-    go = controllers_all_go plan bit level old new t0 t1 c0 c1 h rests
+    go = h.controllers
 
     by : (x : Member) → slice_get c0 k ≡ Some x → (b : Bool) → x.rests ≡ b → wants_at bit (woken old.listener bit x) ≡ false
-    by x f true is = ap (wants_at bit) (resting_woken old.listener bit x is) ∙ none_at (caught_up old.listener bit x) (wishes_none old c0 h.sends.starts_none rests.controllers_awake k x f is x.station.node bit)
+    by x f true is = ap (wants_at bit) (resting_woken old.listener bit x is) ∙ none_at (caught_up old.listener bit x) (wishes_none old c0 h.starts_none rests.controllers_awake k x f is x.station.node bit)
     by x f false is =
         let n = some_there c1 k (let there = slice_get_within c0 k x f in omega (arith, there, go.size)) in
         ap (wants_at bit) (awake_woken old.listener bit x is) ∙ none_at x ((go.at k x n.0 f n.1).steps is).begins_none

@@ -7,7 +7,7 @@ use Rattle.can_node.specs.declared.node.Node.{Node}
 use Rattle.can_node.specs.declared.listener.Listener.{Listener}
 use Rattle.can_station.specs.declared.member.Member.{Member}
 use Rattle.can_station.specs.Places.{AtPlaces, AtBoth}
-use Rattle.can_station.specs.RestingNodes.{IfAwake, IfAwakeBoth, LeavesResting, MayWake, NoneRests, OthersRest, caught_up, woken}
+use Rattle.can_station.specs.RestingNodes.{IfAwake, IfAwakeBoth, LeavesResting, MayWake, NoneRests, caught_up, woken}
 use Rattle.can_station.proofs.Places.{some_there}
 use Rattle.can_segment.proofs.Shown.{map_at, map_there}
 
@@ -147,20 +147,3 @@ left_both Step old new from to sizes h k m e is =
 
 pub left_on : (old mid new : List Member) → LeavesResting old mid → LeavesResting mid new → LeavesResting old new
 left_on old mid new one other k m e is = one k m (other k m e is) is
-
--- the others still rest
-pub others_places : (Step : ℕ → Member → Member → Type 0) (one other : ℕ) (old new : List Member) → AtPlaces (λ k. IfAwake (Step k)) old new → OthersRest one other old → OthersRest one other new
-others_places Step one other old new h others k m e not nor =
-    let x = some_there old k (let within = slice_get_within new k m e in omega (arith, within, h.size)) in
-    let is = others k x.0 x.1 not nor in
-    ap (λ y. y.rests) ((h.at k x.0 m x.1 e).rests_on is) ∙ is
-
-pub others_both : {P : Type 0} (Step : ℕ → Member → Member → P → P → Type 0) (one other : ℕ) (old new : List Member) (from to : List P) → length from ≡ length old → AtBoth (λ k. IfAwakeBoth (Step k)) old new from to →
-    OthersRest one other old → OthersRest one other new
-others_both Step one other old new from to sizes h others k m e not nor =
-    let within = slice_get_within new k m e in
-    let x = some_there old k (omega (arith, within, h.size)) in
-    let p = some_there from k (omega (arith, within, h.size, sizes)) in
-    let q = some_there to k (omega (arith, within, h.size, h.size_too, sizes)) in
-    let is = others k x.0 x.1 not nor in
-    ap (λ y. y.rests) ((h.at k x.0 m p.0 q.0 x.1 e p.1 q.1).rests_on is).0 ∙ is

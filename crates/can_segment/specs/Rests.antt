@@ -1,5 +1,6 @@
 -- Nodes that are left alone while a listener follows the line for them. Private clauses cite it.
-use Rattle.std.specs.Prelude.{◌≡◌, ◌⊎◌, ℕ, ◌≤◌, ◌&&◌, Bool, true, false, None, Some, List, map, slice_get}
+use Rattle.std.specs.Prelude.{◌≡◌, ◌⊎◌, ℕ, ◌+◌, ◌≤◌, ◌&&◌, Bool, true, false, None, Some, List, map, slice_get, if◌then◌else◌}
+use Rattle.std.specs.List.{list_all}
 use Rattle.can_confinement.specs.KnownCounts.{Knows}
 use Rattle.can_node.specs.Listener.{Follows, IsListening, caught_up as node_caught_up}
 use Rattle.can_node.specs.Node.{counters_in, driven_by, may_begin}
@@ -10,7 +11,7 @@ use Rattle.can_station.specs.declared.plan.Talker.{Talker}
 use Rattle.can_segment.specs.declared.rest.Rest.{Rest}
 use Rattle.can_station.specs.Deeds.{IsQuiet}
 use Rattle.can_station.specs.Members.{drives_at}
-use Rattle.can_station.specs.RestingNodes.{AreApart, MemberRecovers, AwakeWithin, NoneRests, OthersRest, woken, LeavesResting, MayLieDown, passes, MemberSends}
+use Rattle.can_station.specs.RestingNodes.{AllGo, AreAlike, AwakeWithin, LeavesResting, MayLieDown, MemberSends, NoneRests, passes, woken}
 use Rattle.can_station.specs.Places.{MovesOne}
 
 -- nodes as they are before this bit
@@ -34,6 +35,11 @@ abbrev pub AreSpent : Rest → List Talker → List Member → Type 0
 AreSpent rest talkers members =
     rest.spent ≡ true → (k : ℕ) (m : Member) (talker : Talker) → slice_get members k ≡ Some m → slice_get talkers k ≡ Some talker → m.rests ≡ true → slice_get talker.frames.items m.station.completed ≡ None
 
+-- one talker is awake at most, and one controller
+pub record AreFew (rest : Rest) : Type 0 where
+  pub talkers : rest.talkers.to ≤ rest.talkers.from + 1
+  pub controllers : rest.controllers.to ≤ rest.controllers.from + 1
+
 -- what stands before a bit of those that rest
 pub record RestHolds (rest : Rest) (bit : ℕ) (plan : List Talker) (talkers controllers : List Member) : Type 0 where
   pub talkers_rest : AreResting rest bit talkers
@@ -42,9 +48,7 @@ pub record RestHolds (rest : Rest) (bit : ℕ) (plan : List Talker) (talkers con
   pub controllers_awake : rest.spent ≡ true → NoneRests controllers
   pub talkers_within : AwakeWithin rest.talkers talkers
   pub controllers_within : AwakeWithin rest.controllers controllers
-  pub other_talkers : rest.few ≡ true → OthersRest rest.sender rest.off talkers
-  pub apart : rest.few ≡ true → AreApart rest.sender rest.off talkers
-  pub other_controllers : rest.few ≡ true → OthersRest rest.controllers.from rest.controllers.from controllers
+  pub few_are : rest.few ≡ true → AreFew rest
 
 -- no node that rests wants to start, or none has anything to
 abbrev pub StartsNone : Rest → Type 0
@@ -60,8 +64,6 @@ pub record RestsThrough (bit : ℕ) (level : Bool) (old new : Rest) : Type 0 whe
   pub talkers_is : new.talkers ≡ old.talkers
   pub controllers_is : new.controllers ≡ old.controllers
   pub few_is : new.few ≡ old.few
-  pub sender_is : new.sender ≡ old.sender
-  pub off_is : new.off ≡ old.off
   pub known_is : new.known ≡ old.known
   pub spent_is : new.spent ≡ old.spent
   pub follows : Follows old.known old.listener bit level new.listener
@@ -106,19 +108,33 @@ pub record Chooses (old new : Rest) : Type 0 where
   pub controllers_is : new.controllers ≡ old.controllers
   pub chosen : IsSame old new ⊎ (old.resting ≡ false)
 
--- A bit at which all nodes rest, or all but one that sends, and but a talker that is in bus off: the line has the level that
--- the one drives, or else is recessive.
-pub record SendsAlone (bit : ℕ) (level : Bool) (old new : Rest) (t0 t1 c0 c1 : List Member) : Type 0 where
-  pub few : old.few ≡ true
+-- nodes may have come to rest before this bit, and each is like the one before it for which it stands
+pub record ComesToRest (bit : ℕ) (plan : List Talker) (old new : Rest) (t0 t1 c0 c1 : List Member) : Type 0 where
+  pub talkers : AreAlike (members_at old bit t0) (members_at new bit t1)
+  pub controllers : AreAlike (members_at old bit c0) (members_at new bit c1)
+  pub holds : RestHolds new bit plan t1 c1
+
+-- A bit at which the talker at the first of these places sends on, or the controller at the second, or none, and the listener
+-- follows for those that rest: the line has the level that the one drives, or else is recessive.
+pub record SendsAlone (bit : ℕ) (level : Bool) (talker controller : ℕ) (old new : Rest) (t0 t1 c0 c1 : List Member) : Type 0 where
   pub starts_none : StartsNone old
   pub through : RestsThrough bit level old new
   pub drives : Drives old true
-  pub talkers : MovesOne old.sender (MemberSends bit old.listener level new.listener) t0 t1
-  pub controllers : MovesOne old.controllers.from (MemberSends bit old.listener level new.listener) c0 c1
-  pub level_is : level ≡ (passes (drives_at bit) (slice_get t0 old.sender) && passes (drives_at bit) (slice_get c0 old.controllers.from))
+  pub talkers : MovesOne talker (MemberSends bit old.listener level new.listener) t0 t1
+  pub controllers : MovesOne controller (MemberSends bit old.listener level new.listener) c0 c1
+  pub level_is : level ≡ (passes (drives_at bit) (slice_get t0 talker) && passes (drives_at bit) (slice_get c0 controller))
 
--- so that the one in bus off samples that level too
+-- the AND of what these drive at a bit, of which those that rest drive this level
+abbrev pub driven_beside : ℕ → Bool → List Member → Bool
+driven_beside bit resting = list_all (λ member. if member.rests then resting else drives_at bit member)
+
+-- A bit at which nothing is told of any node: the listener follows for those that rest, and those that are awake sample the
+-- AND of what all drive.
 pub record GoesQuietly (bit : ℕ) (level : Bool) (old new : Rest) (t0 t1 c0 c1 : List Member) : Type 0 where
-  pub mid : List Member
-  pub sends : SendsAlone bit level old new t0 mid c0 c1
-  pub recovers : MovesOne old.off (MemberRecovers bit level) mid t1
+  pub starts_none : StartsNone old
+  pub through : RestsThrough bit level old new
+  pub resting : Bool
+  pub drives : Drives old resting
+  pub talkers : AllGo bit level t0 t1
+  pub controllers : AllGo bit level c0 c1
+  pub level_is : level ≡ (driven_beside bit resting t0 && driven_beside bit resting c0)

@@ -54,10 +54,22 @@ impl Awake {
         self.span.to = next;
     }
 
+    /// How many rest.
+    pub(crate) fn resting(&self) -> usize {
+        self.nodes.saturating_sub(self.awake)
+    }
+
     /// Whether more of both listen that are awake than rest.
     pub(crate) fn outnumber(&self, other: &Awake) -> bool {
-        let awake = self.awake.saturating_add(other.awake);
-        let resting = self.nodes.saturating_add(other.nodes).saturating_sub(awake);
-        resting < self.listening.saturating_add(other.listening)
+        self.resting().saturating_add(other.resting())
+            < self.listening.saturating_add(other.listening)
+    }
+}
+
+/// The nodes at these places, as far as there are any.
+pub(crate) fn nodes_within(members: &[Member], places: Span) -> &[Member] {
+    match members.get(places.from..places.to) {
+        Some(members) => members,
+        None => &[],
     }
 }

@@ -6,7 +6,6 @@ mod awake;
 mod counts_shown;
 mod leader;
 mod make_bit;
-mod pair;
 mod record;
 mod rest;
 mod seg_fault;

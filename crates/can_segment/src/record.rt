@@ -1,7 +1,10 @@
 //! What became of a segment.
 
+ghost use Rattle.std.specs.Prelude.{◌≡◌, ◌+◌, ◌*◌, ◌<◌, ◌≤◌, vec_len, vec_capacity, OnOk};
+
 use can_node::Counters;
 use can_station::Event;
+use std::alloc::AllocError;
 
 /// What a segment did.
 #[derive(Drop)]
@@ -12,4 +15,17 @@ pub struct Record {
     pub events: Vec<Event>,
     /// The error counters behind the last bit, in the order of nodes.
     pub counters: Vec<Counters>,
+}
+
+/// Room for one level and for three events of each node.
+pub(crate) fn make_room(made: &mut Record, nodes: usize) -> Result<(), AllocError>
+    requires { nodes ≤ 16 }
+    ensures levels { made.new.levels.items ≡ made.old.levels.items }
+    ensures events { made.new.events.items ≡ made.old.events.items }
+    ensures counters { made.new.counters ≡ made.old.counters }
+    ensures level_room { OnOk result (vec_len made.new.levels < vec_capacity made.new.levels) }
+    ensures event_room { OnOk result (vec_len made.new.events + 3 * nodes ≤ vec_capacity made.new.events) }
+{
+    made.levels.reserve(1)?;
+    made.events.reserve(3 * nodes)
 }

@@ -1,11 +1,13 @@
 //! Nodes that are left alone while a listener follows the line for them.
 
 ghost use Rattle.std.specs.Prelude.{◌≡◌, ◌+◌, ◌≤◌, true, false, ℕ, length};
-ghost use Rattle.can_station.specs.RestingNodes.{AreAlike, IsWhole, LeavesResting, MayLieDown, NoneRests, Undisturbed};
+ghost use Rattle.can_station.specs.RestingNodes.{IsWhole, LeavesResting, MayLieDown, NoneRests, Undisturbed};
 ghost use Rattle.can_segment.specs.Rests.{
+  AreFew,
   AreResting,
   AreSpent,
   Chooses,
+  ComesToRest,
   Drives,
   GoesThrough,
   IsLess,
@@ -18,11 +20,12 @@ ghost use Rattle.can_segment.specs.Rests.{
 };
 ghost use Rattle.can_station.specs.Places.{AtPlaces};
 
-use crate::awake::Awake;
-use crate::leader::listener_of_most;
-use crate::pair::Pair;
+use crate::awake::{Awake, nodes_within};
+use crate::leader::{Leader, Votes};
 use can_node::{KnownCounts, Listener, Node};
-use can_station::{Member, NodeFault, Span, Talker, wake_all, wake_disturbed, wake_unspent};
+use can_station::{
+    Member, NodeFault, Span, Talker, fall_silent, wake_all, wake_disturbed, wake_unspent,
+};
 
 /// What is held alike for all nodes that rest: which those are each node tells itself. A listener has come as far as
 /// each of them would have.
@@ -38,13 +41,15 @@ pub(crate) struct Rest {
     // all talkers rest but some of those at these places, and so do all controllers
     pub(crate) talkers: Span,
     pub(crate) controllers: Span,
-    // all talkers rest but those at these two places, of which the second may be in bus off, and all controllers but
-    // the first of theirs; a place behind the last is none
+    // each of these spans has one place at most
     pub(crate) few: bool,
-    pub(crate) sender: usize,
-    pub(crate) off: usize,
+    // none woke since these spans were taken, and so many rested then
+    settled: bool,
+    asleep: usize,
     // those that rest read on in the stuffed region at the last bit, and before it
     steady: bool,
+    // of the talker whose listener was chosen last
+    leader: usize,
 }
 
 impl Rest {
@@ -63,9 +68,10 @@ impl Rest {
             talkers: Span::whole(talkers),
             controllers: Span::whole(controllers),
             few: false,
-            sender: talkers,
-            off: talkers,
+            settled: false,
+            asleep: 0,
             steady: false,
+            leader: 0,
         }
     }
 
@@ -94,6 +100,7 @@ impl Rest {
         ensures controllers { IsWhole (length controllers.now) self.new.controllers }
     {
         self.few = false;
+        self.settled = false;
         self.steady = false;
         self.talkers = Span::whole(talkers.len());
         self.controllers = Span::whole(controllers.len());
@@ -217,8 +224,8 @@ impl Rest {
         self.wake(plan, talkers, controllers, bit);
     }
 
-    /// Nodes come to rest before this bit that listen and have come equally far. At the bit before something was told
-    /// of a node, or nothing.
+    /// Nodes come to rest before this bit that listen and have come equally far, and nothing is told any more of those
+    /// that don't. At the bit before something was told of a node, or nothing.
     pub(crate) fn come_to_rest(
         &mut self,
         plan: &[Talker],
@@ -229,10 +236,25 @@ impl Rest {
     )
         requires plan { length plan.now ≡ length talkers.old }
         requires holds { RestHolds self.old bit plan.now talkers.old controllers.old }
-        ensures talkers { AreAlike (members_at self.old bit talkers.old) (members_at self.new bit talkers.new) }
-        ensures controllers { AreAlike (members_at self.old bit controllers.old)
-            (members_at self.new bit controllers.new) }
-        ensures holds { RestHolds self.new bit plan.now talkers.new controllers.new }
+        ensures { ComesToRest bit plan.now self.old self.new talkers.old talkers.new controllers.old controllers.new }
+    {
+        fall_silent(talkers, told, self.talkers);
+        fall_silent(controllers, told, self.controllers);
+        self.lull_alike(plan, talkers, controllers, bit, told);
+    }
+
+    /// Nodes come to rest before this bit that listen and have come equally far.
+    fn lull_alike(
+        &mut self,
+        plan: &[Talker],
+        talkers: &mut [Member],
+        controllers: &mut [Member],
+        bit: u64,
+        told: bool,
+    )
+        requires plan { length plan.now ≡ length talkers.old }
+        requires holds { RestHolds self.old bit plan.now talkers.old controllers.old }
+        ensures { ComesToRest bit plan.now self.old self.new talkers.old talkers.new controllers.old controllers.new }
     {
         if asks_at_each_bit(controllers) {
             return;
@@ -251,16 +273,17 @@ impl Rest {
         if self.steady && !told {
             return true;
         }
-        if !self.resting || !self.few {
+        if !self.resting || !self.settled {
             return false;
         }
-        // it went off since the places were told apart
-        if is_off(talkers, self.sender) && !is_off(talkers, self.off) {
-            return false;
-        }
-        !listens_there(talkers, self.sender, bit)
-            && !listens_there(talkers, self.off, bit)
-            && !listens_there(controllers, self.controllers.from, bit)
+        let mut votes = Votes::none();
+        votes.count(nodes_within(talkers, self.talkers), &self.listener, bit);
+        votes.count(
+            nodes_within(controllers, self.controllers),
+            &self.listener,
+            bit,
+        );
+        votes.alike == 0 && votes.listening <= self.asleep
     }
 
     /// Where none rests, those may come to rest that have come as far as most of those that listen.
@@ -271,10 +294,11 @@ impl Rest {
         if self.resting {
             return;
         }
-        let Some(listener) = listener_of_most(talkers, controllers, bit) else {
+        let Some(leader) = Leader::of_most(talkers, controllers, bit, self.leader) else {
             return;
         };
-        self.listener = listener;
+        self.listener = leader.listener;
+        self.leader = leader.place;
         self.resting = true;
         self.known = KnownCounts::Zero;
         self.spent = true;
@@ -348,46 +372,20 @@ impl Rest {
             self.wake(plan, talkers, controllers, bit);
             return;
         }
-        let pair = Pair::of(talkers, awake_talkers.span);
         self.talkers = awake_talkers.span;
         self.controllers = awake_controllers.span;
-        self.sender = pair.sender;
-        self.off = pair.off;
-        self.few = are_few(&pair, self.controllers);
+        self.few = self.talkers.is_one_at_most() && self.controllers.is_one_at_most();
+        self.settled = true;
+        self.asleep = awake_talkers
+            .resting()
+            .saturating_add(awake_controllers.resting());
     }
 }
 
 /// Whether the first of these may start at the next bit: then its port is asked, and nothing comes to rest.
-fn asks_at_each_bit(controllers: &[Member]) -> bool {
+pub(crate) fn asks_at_each_bit(controllers: &[Member]) -> bool {
     match controllers.first() {
         Some(member) => member.station.node.wants_start(),
         None => false,
     }
-}
-
-/// Whether the node at this place is awake and listens, if there is one.
-fn listens_there(members: &[Member], place: usize, bit: u64) -> bool {
-    match members.get(place) {
-        Some(member) => member.listens_at(bit),
-        None => false,
-    }
-}
-
-/// Whether the node at this place is in bus off, if there is one.
-fn is_off(members: &[Member], place: usize) -> bool {
-    match members.get(place) {
-        Some(member) => member.is_in_bus_off(),
-        None => false,
-    }
-}
-
-/// Whether no other talkers are awake, and one controller at most.
-fn are_few(talkers: &Pair, controllers: Span) -> bool
-    ensures talkers { result ≡ true → talkers.now.alone ≡ true }
-    ensures controllers { result ≡ true → controllers.to ≤ controllers.from + 1 }
-{
-    if !talkers.alone {
-        return false;
-    }
-    controllers.is_one_at_most()
 }

@@ -1,14 +1,15 @@
-//! A bit at which all nodes rest, or all but one that sends: most bits of a bus are such.
+//! A bit of which nothing is told: all nodes rest, or all but one that sends, or all go on. Most bits of a bus are
+//! such.
 
-ghost use Rattle.std.specs.Prelude.{◌≡◌, ◌<◌, true, length, IfSome, IfNone};
+ghost use Rattle.std.specs.Prelude.{◌≡◌, true, length, IfSome, IfNone};
 ghost use Rattle.can_station.specs.FaultOrder.{IsFaultless, StandsAt};
 ghost use Rattle.can_station.specs.declared.plan.SegmentPlan.{SegmentPlan};
-ghost use Rattle.can_segment.specs.Rests.{Drives, GoesQuietly, RestsThrough, SendsAlone, StartsNone};
-ghost use Rattle.can_station.specs.RestingNodes.{AreApart, HasRoom, OneSends};
+ghost use Rattle.can_segment.specs.Rests.{AreFew, Drives, GoesQuietly, RestsThrough, SendsAlone, StartsNone};
+ghost use Rattle.can_station.specs.RestingNodes.{AwakeWithin, HasRoom, OneSends};
 
-use crate::rest::Rest;
+use crate::rest::{Rest, asks_at_each_bit};
 use can_node::Listener;
-use can_station::{FaultOrder, Member};
+use can_station::{FaultOrder, Member, all_go_on, driven_by_all, go_on};
 
 /// The node at this place, if there is one, sends on while the listener follows for all others: the level of the line.
 /// `None` where that can't be: then nothing is changed.
@@ -47,91 +48,83 @@ fn none_sends(rest: &mut Rest, bit: u64) -> Option<bool>
     Some(true)
 }
 
-/// The level of the line at a bit at which all nodes rest, or all but one that sends on, and but a talker that is in
-/// bus off, which is left as it is. `None` where they don't: then nothing is changed.
+/// The level of the line at a bit at which one sends at most, the talker at the one place or the controller at the
+/// other, and the listener follows for those that rest. `None` where they don't: then nothing is changed.
 #[inline(always)]
-fn level_at_rest(
+fn level_with(
     talkers: &mut [Member],
     controllers: &mut [Member],
     rest: &mut Rest,
+    talker: usize,
+    controller: usize,
     bit: u64,
 ) -> Option<bool>
-    requires few { rest.old.few ≡ true }
     requires talker_room { HasRoom u64.MAX bit talkers.old }
     requires room { HasRoom u64.MAX bit controllers.old }
-    ensures sends { IfSome result (λ level. SendsAlone bit level rest.old rest.new
+    ensures sends { IfSome result (λ level. SendsAlone bit level talker controller rest.old rest.new
         talkers.old talkers.new controllers.old controllers.new) }
     ensures none { IfNone result ((rest.new ≡ rest.old) × (talkers.new ≡ talkers.old)
         × (controllers.new ≡ controllers.old)) }
 {
-    if rest.controllers.from < controllers.len() {
-        if rest.sender < talkers.len() {
+    if controller < controllers.len() {
+        if talker < talkers.len() {
             return None;
         }
-        return one_sends(controllers, rest.controllers.from, &mut rest.listener, bit);
+        return one_sends(controllers, controller, &mut rest.listener, bit);
     }
-    if rest.sender < talkers.len() {
-        return one_sends(talkers, rest.sender, &mut rest.listener, bit);
+    if talker < talkers.len() {
+        return one_sends(talkers, talker, &mut rest.listener, bit);
     }
     none_sends(rest, bit)
 }
 
-/// The same where a talker is in bus off, which samples that level.
-// seldom is one, so the others make no way for it
+/// The level of the line at a bit at which none starts, and all nodes go on with the AND of what they drive, those that
+/// rest and those that are awake. `None` where they don't: then nothing is changed.
+// most bits are those of one sender alone, so these make no way for it
 #[inline(never)]
-fn level_beside_off(
+fn level_of_all(
     talkers: &mut [Member],
     controllers: &mut [Member],
     rest: &mut Rest,
     bit: u64,
 ) -> Option<bool>
-    requires few { rest.old.few ≡ true }
-    requires there { rest.old.off < length talkers.old }
-    requires apart { AreApart rest.old.sender rest.old.off talkers.old }
+    requires talkers_within { AwakeWithin rest.old.talkers talkers.old }
+    requires controllers_within { AwakeWithin rest.old.controllers controllers.old }
     requires talker_room { HasRoom u64.MAX bit talkers.old }
     requires room { HasRoom u64.MAX bit controllers.old }
-    ensures sends { IfSome result (λ level. GoesQuietly bit level rest.old rest.new
+    ensures quiet { IfSome result (λ level. GoesQuietly bit level rest.old rest.new
         talkers.old talkers.new controllers.old controllers.new) }
     ensures none { IfNone result ((rest.new ≡ rest.old) × (talkers.new ≡ talkers.old)
         × (controllers.new ≡ controllers.old)) }
 {
-    let off = rest.off;
-    if !talkers[off].is_recovering(bit) {
+    if asks_at_each_bit(controllers) || !rest.resting || !rest.starts_none() {
         return None;
     }
-    let level = level_at_rest(talkers, controllers, rest, bit)?;
-    talkers[off].recover(level);
+    let awake = rest.talkers;
+    let awake_too = rest.controllers;
+    let resting = rest.drive();
+    let level = driven_by_all(talkers, controllers, bit, resting, awake, awake_too);
+    if !all_go_on(talkers, bit, level, awake) || !all_go_on(controllers, bit, level, awake_too) {
+        return None;
+    }
+    if !rest.follows(bit, level) {
+        return None;
+    }
+    go_on(talkers, bit, level, awake);
+    go_on(controllers, bit, level, awake_too);
     Some(level)
 }
 
-/// The level of the line at a bit at which all nodes rest, or all but one that sends on and one that is in bus off, if
-/// no fault stands there. `None` where they don't: then nothing is changed.
-#[inline(always)]
-fn level_of_few(
-    talkers: &mut [Member],
-    controllers: &mut [Member],
-    rest: &mut Rest,
-    bit: u64,
-) -> Option<bool>
-    requires apart { rest.old.few ≡ true → AreApart rest.old.sender rest.old.off talkers.old }
-    requires talker_room { HasRoom u64.MAX bit talkers.old }
-    requires room { HasRoom u64.MAX bit controllers.old }
-    ensures sends { IfSome result (λ level. GoesQuietly bit level rest.old rest.new
-        talkers.old talkers.new controllers.old controllers.new) }
-    ensures none { IfNone result ((rest.new ≡ rest.old) × (talkers.new ≡ talkers.old)
-        × (controllers.new ≡ controllers.old)) }
-{
-    if !rest.few {
-        return None;
+/// Whether the node at this place, if there is one, sends a frame.
+fn sends(members: &[Member], place: usize) -> bool {
+    match members.get(place) {
+        Some(member) => member.station.node.sends_from().is_some(),
+        None => false,
     }
-    if rest.off < talkers.len() {
-        return level_beside_off(talkers, controllers, rest, bit);
-    }
-    level_at_rest(talkers, controllers, rest, bit)
 }
 
-/// The level of the line at a bit at which no fault stands, and all nodes rest or all but one that sends on and one
-/// that is in bus off. `None` where it is no such bit: then nothing is changed.
+/// The level of the line at a bit at which no fault stands, and of which nothing is told: all nodes rest, or all but
+/// one that sends on, or all go on that are awake. `None` where it is no such bit: then nothing is changed.
 #[inline(always)]
 pub(crate) fn quiet_level(
     talkers: &mut [Member],
@@ -140,10 +133,12 @@ pub(crate) fn quiet_level(
     bit: u64,
     faults: &FaultOrder,
 ) -> Option<bool>
-    requires apart { rest.old.few ≡ true → AreApart rest.old.sender rest.old.off talkers.old }
+    requires few { rest.old.few ≡ true → AreFew rest.old }
+    requires talkers_within { AwakeWithin rest.old.talkers talkers.old }
+    requires controllers_within { AwakeWithin rest.old.controllers controllers.old }
     requires talker_room { HasRoom u64.MAX bit talkers.old }
     requires room { HasRoom u64.MAX bit controllers.old }
-    ensures sends { IfSome result (λ level. GoesQuietly bit level rest.old rest.new
+    ensures quiet { IfSome result (λ level. GoesQuietly bit level rest.old rest.new
         talkers.old talkers.new controllers.old controllers.new) }
     ensures faultless { IfSome result (λ level. (plan : SegmentPlan) → StandsAt plan bit faults.now
         → IsFaultless plan bit) }
@@ -153,5 +148,16 @@ pub(crate) fn quiet_level(
     if !faults.none_at(bit) {
         return None;
     }
-    level_of_few(talkers, controllers, rest, bit)
+    if rest.few {
+        let talker = rest.talkers.from;
+        let controller = rest.controllers.from;
+        if let Some(level) = level_with(talkers, controllers, rest, talker, controller, bit) {
+            return Some(level);
+        }
+        // then the others don't read on, or it is its ACK slot or its last bit
+        if sends(talkers, talker) || sends(controllers, controller) {
+            return None;
+        }
+    }
+    level_of_all(talkers, controllers, rest, bit)
 }

@@ -4,3 +4,4 @@ pub mod Settles
 pub mod FaultsInOrder
 pub mod Wakes
 pub mod Spans
+pub mod GoingOn

@@ -84,8 +84,8 @@ whole_within span len members whole here = record {
 }
 
 -- where there is one place at most, all others rest
-pub others_within : (span : Span) (members : List Member) → span.to ≤ span.from + 1 → AwakeWithin span members → OthersRest span.from span.from members
-others_within span members one h k m e not nor = elim (cases_lt k span.from) [
+pub others_within : (span : Span) (members : List Member) → span.to ≤ span.from + 1 → AwakeWithin span members → OthersRest span.from members
+others_within span members one h k m e not = elim (cases_lt k span.from) [
   | inl less ↦ h.outside k m e (inl less)
   | inr more ↦ h.outside k m e (inr (omega (arith, more, one, not)))
 ]

@@ -1,10 +1,11 @@
 -- Nodes of which some are left alone while a listener follows the line for them.
 use Rattle.std.specs.Prelude.{◌≡◌, ◌≢◌, ◌⊎◌, ℕ, ◌+◌, ◌≤◌, ◌<◌, Bool, true, false, Option, None, Some, List, length, slice_get, if◌then◌else◌}
 use Rattle.bx_core.specs.TxBus.{Item}
-use Rattle.can_node.specs.Histories.{Past}
+use Rattle.can_node.specs.Histories.{Past, IsHistory}
 use Rattle.can_node.specs.Listener.{SendsTo, StandsWith, caught_up as node_caught_up}
-use Rattle.can_node.specs.Node.{StandsAfter, bit_of, counters_in, may_begin}
-use Rattle.can_node.specs.Recovery.{IsRecovering, Recovers}
+use Rattle.can_node.specs.Node.{IsSample, StandsAfter, bit_of, counters_in, may_begin}
+use Rattle.can_node.specs.declared.outcome.Outcome.TheVariants.{Nothing}
+use Rattle.can_node.specs.PlainBits.{MayGoOn}
 use Rattle.can_node.specs.declared.listener.Listener.{Listener}
 use Rattle.can_station.specs.declared.member.Member.{Member}
 use Rattle.can_station.specs.declared.plan.NodeFault.{NodeFault}
@@ -58,13 +59,9 @@ pub record IfAwakeBoth {P : Type 0} (Step : Member → Member → P → P → Ty
 abbrev pub NoneRests : List Member → Type 0
 NoneRests members = (k : ℕ) (m : Member) → slice_get members k ≡ Some m → m.rests ≡ false
 
--- all of these rest but those at these two places
-abbrev pub OthersRest : ℕ → ℕ → List Member → Type 0
-OthersRest one other members = (k : ℕ) (m : Member) → slice_get members k ≡ Some m → k ≢ one → k ≢ other → m.rests ≡ true
-
--- the second of these places is not the first, if it is one of these nodes'
-abbrev pub AreApart : ℕ → ℕ → List Member → Type 0
-AreApart one other members = (one ≢ other) ⊎ (length members ≤ other)
+-- all of these rest but the one at this place
+abbrev pub OthersRest : ℕ → List Member → Type 0
+OthersRest place members = (k : ℕ) (m : Member) → slice_get members k ≡ Some m → k ≢ place → m.rests ≡ true
 
 -- the first places, so many of them
 pub record IsWhole (len : ℕ) (span : Span) : Type 0 where
@@ -108,6 +105,10 @@ pub record MayRest (listener : Listener) (bit : ℕ) (member : Member) : Type 0 
 -- it has come to rest, and nothing is told of it any more
 abbrev pub laid_down : Member → Member
 laid_down member = record { on = member.on; rests = true; station = member.station; deed = no_deed }
+
+-- nothing is told of it any more, or it is as it was
+abbrev pub MayFallSilent : Member → Member → Type 0
+MayFallSilent old new = (new ≡ old) ⊎ (new ≡ record { on = old.on; rests = old.rests; station = old.station; deed = no_deed })
 
 -- it may have come to rest
 abbrev pub MayLieDown : Listener → ℕ → Member → Member → Type 0
@@ -168,19 +169,33 @@ pub record OneSends (place bit : ℕ) (before : Listener) (level : Bool) (after 
   pub step : MemberSends bit before level after from to
   pub moves : MovesOne place (MemberSends bit before level after) old new
 
--- it is in bus off, no run of recessive bits ends at this bit, and nothing is told of it
-pub record MayRecover (bit : ℕ) (member : Member) : Type 0 where
+-- it goes on with this bit, if that has this level, and nothing is told of it
+pub record MayGo (bit : ℕ) (level : Bool) (member : Member) : Type 0 where
   pub awake : member.rests ≡ false
   pub is_on : member.on ≤ bit
   pub quiet : IsQuiet member.deed
-  pub recovering : IsRecovering member.station.node
+  pub goes : MayGoOn level member.station.node
 
--- one such bit
-pub record MemberRecovers (bit : ℕ) (level : Bool) (old new : Member) : Type 0 where
-  pub may : MayRecover bit old
-  pub recovers : Recovers old.station.node level new.station.node
+-- each of these that is awake does
+abbrev pub MayAllGo : ℕ → Bool → List Member → Type 0
+MayAllGo bit level members = (k : ℕ) (m : Member) → slice_get members k ≡ Some m → m.rests ≡ false → MayGo bit level m
+
+-- one that is awake samples this level, and nothing is told of it, nor counted, and it begins nothing
+pub record MemberGoes (bit : ℕ) (level : Bool) (old new : Member) : Type 0 where
+  pub awake : old.rests ≡ false
+  pub is_on : old.on ≤ bit
+  pub quiet : IsQuiet old.deed
+  pub begins_none : may_begin old.station.node ≡ false
+  pub samples : IsSample old.station.node level Nothing new.station.node
+  pub history : (past : Past) → StandsAfter new.station.node past → IsHistory past
+  pub bit_is : bit_of new.station.node ≡ bit_of old.station.node + 1
+  pub counts_none : counters_in new.station.node ≡ counters_in old.station.node
   pub awake_too : new.rests ≡ false
   pub on_is : new.on ≡ old.on
   pub deed_is : new.deed ≡ old.deed
   pub sending_is : new.station.sending ≡ old.station.sending
   pub completed_is : new.station.completed ≡ old.station.completed
+
+-- all of these that are awake do, and those that rest are left as they are
+abbrev pub AllGo : ℕ → Bool → List Member → List Member → Type 0
+AllGo bit level = AtPlaces (λ k. IfAwake (MemberGoes bit level))

@@ -5,6 +5,7 @@
 mod event;
 mod fault_order;
 mod faults;
+mod going;
 mod member;
 mod members;
 mod plan;
@@ -18,6 +19,7 @@ mod wake;
 
 pub use crate::event::{Event, Label, Told};
 pub use crate::fault_order::FaultOrder;
+pub use crate::going::{all_go_on, go_on};
 pub use crate::member::{Deed, Member};
 pub use crate::members::{
     driven_by_all, sample_controllers, sample_nodes, start_controllers, start_talkers,
@@ -28,4 +30,4 @@ pub use crate::span::Span;
 pub use crate::station::Station;
 pub use crate::tell::{tell_rests, tell_starts};
 pub use crate::transmission::Transmission;
-pub use crate::wake::{wake_all, wake_disturbed, wake_unspent};
+pub use crate::wake::{fall_silent, wake_all, wake_disturbed, wake_unspent};

@@ -6,11 +6,10 @@ ghost use Rattle.can_frame.specs.Frames.{FrameValue};
 ghost use Rattle.bx_core.specs.TxBus.{BusPast, BusCall};
 ghost use Rattle.can_confinement.specs.KnownCounts.{Knows};
 ghost use Rattle.can_node.specs.Node.{bit_of, counters_in};
-ghost use Rattle.can_node.specs.Recovery.{IsRecovering};
 ghost use Rattle.can_station.specs.Ports.{item_of, Undone, Asks, started, started_item};
 ghost use Rattle.can_station.specs.Fresh.{IsFresh};
 ghost use Rattle.can_station.specs.Deeds.{IsQuiet, no_deed};
-ghost use Rattle.can_station.specs.RestingNodes.{MayRecover, MayRest, MayWake, MemberRecovers, MemberSends};
+ghost use Rattle.can_station.specs.RestingNodes.{MayFallSilent, MayGo, MayRest, MayWake, MemberGoes, MemberSends};
 ghost use Rattle.can_station.specs.RestingNodes.{laid_down, woken};
 ghost use Rattle.can_station.specs.Members.{
   AreOf,
@@ -158,6 +157,18 @@ impl Member {
         self.deed = Deed::none();
     }
 
+    /// Nothing is told any more of what it did, if it is awake.
+    pub(crate) fn fall_silent(&mut self)
+        ensures rests { self.old.rests ≡ true → self.new ≡ self.old }
+        ensures awake { self.new.rests ≡ self.old.rests }
+        ensures silent { MayFallSilent self.old self.new }
+    {
+        if self.rests {
+            return;
+        }
+        self.deed = Deed::none();
+    }
+
     /// Whether it is awake, and may come to rest before this bit, with this listener.
     #[inline(always)]
     pub fn may_rest(&self, listener: &Listener, bit: u64) -> bool
@@ -280,33 +291,38 @@ impl Member {
         self.deed.reaped = settle(rt, port, sent, outcome);
     }
 
-    /// Whether its node is in bus off, and no run of eleven recessive bits ends with its next bit.
-    pub fn is_in_bus_off(&self) -> bool
-        ensures { result ≡ true → IsRecovering self.now.station.node }
-    {
-        self.station.node.is_recovering()
-    }
-
-    /// Whether it is awake and in bus off, and goes on so with this bit (`Node::is_recovering`), and nothing is told of
-    /// it.
+    /// Whether it is awake and on, goes on with this bit, if that has this level (`Node::goes_on`), and nothing is told
+    /// of it.
     #[inline(always)]
-    pub fn is_recovering(&self, bit: u64) -> bool
-        ensures { result ≡ true → MayRecover bit self.now }
+    fn goes_on(&self, bit: u64, level: bool) -> bool
+        ensures { result ≡ true → MayGo bit level self.now }
     {
         if self.rests || bit < self.on {
             return false;
         }
-        self.deed.is_quiet() && self.station.node.is_recovering()
+        self.deed.is_quiet() && self.station.node.goes_on(level)
     }
 
-    /// One bit of bus off, at which it samples this level (`Node::recover`).
+    /// Whether it is awake, and doesn't go on so.
     #[inline(always)]
-    pub fn recover(&mut self, level: bool)
-        requires recovering { IsRecovering self.old.station.node }
-        requires room { bit_of self.old.station.node < u64.MAX }
-        ensures { (bit : ℕ) → MayRecover bit self.old → MemberRecovers bit level self.old self.new }
+    pub(crate) fn holds_up(&self, bit: u64, level: bool) -> bool
+        ensures { result ≡ false → self.now.rests ≡ false → MayGo bit level self.now }
     {
-        self.station.node.recover(level);
+        !self.rests && !self.goes_on(bit, level)
+    }
+
+    /// If it is awake it goes on with this bit, at which it samples this level (`Node::go_on`).
+    #[inline(always)]
+    pub(crate) fn go_on(&mut self, bit: u64, level: bool)
+        requires goes { self.old.rests ≡ false → MayGo bit level self.old }
+        requires room { self.old.rests ≡ false → self.old.on ≤ bit → bit_of self.old.station.node < u64.MAX }
+        ensures rests { self.old.rests ≡ true → self.new ≡ self.old }
+        ensures goes { self.old.rests ≡ false → MemberGoes bit level self.old self.new }
+    {
+        if self.rests {
+            return;
+        }
+        self.station.node.go_on(level);
     }
 
     /// One bit of a frame that it sends while all others that are there listen (`Node::send_to`): the level of the

@@ -169,6 +169,10 @@ pub fn sample_controllers<R, P: RxSink<R>>(
         members.old members.new ports.old ports.new }
     ensures quiet { result ≡ false → AwakeAreQuiet bit members.new }
 {
+    // as on most segments: none is there, or all rest
+    if awake.to <= awake.from {
+        return false;
+    }
     let told = sample_nodes(members, faults, first, bit, level, awake);
     settle_ports(rt, members, ports, bit, awake);
     told

@@ -1,13 +1,29 @@
-//! Nodes that wake.
+//! Nodes that wake, and such of which nothing is told any more.
 
 ghost use Rattle.std.specs.Prelude.{◌≡◌, ◌+◌, ◌≤◌, length};
 ghost use Rattle.can_station.specs.Places.{AtPlaces};
+ghost use Rattle.can_station.specs.RestingNodes.{AwakeWithin, IfAwake, MayFallSilent};
 ghost use Rattle.can_station.specs.RestingNodes.{WakesDisturbed, WakesUnspent, woken};
 
 use crate::faults::is_inverted;
 use crate::member::Member;
 use crate::plan::{NodeFault, Talker};
+use crate::span::Span;
 use can_node::Listener;
+
+/// Nothing is told any more of what those that are awake did at the last bit, if something may have been. All but those
+/// at the places of the span rest.
+pub fn fall_silent(members: &mut [Member], told: bool, awake: Span)
+    requires { AwakeWithin awake members.old }
+    ensures { AtPlaces (λ k. IfAwake MayFallSilent) members.old members.new }
+{
+    if !told {
+        return;
+    }
+    for place in awake.from..awake.to {
+        members[place].fall_silent();
+    }
+}
 
 /// All of these wake before this bit that rest: each has come as far as the listener then.
 pub fn wake_all(members: &mut [Member], listener: &Listener, bit: u64)

@@ -1,15 +1,15 @@
 use Rattle.can_node.proofs.ErrorMoves.{delimit_on, delimit_ends, delimit_cut, delimit_overload}
 use Rattle.can_node.proofs.turns.after_delimiting.Goals as goal
 
-pub returns-then-ones-lt7 : goal.returns-then-ones-lt7
-returns-then-ones-lt7 c = rw (c.plain.ensures, c.if-level.true) (delimit_on c.args.role c.args.ones c.args.now c.args.errors c.if-ones-lt7.true)
+pub returns-then-ones-lt7-clause-goes : goal.returns-then-ones-lt7-clause-goes
+returns-then-ones-lt7-clause-goes c = rw (c.plain.ensures, c.if-level.true) (delimit_on c.args.role c.args.ones c.args.now c.args.errors c.if-ones-lt7.true)
 
-pub returns-then-level : goal.returns-then-level
-returns-then-level c = rw (c.plain-then-level.ensures, c.if-level.true) (delimit_ends c.args.role c.args.ones c.args.now c.args.errors c.if-ones-lt7.false)
+pub returns-then-level-clause-goes : goal.returns-then-level-clause-goes
+returns-then-level-clause-goes c = rw (c.plain-then-level.ensures, c.if-level.true) (delimit_ends c.args.role c.args.ones c.args.now c.args.errors c.if-ones-lt7.false)
 
-pub returns-then-ones-lt7-2 : goal.returns-then-ones-lt7-2
-returns-then-ones-lt7-2 c = rw (c.if-level.false, c.error_event.ensures)
+pub returns-then-ones-lt7-2-clause-goes : goal.returns-then-ones-lt7-2-clause-goes
+returns-then-ones-lt7-2-clause-goes c = rw (c.if-level.false, c.error_event.ensures)
     (delimit_cut c.args.role c.args.ones c.args.now c.args.errors c.error_flag.result c.if-ones-lt7-2.true c.error_flag.ensures)
 
-pub returns : goal.returns
-returns c = rw (c.plain-2.ensures, c.if-level.false) (delimit_overload c.args.role c.args.ones c.args.now c.args.errors c.if-ones-lt7-2.false)
+pub returns-clause-goes : goal.returns-clause-goes
+returns-clause-goes c = rw (c.plain-2.ensures, c.if-level.false) (delimit_overload c.args.role c.args.ones c.args.now c.args.errors c.if-ones-lt7-2.false)

@@ -8,7 +8,7 @@ use Rattle.can_segment.specs.Rests.{members_at}
 use Rattle.can_segment.proofs.Holds.{left_holds, left_rests}
 use Rattle.can_segment.proofs.Rests.{all_quiet, controllers_sample, members_length, members_sample, room_real, transmits_real}
 use Rattle.can_station.proofs.Spans.{within_both, within_places}
-use Rattle.can_segment.proofs.Woken.{left_both, left_on, left_places, others_both, others_places}
+use Rattle.can_segment.proofs.Woken.{left_both, left_on, left_places}
 use Rattle.can_segment.proofs.all_nodes.sample_all.Goals as goal
 
 pub sample_nodes-talkers_told-requires-clause-room : goal.sample_nodes-talkers_told-requires-clause-room
@@ -62,9 +62,7 @@ returns-clause-rests g c =
     let size : length c.args.ports.now ≡ length cs = c.requires.ports ∙ sym (members_length c.args.rest.now c.args.bit c.args.controllers.now) ∙ ap length (sym same) ∙ members_length before c.args.bit cs in
     left_holds c.go_through.new.self (c.args.bit + 1) c.args.plan.now t c.sample_nodes-talkers_told.new.members cs c.sample_controllers-controllers_told.new.members (left_places _ t c.sample_nodes-talkers_told.new.members samples)
     (left_both _ cs c.sample_controllers-controllers_told.new.members c.args.ports.now c.sample_controllers-controllers_told.new.ports size settles)
-    (λ one other. others_places _ one other t c.sample_nodes-talkers_told.new.members samples)
-    (λ one other. others_both _ one other cs c.sample_controllers-controllers_told.new.members c.args.ports.now c.sample_controllers-controllers_told.new.ports size settles)
-    (λ span. within_places _ span t c.sample_nodes-talkers_told.new.members samples) (λ span. within_both _ span cs c.sample_controllers-controllers_told.new.members c.args.ports.now c.sample_controllers-controllers_told.new.ports size settles) samples.size
+    (λ span. within_places _ span t c.sample_nodes-talkers_told.new.members samples) (λ span. within_both _ span cs c.sample_controllers-controllers_told.new.members c.args.ports.now c.sample_controllers-controllers_told.new.ports size settles)
     c.go_through.ensures.holds
 
 pub returns-clause-quiet : goal.returns-clause-quiet

@@ -7,7 +7,7 @@ use Rattle.can_segment.specs.Rests.{members_at}
 use Rattle.can_segment.proofs.Holds.{left_holds, left_rests}
 use Rattle.can_segment.proofs.Rests.{all_drive, controllers_start, members_length, talkers_start, transmits_real}
 use Rattle.can_station.proofs.Spans.{within_both, within_places}
-use Rattle.can_segment.proofs.Woken.{left_both, left_on, left_places, others_both, others_places}
+use Rattle.can_segment.proofs.Woken.{left_both, left_on, left_places}
 use Rattle.can_segment.proofs.all_nodes.start_all.Goals as goal
 
 pub start_controllers-requires-clause-port : goal.start_controllers-requires-clause-port
@@ -66,8 +66,7 @@ returns-clause-rests g c =
     c.requires.ports ∙ sym (members_length c.args.rest.now bit c.args.controllers.now) ∙ ap length (sym roused.controllers) ∙ members_length rest bit c.rouse.new.controllers in
     left_holds rest bit c.args.plan.now c.rouse.new.talkers t c.rouse.new.controllers after (left_places _ c.rouse.new.talkers t c.start_talkers.ensures)
     (left_both _ c.rouse.new.controllers after c.args.ports.now c.start_controllers.new.ports size c.start_controllers.ensures)
-    (λ one other. others_places _ one other c.rouse.new.talkers t c.start_talkers.ensures) (λ one other. others_both _ one other c.rouse.new.controllers after c.args.ports.now c.start_controllers.new.ports size c.start_controllers.ensures)
-    (λ span. within_places _ span c.rouse.new.talkers t c.start_talkers.ensures) (λ span. within_both _ span c.rouse.new.controllers after c.args.ports.now c.start_controllers.new.ports size c.start_controllers.ensures) c.start_talkers.ensures.size roused.holds
+    (λ span. within_places _ span c.rouse.new.talkers t c.start_talkers.ensures) (λ span. within_both _ span c.rouse.new.controllers after c.args.ports.now c.start_controllers.new.ports size c.start_controllers.ensures) roused.holds
 
 pub returns-clause-left : goal.returns-clause-left
 returns-clause-left g c =

@@ -1,10 +1,19 @@
-use Rattle.std.proofs.Common.{◌+◌, arith}
+use Rattle.std.proofs.Common.{◌+◌, arith, refl}
 use Rattle.std.proofs.lemmas.Option.{slice_get_within}
 use Rattle.can_station.specs.Faults.{sampled_level}
 use Rattle.can_station.proofs.Places.{some_there}
-use Rattle.can_station.proofs.Spans.{within_places}
+use Rattle.can_station.proofs.Spans.{both_from, both_to, quiet_from, quiet_to, within_places}
 use Rattle.can_station.proofs.Settles.{quiet_both, settles_both, unsettled_awake}
 use Rattle.can_station.proofs.members.sample_controllers.Goals as goal
+
+pub returns-then-awake-clause-settles : goal.returns-then-awake-clause-settles
+returns-then-awake-clause-settles g c =
+    both_to _ c.args.members.now c.args.members.now c.args.ports.now c.args.ports.now c.args.awake c.args.awake.from c.if-awake.true c.requires.awake (both_from _ c.args.members.now c.args.ports.now c.args.awake c.requires.awake)
+
+pub returns-then-awake-clause-quiet : goal.returns-then-awake-clause-quiet
+returns-then-awake-clause-quiet g c none =
+    let members = c.args.members.now in
+    quiet_to c.args.bit members members c.args.awake c.args.awake.from c.if-awake.true c.requires.awake (λ k behind. refl) (quiet_from c.args.bit members c.args.awake c.requires.awake)
 
 pub settle_ports-requires-clause-awake : goal.settle_ports-requires-clause-awake
 settle_ports-requires-clause-awake g c = within_places _ c.args.awake c.args.members.now c.sample_nodes-told.new.members c.sample_nodes-told.ensures.samples c.requires.awake

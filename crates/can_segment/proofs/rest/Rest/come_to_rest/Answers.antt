@@ -1,68 +1,33 @@
-use Rattle.std.proofs.Common.{◌≤◌, length, refl, subst, sym, ap, ◌∙◌}
-use Rattle.can_station.specs.RestingNodes.{AreAlike, AwakeWithin}
+use Rattle.std.proofs.Common.{arith}
+use Rattle.can_station.specs.RestingNodes.{MayFallSilent}
+use Rattle.can_station.proofs.Spans.{within_places}
 use Rattle.can_segment.specs.Rests.{members_at}
-use Rattle.can_segment.proofs.ComesToRest.{alike_at_rest, alike_self, chosen_awake, chosen_rests, chosen_same, chosen_spent, lain_within, less_rests}
+use Rattle.can_segment.proofs.ComesToRest.{all_alike_on, all_silent}
+use Rattle.can_segment.proofs.Holds.{left_holds}
+use Rattle.can_segment.proofs.Woken.{left_places}
 use Rattle.can_segment.proofs.rest.Rest.come_to_rest.Goals as goal
 
-pub returns-then-asks_at_each_bit-clause-talkers : goal.returns-then-asks_at_each_bit-clause-talkers
-returns-then-asks_at_each_bit-clause-talkers c = alike_self _ _ refl
+pub lull_alike-requires-clause-plan : goal.lull_alike-requires-clause-plan
+lull_alike-requires-clause-plan c = omega (arith, c.requires.plan, c.fall_silent.ensures.size)
 
-pub returns-then-asks_at_each_bit-clause-controllers : goal.returns-then-asks_at_each_bit-clause-controllers
-returns-then-asks_at_each_bit-clause-controllers c = alike_self _ _ refl
+pub lull_alike-requires-clause-holds : goal.lull_alike-requires-clause-holds
+lull_alike-requires-clause-holds c =
+    let t0 = c.args.talkers.now in
+    let t1 = c.fall_silent.new.members in
+    let c0 = c.args.controllers.now in
+    let c1 = c.fall_silent-2.new.members in
+    left_holds c.args.self.now c.args.bit c.args.plan.now t0 t1 c0 c1 (left_places (λ k. MayFallSilent) t0 t1 c.fall_silent.ensures) (left_places (λ k. MayFallSilent) c0 c1 c.fall_silent-2.ensures)
+    (λ span. within_places (λ k. MayFallSilent) span t0 t1 c.fall_silent.ensures) (λ span. within_places (λ k. MayFallSilent) span c0 c1 c.fall_silent-2.ensures) c.requires.holds
 
-pub lull_talkers-requires-clause-within : goal.lull_talkers-requires-clause-within
-lull_talkers-requires-clause-within c = subst (λ span. span.to ≤ length c.args.talkers.now) (sym c.choose.ensures.talkers_is) c.requires.holds.talkers_within.within
-
-pub lull_controllers-requires-clause-within : goal.lull_controllers-requires-clause-within
-lull_controllers-requires-clause-within c =
-    subst (λ span. span.to ≤ length c.args.controllers.now) (sym (c.lull_talkers.ensures.less.controllers_is ∙ c.choose.ensures.controllers_is)) c.requires.holds.controllers_within.within
-
-pub lull_talkers-requires-clause-rests : goal.lull_talkers-requires-clause-rests
-lull_talkers-requires-clause-rests c = chosen_rests c.args.self.now c.choose.new.self c.args.bit c.args.talkers.now c.choose.ensures c.requires.holds.talkers_rest
-
-pub lull_talkers-requires-clause-spent : goal.lull_talkers-requires-clause-spent
-lull_talkers-requires-clause-spent c = chosen_spent c.args.self.now c.choose.new.self c.args.bit c.args.plan.now c.args.talkers.now c.choose.ensures c.requires.holds.talkers_rest c.requires.holds.talkers_spent
-
-pub lull_controllers-requires-clause-rests : goal.lull_controllers-requires-clause-rests
-lull_controllers-requires-clause-rests c =
-    less_rests c.choose.new.self c.lull_talkers.new.self c.args.bit c.args.controllers.now c.lull_talkers.ensures.less
-    (chosen_rests c.args.self.now c.choose.new.self c.args.bit c.args.controllers.now c.choose.ensures c.requires.holds.controllers_rest)
-
-pub lull_controllers-requires-clause-spent : goal.lull_controllers-requires-clause-spent
-lull_controllers-requires-clause-spent c is =
-    chosen_awake c.args.self.now c.choose.new.self c.args.bit c.args.controllers.now c.choose.ensures c.requires.holds.controllers_rest c.requires.holds.controllers_awake (c.lull_talkers.ensures.less.spends is)
-
-pub settle-requires : goal.settle-requires
-settle-requires c =
-    let few_is = c.lull_controllers.ensures.less.few_is ∙ c.lull_talkers.ensures.less.few_is ∙ c.choose.ensures.many in
-    let talkers_is = c.lull_controllers.ensures.less.talkers_is ∙ c.lull_talkers.ensures.less.talkers_is ∙ c.choose.ensures.talkers_is in
-    let controllers_is = c.lull_controllers.ensures.less.controllers_is ∙ c.lull_talkers.ensures.less.controllers_is ∙ c.choose.ensures.controllers_is in
+pub returns : goal.returns
+returns c =
+    let rest = c.args.self.now in
     record {
-      holds = record {
-        talkers_rest = less_rests c.lull_talkers.new.self c.lull_controllers.new.self c.args.bit c.lull_talkers.new.members c.lull_controllers.ensures.less c.lull_talkers.ensures.rests;
-        controllers_rest = c.lull_controllers.ensures.rests;
-        talkers_spent = λ s. c.lull_talkers.ensures.spent (c.lull_controllers.ensures.less.spends s);
-        controllers_awake = c.lull_controllers.ensures.spent;
-        talkers_within = subst (λ span. AwakeWithin span c.lull_talkers.new.members) (sym talkers_is) (lain_within c.choose.new.self.listener c.args.bit c.args.talkers.now c.lull_talkers.new.members c.args.self.now.talkers c.lull_talkers.ensures.lie c.requires.holds.talkers_within);
-        controllers_within = subst (λ span. AwakeWithin span c.lull_controllers.new.members) (sym controllers_is)
-            (lain_within c.lull_talkers.new.self.listener c.args.bit c.args.controllers.now c.lull_controllers.new.members c.args.self.now.controllers c.lull_controllers.ensures.lie c.requires.holds.controllers_within);
-        other_talkers = λ few. absurd (cc (few, few_is));
-        apart = λ few. absurd (cc (few, few_is));
-        other_controllers = λ few. absurd (cc (few, few_is));
-      };
+      talkers =
+          all_alike_on (members_at rest c.args.bit c.args.talkers.now) (members_at rest c.args.bit c.fall_silent.new.members) (members_at c.lull_alike.new.self c.args.bit c.lull_alike.new.talkers)
+          (all_silent rest.listener c.args.bit c.args.talkers.now c.fall_silent.new.members c.fall_silent.ensures) c.lull_alike.ensures.talkers;
+      controllers =
+          all_alike_on (members_at rest c.args.bit c.args.controllers.now) (members_at rest c.args.bit c.fall_silent-2.new.members) (members_at c.lull_alike.new.self c.args.bit c.lull_alike.new.controllers)
+          (all_silent rest.listener c.args.bit c.args.controllers.now c.fall_silent-2.new.members c.fall_silent-2.ensures) c.lull_alike.ensures.controllers;
+      holds = c.lull_alike.ensures.holds;
     }
-
-pub returns-clause-talkers : goal.returns-clause-talkers
-returns-clause-talkers c =
-    let before = c.lull_controllers.ensures.less.listener_is ∙ c.lull_talkers.ensures.less.listener_is in
-    let lain = alike_at_rest c.choose.new.self.listener c.lull_controllers.new.self.listener c.args.bit c.args.talkers.now c.lull_talkers.new.members before c.lull_talkers.ensures.lie in
-    subst (λ ms. AreAlike ms (members_at c.settle.new.self c.args.bit c.settle.new.talkers)) (chosen_same c.args.self.now c.choose.new.self c.args.bit c.args.talkers.now c.choose.ensures c.requires.holds.talkers_rest)
-    (subst (AreAlike (members_at c.choose.new.self c.args.bit c.args.talkers.now)) (sym c.settle.ensures.talkers) lain)
-
-pub returns-clause-controllers : goal.returns-clause-controllers
-returns-clause-controllers c =
-    let mid = c.lull_talkers.new.self in
-    let lain = alike_at_rest mid.listener c.lull_controllers.new.self.listener c.args.bit c.args.controllers.now c.lull_controllers.new.members c.lull_controllers.ensures.less.listener_is c.lull_controllers.ensures.lie in
-    let same = ap (λ listener. members_at (record { listener = listener; resting = mid.resting; known = mid.known; spent = mid.spent; talkers = mid.talkers; controllers = mid.controllers; few = mid.few; sender = mid.sender; off = mid.off; steady = mid.steady }) c.args.bit c.args.controllers.now) c.lull_talkers.ensures.less.listener_is
-    ∙ chosen_same c.args.self.now c.choose.new.self c.args.bit c.args.controllers.now c.choose.ensures c.requires.holds.controllers_rest in
-    subst (λ ms. AreAlike ms (members_at c.settle.new.self c.args.bit c.settle.new.controllers)) same (subst (AreAlike (members_at mid c.args.bit c.args.controllers.now)) (sym c.settle.ensures.controllers) lain)

@@ -37,7 +37,5 @@ returns-clause-holds c =
       controllers_awake = λ s. awake;
       talkers_within = whole_within c.look_everywhere.new.self.talkers _ c.wake_unspent.new.members everywhere.talkers refl;
       controllers_within = whole_within c.look_everywhere.new.self.controllers _ c.wake_all.new.members everywhere.controllers refl;
-      other_talkers = λ few. absurd (cc (few, many));
-      apart = λ few. absurd (cc (few, many));
-      other_controllers = λ few. absurd (cc (few, many));
+      few_are = λ few. absurd (cc (few, many));
     }

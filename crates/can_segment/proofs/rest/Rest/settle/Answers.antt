@@ -1,4 +1,4 @@
-use Rattle.can_station.proofs.Spans.{others_within}
+use Rattle.std.proofs.Common.{rules}
 use Rattle.can_segment.proofs.rest.Rest.settle.Goals as goal
 
 pub returns-then-outnumber-clause-holds : goal.returns-then-outnumber-clause-holds
@@ -14,7 +14,5 @@ returns-clause-holds c =
       controllers_awake = held.controllers_awake;
       talkers_within = c.of-awake_talkers.ensures;
       controllers_within = c.of-awake_controllers.ensures;
-      other_talkers = λ few. c.of-pair.ensures.others (c.are_few-self.ensures.talkers few);
-      apart = λ few. c.of-pair.ensures.apart;
-      other_controllers = λ few. others_within c.of-awake_controllers.result.span c.args.controllers.now (c.are_few-self.ensures.controllers few) c.of-awake_controllers.ensures;
+      few_are = λ few. search rules;
     }

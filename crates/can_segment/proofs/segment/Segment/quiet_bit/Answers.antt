@@ -49,8 +49,8 @@ invariant_of-self-2 c =
     let told = c.grow_quietly.ensures.quiet (search rules) in
     let grown = subst (λ ms. GrowsQuietly inside.faults inside.made c.grow_quietly.new.made rest new inside.talkers.items c.grow_quietly.new.talkers ms c.grow_quietly.new.controllers) c.as_mut_slice-2.ensures.value
     (subst (λ ms. GrowsQuietly inside.faults inside.made c.grow_quietly.new.made rest new ms c.grow_quietly.new.talkers c.as_mut_slice-2.result.now c.grow_quietly.new.controllers) c.as_mut_slice.ensures.value told) in
-    let t_size = grown.sends.recovers.size ∙ grown.sends.sends.talkers.size in
-    let c_size = grown.sends.sends.controllers.size in
+    let t_size = grown.sends.talkers.size in
+    let c_size = grown.sends.controllers.size in
     let controllers = put_back inside.controllers.len c.grow_quietly.new.controllers inside.controllers.items (omega (arith, c.as_mut_slice-2.ensures.len, ap length c.as_mut_slice-2.ensures.value, c_size)) (sym c_size) in
     let talkers = put_back inside.talkers.len c.grow_quietly.new.talkers inside.talkers.items (omega (arith, c.as_mut_slice.ensures.len, ap length c.as_mut_slice.ensures.value, t_size)) (sym t_size) in
     let held = c.self.invariant in
@@ -72,7 +72,7 @@ returns-clause-made c was_made =
     let told = c.grow_quietly.ensures.quiet (search rules) in
     let grown = subst (λ ms. GrowsQuietly inside.faults inside.made c.grow_quietly.new.made rest new inside.talkers.items c.grow_quietly.new.talkers ms c.grow_quietly.new.controllers) c.as_mut_slice-2.ensures.value
     (subst (λ ms. GrowsQuietly inside.faults inside.made c.grow_quietly.new.made rest new ms c.grow_quietly.new.talkers c.as_mut_slice-2.result.now c.grow_quietly.new.controllers) c.as_mut_slice.ensures.value told) in
-    let c_size = grown.sends.sends.controllers.size in
+    let c_size = grown.sends.controllers.size in
     let controllers = put_back inside.controllers.len c.grow_quietly.new.controllers inside.controllers.items (omega (arith, c.as_mut_slice-2.ensures.len, ap length c.as_mut_slice-2.ensures.value, c_size)) (sym c_size) in
     let longer : next ≡ bit + 1 = ap length grown.levels_is ∙ length-append inside.made.levels.items (grown.level ∷ []) in
     let rests = c.self.invariant.2 in

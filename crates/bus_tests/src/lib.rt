@@ -1,0 +1,13 @@
+//! The tests of frames, nodes and segments, over what these libraries show to those above them.
+#![tactic(auto)]
+
+#[cfg(test)]
+mod bus;
+#[cfg(test)]
+mod frames;
+#[cfg(test)]
+mod listeners;
+#[cfg(test)]
+mod node;
+#[cfg(test)]
+mod segment;

@@ -1,0 +1,163 @@
+//! One that follows a line in place of nodes that listen, a node that sends to them or goes on, and the reader's short
+//! ways.
+
+use can_frame::{Frame, Reader, Step};
+use can_node::{Counters, KnownCounts, Listener, Node, Outcome};
+
+/// A data frame of identifier 0 without bytes as all sample it, its ACK slot, the level at place 41, dominant.
+const FRAME: &str = "00000100000100000100000100000100000100001011111111";
+
+/// The node samples a level, if it has a bit left.
+fn sample(node: &mut Node, level: bool) -> Option<Outcome> {
+    if node.bit() == u64::MAX {
+        return None;
+    }
+    Some(node.sample(level))
+}
+
+/// The node sends a bit to all that this one stands for, if it has a bit left.
+fn send_to(node: &mut Node, listener: &mut Listener) -> Option<bool> {
+    if node.bit() == u64::MAX {
+        return None;
+    }
+    node.send_to(listener)
+}
+
+/// The node samples a level with which it goes on, if it has a bit left.
+fn go_on(node: &mut Node, level: bool) -> Option<Outcome> {
+    if node.bit() == u64::MAX || !node.goes_on(level) {
+        return None;
+    }
+    node.go_on(level);
+    Some(Outcome::Nothing)
+}
+
+/// A node that came to an idle bus at bit 11.
+fn synchronized() -> Node {
+    let mut node = Node::new(0);
+    for _ in 0..11u8 {
+        sample(&mut node, true);
+    }
+    node
+}
+
+#[test]
+fn one_follows_for_those_that_listen(rt: HostRuntime) {
+    let mut sender = synchronized();
+    let mut receiver = synchronized();
+    let mut listener = receiver.listener();
+    assert!(rt; listener.wants_start());
+    if sender.wants_start() {
+        sender.begin(Frame::default());
+    }
+    assert!(rt; !sender.is_listening());
+    for (place, byte) in FRAME.as_bytes().iter().enumerate() {
+        let level = *byte == b'1';
+        match place {
+            0 | 1 => {
+                assert_eq!(rt; sample(&mut sender, level), Some(Outcome::Nothing));
+                assert_eq!(rt; sample(&mut receiver, level), Some(Outcome::Nothing));
+                assert!(rt; receiver.is_listening());
+                listener = receiver.listener();
+                assert!(rt; receiver.stands_with(&listener));
+                assert!(rt; !listener.wants_start());
+            }
+            // the last bit of the CRC, at which the frame is read, and the ACK slot, at which a receiver answers
+            39 | 41 => {
+                assert_eq!(rt; listener.drive(), place != 41);
+                assert_eq!(rt; listener.is_reading(), place == 39);
+                assert_eq!(rt; send_to(&mut sender, &mut listener), None);
+                assert_eq!(rt; sample(&mut sender, level), Some(Outcome::Nothing));
+                assert!(rt; listener.follow(sender.bit(), level, receiver.known_counts()));
+            }
+            // the sixth bit of EOF, at which a receiver takes the frame
+            48 => {
+                assert_eq!(rt; send_to(&mut sender, &mut listener), None);
+                assert!(rt; !listener.follow(sender.bit(), level, KnownCounts::Zero));
+                assert!(rt; !receiver.stands_with(&listener));
+                receiver.catch_up(&listener, sender.bit());
+                assert_eq!(rt; sample(&mut sender, level), Some(Outcome::Nothing));
+                assert_eq!(rt;
+                    sample(&mut receiver, level),
+                    Some(Outcome::Took {
+                        start: 11,
+                        frame: Frame::default(),
+                    })
+                );
+            }
+            49 => assert_eq!(rt; sample(&mut sender, level), Some(Outcome::Completed)),
+            _ => {
+                assert!(rt; listener.drive());
+                assert_eq!(rt; send_to(&mut sender, &mut listener), Some(level));
+            }
+        }
+    }
+    assert_eq!(rt; sender.bit(), 61);
+    assert_eq!(rt; receiver.bit(), 60);
+    assert_eq!(rt;
+        KnownCounts::Zero.and(sender.known_counts()),
+        KnownCounts::Zero
+    );
+}
+
+#[test]
+fn one_goes_on_through_flags_and_in_bus_off(rt: HostRuntime) {
+    let mut node = synchronized();
+    let mut bits = 0u16;
+    // each SOF that it drives is sampled recessive, which adds 8 to its transmit error count, and 32 of them end it
+    for _ in 0..1000u16 {
+        let starts = node.wants_start();
+        if starts {
+            node.begin(Frame::default());
+        }
+        let level = starts || node.drive();
+        if go_on(&mut node, level).is_some() {
+            bits = bits.saturating_add(1);
+            continue;
+        }
+        if sample(&mut node, level) == Some(Outcome::WentOff) {
+            break;
+        }
+    }
+    assert_eq!(rt; node.counters().tec(), 256);
+    // each of its 31 flags has six bits, a delimiter of eight and an intermission of three; behind it are eight bits
+    // more while it is error passive, which is from the 16th flag on
+    assert_eq!(rt; bits, 31 * (6 + 8 + 3) + 16 * 8);
+    let start = node.bit();
+    // a run that a dominant bit breaks does not count
+    for level in [true, true, true, false] {
+        assert_eq!(rt; go_on(&mut node, level), Some(Outcome::Nothing));
+    }
+    for run in 1..=128u8 {
+        for _ in 0..10u8 {
+            assert_eq!(rt; go_on(&mut node, true), Some(Outcome::Nothing));
+        }
+        assert_eq!(rt; go_on(&mut node, true), None);
+        let comes_back = run == 128;
+        assert_eq!(rt;
+            sample(&mut node, true) == Some(Outcome::CameBack),
+            comes_back
+        );
+    }
+    assert_eq!(rt; node.bit().checked_sub(start), Some(4 + 128 * 11));
+    assert_eq!(rt; node.counters(), Counters::new());
+}
+
+#[test]
+fn most_levels_are_read_in_a_short_way(rt: HostRuntime) {
+    let mut reader = Reader::new();
+    for (place, byte) in FRAME.as_bytes().iter().enumerate() {
+        let level = *byte == b'1';
+        let before = reader.copy();
+        assert_eq!(rt; before.reads_as(&reader), place < 49);
+        assert_eq!(rt; reader.reads_on(level), 1 <= place && place <= 38);
+        assert_eq!(rt; reader.reads_tail(level), 40 <= place && place <= 47);
+        match place {
+            0 => assert_eq!(rt; reader.push(level), Step::More),
+            39 => assert_eq!(rt; reader.push(level), Step::Body(Frame::default(), true)),
+            48 | 49 => assert_eq!(rt; reader.push(level), Step::Taken(Frame::default())),
+            _ => {}
+        }
+        assert!(rt; !before.reads_as(&reader));
+    }
+}

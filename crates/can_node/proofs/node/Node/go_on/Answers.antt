@@ -1,0 +1,15 @@
+use Rattle.can_node.proofs.PlainBits.{goes_plainly, goes_sending, in_plain, in_sending}
+use Rattle.can_node.proofs.node.Node.go_on.Goals as goal
+
+pub returns-in-Sending : goal.returns-in-Sending
+returns-in-Sending c =
+    let node = c.args.self.now in
+    let here = c.in-Sending in
+    let on = in_sending node c.args.level here._start here.sent here.is c.requires.goes in
+    goes_sending node here._start here.sent c.saturating_add.result c.args.level here.is on.slot on.last on.echo c.saturating_add.ensures
+
+pub returns : goal.returns
+returns c =
+    let node = c.args.self.now in
+    let plain = in_plain node c.args.level c.in_default.not-Sending c.requires.goes in
+    goes_plainly node c.args.level c.behind_plain-self.result plain (c.behind_plain-self.ensures plain)

@@ -1,0 +1,61 @@
+-- Bits at which a node goes on: nothing begins, nothing is told and nothing counted.
+use Rattle.std.specs.Prelude.{◌≡◌, ℕ, ◌+◌, ◌||◌, Bool, true, false, None, length, not, nat_le}
+use Rattle.can_confinement.specs.Confinement.{state_of}
+use Rattle.can_confinement.specs.Counters.{counts_of}
+use Rattle.can_confinement.specs.declared.counters.Counters.{Counters}
+use Rattle.can_node.specs.declared.node.Node.{Node}
+use Rattle.can_node.specs.declared.outcome.Outcome.TheVariants.{Nothing}
+use Rattle.can_node.specs.declared.state.State.{State}
+use Rattle.can_node.specs.declared.state.State.TheVariants.{Delimiting, Flagging, PassiveFlagging, Recovering, Resting, Sending, Suspending, Waiting}
+use Rattle.can_node.specs.declared.state.Turn.{Turn}
+use Rattle.can_node.specs.Histories.{Past, IsHistory}
+use Rattle.can_node.specs.Machine.{Goes, is_taking, quiet}
+use Rattle.can_node.specs.Node.{StandsAfter, IsSample, bit_of, counters_in, may_begin}
+use Rattle.can_node.specs.Sending.{level_at}
+
+-- In a flag that drives dominant, with a dominant level; behind a flag, in the delimiter, the intermission and suspend
+-- transmission, with a recessive one.
+abbrev pub turns_plainly : Bool → State → Bool
+turns_plainly level (Flagging kind role sent until) = not level
+turns_plainly level (Waiting kind role until first) = level
+turns_plainly level (Delimiting role ones) = level
+turns_plainly level (Resting role ones) = level
+turns_plainly level (Suspending ones) = level
+turns_plainly level state = false
+
+-- So with any level in bus off, where no run of eleven recessive bits ends with the next bit, and in a passive error flag,
+-- but for the first dominant level of one that owes an error count.
+abbrev pub is_plain : Bool → State → Bool
+is_plain level (Recovering runs ones) = nat_le ones 9
+is_plain level (PassiveFlagging role owes ones zeros) = level || not owes
+is_plain level state = turns_plainly level state
+
+-- the node is in such a state
+abbrev pub is_in_plain : Bool → Node → Bool
+is_in_plain level node = is_plain level node.state
+
+-- a turn with which nothing begins, nothing is told and nothing counted
+pub record IsPlain (turn : Turn) : Type 0 where
+  pub event_is : turn.event ≡ None
+  pub outcome_is : turn.outcome ≡ Nothing
+  pub reads_none : is_taking turn.state ≡ false
+
+-- where a level leaves such a state, with these counts of errors
+pub record LeavesPlainly (state : State) (counters : Counters) (now : ℕ) (level : Bool) (next : State) : Type 0 where
+  pub goes : Goes state now (state_of (counts_of counters)) level (quiet next)
+  pub reads_none : is_taking next ≡ false
+
+-- The node goes on with this level: it is in such a state, or sends a frame and drives this level, in another place than
+-- the ACK slot and the last bit of EOF.
+pub data MayGoOn (level : Bool) (node : Node) : Type 0 where
+  is_in : is_plain level node.state ≡ true → MayGoOn level node
+  sends : (start place : ℕ) → node.state ≡ Sending start place → (place + 9 ≡ length node.spelling.levels.items → ⊥) →
+      (place + 1 ≡ length node.spelling.levels.items → ⊥) → level ≡ level_at node.spelling place → MayGoOn level node
+
+-- One such bit: it samples this level, may not begin to send, tells nothing and counts nothing.
+pub record GoesOn (old : Node) (level : Bool) (new : Node) : Type 0 where
+  pub begins_none : may_begin old ≡ false
+  pub samples : IsSample old level Nothing new
+  pub history : (past : Past) → StandsAfter new past → IsHistory past
+  pub bit_is : bit_of new ≡ bit_of old + 1
+  pub counts_none : counters_in new ≡ counters_in old

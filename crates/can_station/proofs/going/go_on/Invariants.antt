@@ -1,0 +1,6 @@
+use Rattle.can_station.specs.Places.{AtPlacesBelow}
+use Rattle.can_station.specs.RestingNodes.{IfAwake, MemberGoes}
+use Rattle.can_station.proofs.going.go_on.Given as goal
+
+abbrev pub invariant-loop-place : goal.invariant-loop-place
+invariant-loop-place l = AtPlacesBelow (λ k. IfAwake (MemberGoes l.bit l.level)) l.initial.members l.members l.place

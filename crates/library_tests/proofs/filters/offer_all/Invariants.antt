@@ -1,6 +1,0 @@
--- An offer leaves the side at its FIFO.
-use Rattle.std.proofs.Common.{◌≡◌}
-use Rattle.library_tests.proofs.filters.offer_all.Given as goal
-
-abbrev pub invariant-loop-number : goal.invariant-loop-number
-invariant-loop-number g l = l.rxin.queue ≡ l.fn.rxin.queue

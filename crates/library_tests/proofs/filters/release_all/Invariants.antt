@@ -1,6 +1,0 @@
--- A release leaves the side at its FIFO.
-use Rattle.std.proofs.Common.{◌≡◌}
-use Rattle.library_tests.proofs.filters.release_all.Given as goal
-
-abbrev pub invariant-loop : goal.invariant-loop
-invariant-loop g l = l.rxout.queue ≡ l.fn.rxout.queue
