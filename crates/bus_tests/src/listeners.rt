@@ -32,6 +32,15 @@ fn go_on(node: &mut Node, level: bool) -> Option<Outcome> {
     Some(Outcome::Nothing)
 }
 
+/// The reader is pushed a level with which the stuffed region goes on.
+fn read_on(reader: &mut Reader, level: bool) -> bool {
+    if !reader.would_read_on(level) {
+        return false;
+    }
+    reader.read_on(level);
+    true
+}
+
 /// A node that came to an idle bus at bit 11.
 fn synchronized() -> Node {
     let mut node = Node::new(0);
@@ -149,7 +158,9 @@ fn most_levels_are_read_in_a_short_way(rt: HostRuntime) {
     for (place, byte) in FRAME.as_bytes().iter().enumerate() {
         let level = *byte == b'1';
         let before = reader.copy();
+        let mut other = reader.copy();
         assert_eq!(rt; before.reads_as(&reader), place < 49);
+        assert_eq!(rt; read_on(&mut other, level), place <= 38);
         assert_eq!(rt; reader.reads_on(level), 1 <= place && place <= 38);
         assert_eq!(rt; reader.reads_tail(level), 40 <= place && place <= 47);
         match place {
@@ -159,5 +170,30 @@ fn most_levels_are_read_in_a_short_way(rt: HostRuntime) {
             _ => {}
         }
         assert!(rt; !before.reads_as(&reader));
+        assert_eq!(rt; other.reads_as(&reader), place <= 38);
     }
+}
+
+#[test]
+fn a_receiver_goes_on_in_the_stuffed_region(rt: HostRuntime) {
+    let mut receiver = synchronized();
+    for (place, byte) in FRAME.as_bytes().iter().enumerate() {
+        let level = *byte == b'1';
+        if place <= 38 && level {
+            // a sixth dominant level is a stuff error
+            assert_eq!(rt; go_on(&mut receiver, false), None);
+        }
+        if 1 <= place && place <= 38 {
+            assert_eq!(rt; go_on(&mut receiver, level), Some(Outcome::Nothing));
+            continue;
+        }
+        assert_eq!(rt; go_on(&mut receiver, level), None);
+        let taken = Outcome::Took {
+            start: 11,
+            frame: Frame::default(),
+        };
+        let outcome = if place == 48 { taken } else { Outcome::Nothing };
+        assert_eq!(rt; sample(&mut receiver, level), Some(outcome));
+    }
+    assert_eq!(rt; receiver.bit(), 61);
 }

@@ -5,7 +5,7 @@ use Rattle.can_frame.specs.Frames.{FrameValue}
 use Rattle.can_frame.specs.Fields.{Unchecked}
 use Rattle.can_frame.specs.Fronts.{IsRegion, front_tail, IsFront, BeginsRough, BeginsRegion}
 use Rattle.can_frame.specs.Answers.{Answers, FaultAnswers, IsBody, IsBehindBody, IsAckFault, IsCrcFault, IsFaulty, IsUndecided, IsLast}
-use Rattle.can_frame.specs.Reading.{StandsAt, HasEnded, IsOpen}
+use Rattle.can_frame.specs.Reading.{IsPush, IsReading, MayReadOn, Next, ReadsOn, StandsAfter, StandsAt, HasEnded, IsOpen}
 use Rattle.can_frame.specs.ReaderLaws.{OneAnswer, ReadingIsUndecided, FrontsAreTaken, TakenAreFronts, FirstFaultsAreAnswered, AnsweredFaultsAreFirst}
 use Rattle.can_frame.specs.declared.step.FaultKind.{FaultKind}
 use Rattle.can_frame.specs.declared.step.FaultKind.TheVariants.{Stuff, Form, Ack, Crc}
@@ -13,6 +13,7 @@ use Rattle.can_frame.specs.declared.level_run.LevelRun.{LevelRun}
 use Rattle.can_frame.specs.declared.step.Step.{Step}
 use Rattle.can_frame.specs.declared.step.Step.TheVariants.{More, StuffBit, Body, Tail, Taken, Fault}
 use Rattle.can_frame.specs.declared.reader.Place.{Place}
+use Rattle.can_frame.specs.declared.reader.Reader.{Reader}
 use Rattle.can_frame.specs.declared.reader.Place.TheVariants.{Region, AfterBody, Ended}
 use Rattle.can_frame.proofs.Regions.{one_region, region_frame, no_region}
 use Rattle.can_frame.proofs.FrontLaws.{parts, no_front_begins}
@@ -334,3 +335,26 @@ pub answered_faults_are_first : AnsweredFaultsAreFirst
 answered_faults_are_first reader text kind h e =
     let d = subst (λ p. StandsAt p reader.run reader.levels.items text) e h in
     (d.before, d.level, d.more, d.whole, d.undecided, d.answer)
+
+-- a push where the region goes on with that level is one behind which it does
+only_push : (old one new : Reader) (level : Bool) (answer step : Step) → IsPush old level answer one → IsPush old level step new → IsPush old level answer new
+only_push old one new level answer step is made = record {
+  next = λ text reading stands. let told = is.next text reading stands in
+      let pushed = made.next text reading stands in
+      subst (λ s. Next s new text level) (one_answer step answer text level pushed.answer told.answer) pushed;
+  stands = made.stands;
+  again = λ given ended. ((is.again given ended).0, (made.again given ended).1);
+}
+
+pub reads_on : (old new : Reader) (level : Bool) (step : Step) → MayReadOn level old → IsPush old level step new → ReadsOn old level new
+reads_on old new level step may made = elim may.1 [ inl more ↦ inl (only_push old may.0 new level More step more made) | inr stuff ↦ inr (only_push old may.0 new level StuffBit step stuff made) ]
+
+-- one whose push has another answer may not
+pub may_not : (old new : Reader) (level : Bool) (step : Step) → IsPush old level step new → (step ≡ More → ⊥) → (step ≡ StuffBit → ⊥) →
+    (text : List Bool) → IsReading old → StandsAfter old text → MayReadOn level old → ⊥
+may_not old new level step made more stuff text reading stands may =
+    let pushed = made.next text reading stands in
+    elim may.1 [
+      | inl is ↦ more (one_answer step More text level pushed.answer (is.next text reading stands).answer)
+      | inr is ↦ stuff (one_answer step StuffBit text level pushed.answer (is.next text reading stands).answer)
+    ]

@@ -106,6 +106,10 @@ pub record IsPush (old : Reader) (level : Bool) (step : Step) (new : Reader) : T
 abbrev pub ReadsOn : Reader → Bool → Reader → Type 0
 ReadsOn old level new = IsPush old level More new ⊎ IsPush old level StuffBit new
 
+-- with this level the stuffed region goes on: there is a push of it behind which it does
+abbrev pub MayReadOn : Bool → Reader → Type 0
+MayReadOn level reader = (new : Reader) × ReadsOn reader level new
+
 -- the other reader stands after each text after which this one does, and reads on where this one does
 pub record StandsAs (one other : Reader) : Type 0 where
   pub stands : (text : List Bool) → StandsAfter one text → StandsAfter other text

@@ -9,16 +9,16 @@ ghost use Rattle.can_frame.specs.Reading.{
   StandsAfter,
   IsReading,
   IsPush,
+  MayReadOn,
   ReadsOn,
   StandsAs,
   Next,
   Judges,
 };
 
-use crate::crc::crc15;
 use crate::frame::Frame;
 use crate::level_run::LevelRun;
-use crate::reading::{fields_len, frame_of, number_of};
+use crate::reading::{frame_of, is_complete, is_complete_next, is_right};
 use crate::step::{FaultKind, Step};
 use crate::tail::tail_step;
 use arrayvec::ArrayVec;
@@ -178,6 +178,29 @@ impl Reader {
             return true;
         }
         self.push_stuff(level)
+    }
+
+    /// Whether the stuffed region goes on with this level: `push` would answer `More` or `StuffBit`.
+    #[inline(never)]
+    pub fn would_read_on(&self, level: bool) -> bool
+        ensures on { result ≡ true → MayReadOn level self.now }
+        ensures other { result ≡ false → (text : List Bool) → IsReading self.now → StandsAfter self.now text
+            → MayReadOn level self.now → ⊥ }
+    {
+        match self.copy().push(level) {
+            Step::More => true,
+            Step::StuffBit => true,
+            _ => false,
+        }
+    }
+
+    /// Pushes a level with which the stuffed region goes on.
+    #[inline]
+    pub fn read_on(&mut self, level: bool)
+        requires { MayReadOn level self.old }
+        ensures { ReadsOn self.old level self.new }
+    {
+        let _step = self.push(level);
     }
 
     /// Pushes a level that is `StuffBit`, and tells whether it did.
@@ -345,43 +368,4 @@ fn keep(levels: &mut ArrayVec<bool, 118>, level: bool)
     if levels.len() < 118 {
         levels.push(level);
     }
-}
-
-/// Whether the fields and the fifteen levels of the CRC stand there.
-fn is_complete(text: &[bool]) -> bool
-    ensures whole { result ≡ true → length text.now ≡ fields_length text.now + 15 }
-    ensures part { result ≡ false → length text.now ≡ fields_length text.now + 15 → ⊥ }
-{
-    // the fields are nineteen levels or thirty-nine, and whole bytes
-    if text.len() < 34 {
-        return false;
-    }
-    if text.len() % 4 != 2 {
-        return false;
-    }
-    text.len() == fields_len(text) + 15
-}
-
-/// Whether they stand there with one more level.
-fn is_complete_next(text: &[bool]) -> bool
-    ensures { result ≡ false → length text.now + 1 ≡ fields_length text.now + 15 → ⊥ }
-{
-    if text.len() < 33 {
-        return false;
-    }
-    if text.len() % 4 != 1 {
-        return false;
-    }
-    text.len() == fields_len(text) + 14
-}
-
-/// Whether the last fifteen levels of a whole text are the CRC.
-fn is_right(text: &[bool]) -> bool
-    ensures { length text.now ≡ fields_length text.now + 15 → Judges result text.now }
-{
-    let end = fields_len(text);
-    if end > text.len() {
-        return false;
-    }
-    u32::from(crc15(&text[..end])) == number_of(text, end, 15)
 }

@@ -1,8 +1,9 @@
 //! Reading of the fields of an unstuffed text, by their places from SOF on. Past the end of the text
 //! levels count as dominant, so that each function has a value for every text.
 
-ghost use Rattle.std.specs.Prelude.{◌≡◌, ◌≤◌, ◌<◌, ◌^◌, false, get_or};
+ghost use Rattle.std.specs.Prelude.{◌≡◌, ◌≤◌, ◌<◌, ◌+◌, ◌^◌, true, false, length, get_or};
 ghost use Rattle.can_frame.specs.Frames.{remote_code, data_bytes};
+ghost use Rattle.can_frame.specs.Reading.{Judges};
 ghost use Rattle.can_frame.specs.FieldReading.{
   digit,
   number_at,
@@ -13,6 +14,7 @@ ghost use Rattle.can_frame.specs.FieldReading.{
   at_most_eight,
 };
 
+use crate::crc::crc15;
 use crate::frame::Frame;
 use crate::identifier::Id;
 use arrayvec::ArrayVec;
@@ -37,7 +39,7 @@ fn digit_of(level: bool) -> u32
 }
 
 /// The number at a place, the most significant level first.
-pub fn number_of(text: &[bool], start: usize, width: usize) -> u32
+fn number_of(text: &[bool], start: usize, width: usize) -> u32
     requires start { start ≤ 200 }
     requires width { width ≤ 18 }
     ensures value { result ≡ number_at text.now start width }
@@ -59,7 +61,7 @@ fn amount_of(code: u32) -> u8
 }
 
 /// How many levels the fields have, SOF to the last data bit, of a text that begins so.
-pub fn fields_len(text: &[bool]) -> usize
+fn fields_len(text: &[bool]) -> usize
     ensures value { result ≡ fields_length text.now }
     ensures few { result ≤ 103 }
 {
@@ -154,4 +156,43 @@ fn data_of(id: Id, bytes: &ArrayVec<u8, 8>) -> Frame
         Ok(frame) => frame,
         Err(_) => Frame::default(),
     }
+}
+
+/// Whether the fields and the fifteen levels of the CRC stand there.
+pub fn is_complete(text: &[bool]) -> bool
+    ensures whole { result ≡ true → length text.now ≡ fields_length text.now + 15 }
+    ensures part { result ≡ false → length text.now ≡ fields_length text.now + 15 → ⊥ }
+{
+    // the fields are nineteen levels or thirty-nine, and whole bytes
+    if text.len() < 34 {
+        return false;
+    }
+    if text.len() % 4 != 2 {
+        return false;
+    }
+    text.len() == fields_len(text) + 15
+}
+
+/// Whether they stand there with one more level.
+pub fn is_complete_next(text: &[bool]) -> bool
+    ensures { result ≡ false → length text.now + 1 ≡ fields_length text.now + 15 → ⊥ }
+{
+    if text.len() < 33 {
+        return false;
+    }
+    if text.len() % 4 != 1 {
+        return false;
+    }
+    text.len() == fields_len(text) + 14
+}
+
+/// Whether the last fifteen levels of a whole text are the CRC.
+pub fn is_right(text: &[bool]) -> bool
+    ensures { length text.now ≡ fields_length text.now + 15 → Judges result text.now }
+{
+    let end = fields_len(text);
+    if end > text.len() {
+        return false;
+    }
+    u32::from(crc15(&text[..end])) == number_of(text, end, 15)
 }

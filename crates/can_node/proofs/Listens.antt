@@ -139,7 +139,7 @@ region_drives : (state : State) (spelling : Spelling) → is_in_region state ≡
 region_drives (Taking start false Region) spelling is = refl
 region_drives state spelling is = absurd (cc is)
 
-region_begins : (state : State) → is_in_region state ≡ true → may_start state ≡ false
+pub region_begins : (state : State) → is_in_region state ≡ true → may_start state ≡ false
 region_begins (Taking start false Region) is = refl
 region_begins state is = absurd (cc is)
 

@@ -2,20 +2,24 @@
 use Rattle.std.proofs.Common.{arith, inl, inr, ◌≡◌, ℕ, ◌+◌, ◌<◌, ◌≤◌, ◌||◌, length, min, Bool, true, false, None, not, refl, ap, subst, sym, ◌∙◌}
 use Rattle.std.specs.Bool.{beq}
 use Rattle.std.proofs.lemmas.Bool.Decides.{leb_tells}
+use Rattle.can_frame.specs.Reading.{MayReadOn, ReadsOn}
+use Rattle.can_frame.specs.declared.reader.Reader.{Reader}
 use Rattle.can_confinement.specs.Confinement.{state_of}
 use Rattle.can_confinement.specs.Counters.{counts_of}
 use Rattle.can_confinement.specs.declared.confinement.ErrorState.{ErrorState}
+use Rattle.can_confinement.specs.declared.known_counts.KnownCounts.TheVariants.{Any}
 use Rattle.can_confinement.specs.declared.confinement.Role.{Role}
 use Rattle.can_confinement.specs.declared.counters.Counters.{Counters}
 use Rattle.can_node.specs.declared.node.Node.{Node}
 use Rattle.can_node.specs.declared.outcome.Outcome.TheVariants.{Nothing}
 use Rattle.can_node.specs.declared.state.State.{State}
-use Rattle.can_node.specs.declared.state.State.TheVariants.{Delimiting, Flagging, PassiveFlagging, Recovering, Resting, Sending, Suspending, Waiting}
+use Rattle.can_node.specs.declared.state.State.TheVariants.{Delimiting, Flagging, PassiveFlagging, Recovering, Resting, Sending, Suspending, Taking, Waiting}
 use Rattle.can_node.specs.declared.state.Turn.{Turn}
-use Rattle.can_node.specs.Machine.{Goes, is_sending, is_taking, may_start, quiet}
+use Rattle.can_node.specs.Machine.{Goes, is_in_region, is_sending, is_taking, may_start, quiet}
 use Rattle.can_node.specs.Sending.{level_at}
 use Rattle.can_node.specs.PlainBits.{GoesOn, IsPlain, LeavesPlainly, MayGoOn, is_plain, turns_plainly}
-use Rattle.can_node.specs.PlainBits.MayGoOn.{is_in, sends}
+use Rattle.can_node.specs.PlainBits.MayGoOn.{is_in, reads, sends}
+use Rattle.can_node.proofs.Listens.{region_begins, region_follows}
 use Rattle.can_node.proofs.Moves.{off_broken, off_longer}
 use Rattle.can_node.proofs.SendMoves.{send_echoed}
 use Rattle.can_node.proofs.Samples.{other_advances, quiet_steps, quiet_steps_now, samples, sending_advances, stands_history}
@@ -98,6 +102,19 @@ goes_plainly node level next plain leaves =
       counts_none = refl;
     }
 
+-- or it reads on
+pub goes_reading : (node : Node) (level : Bool) (reader : Reader) → is_in_region node.state ≡ true → ReadsOn node.reader level reader →
+    GoesOn node level (record { state = node.state; reader = reader; spelling = node.spelling; counters = node.counters; clock = node.clock + 1 })
+goes_reading node level reader inside on =
+    let behind : Node = record { state = node.state; reader = reader; spelling = node.spelling; counters = node.counters; clock = node.clock + 1 } in
+    record {
+      begins_none = region_begins node.state inside;
+      samples = region_follows Any node.state node.reader reader node.clock level inside on node tt;
+      history = stands_history behind;
+      bit_is = refl;
+      counts_none = refl;
+    }
+
 -- or it sends on
 pub goes_sending : (node : Node) (start place next : ℕ) (level : Bool) → node.state ≡ Sending start place → (place + 9 ≡ length node.spelling.levels.items → ⊥) → (place + 1 ≡ length node.spelling.levels.items → ⊥) →
     level ≡ level_at node.spelling place → next ≡ min (place + 1) 255 → GoesOn node level (behind node (Sending start next))
@@ -113,10 +130,21 @@ goes_sending node start place next level here slot last echo next_is = record {
   counts_none = refl;
 }
 
--- which of both it is tells its state
-pub in_plain : (node : Node) (level : Bool) → ((start place : ℕ) → node.state ≡ Sending start place → ⊥) → MayGoOn level node → is_plain level node.state ≡ true
-in_plain node level not (is_in is) = is
-in_plain node level not (sends start place here slot last echo) = absurd (not start place here)
+-- which of these it is tells its state
+pub in_plain : (node : Node) (level : Bool) → ((start place : ℕ) → node.state ≡ Sending start place → ⊥) → is_in_region node.state ≡ false → MayGoOn level node → is_plain level node.state ≡ true
+in_plain node level not outside (is_in is) = is
+in_plain node level not outside (reads inside may) = absurd (cc (inside, outside))
+in_plain node level not outside (sends start place here slot last echo) = absurd (not start place here)
+
+not_plain : (level : Bool) (state : State) → is_in_region state ≡ true → is_plain level state ≡ true → ⊥
+not_plain level (Taking start may stage) inside is = cc is
+not_plain level (Sending start place) inside is = cc is
+not_plain level state inside is = cc inside
+
+pub in_region : (node : Node) (level : Bool) → is_in_region node.state ≡ true → MayGoOn level node → MayReadOn level node.reader
+in_region node level inside (is_in is) = absurd (not_plain level node.state inside is)
+in_region node level inside (reads here may) = may
+in_region node level inside (sends start place here slot last echo) = absurd (let outside = ap is_in_region here in cc (inside, outside))
 
 -- what is so of one that sends
 pub record SendsOn (node : Node) (level : Bool) (place : ℕ) : Type 0 where
@@ -126,6 +154,7 @@ pub record SendsOn (node : Node) (level : Bool) (place : ℕ) : Type 0 where
 
 pub in_sending : (node : Node) (level : Bool) (start place : ℕ) → node.state ≡ Sending start place → MayGoOn level node → SendsOn node level place
 in_sending node level start place here (is_in is) = absurd (let not = ap (is_plain level) here in cc (is, not))
+in_sending node level start place here (reads inside may) = absurd (let outside = ap is_in_region here in cc (inside, outside))
 in_sending node level start place here (sends s p there slot last echo) =
     let same : Sending s p ≡ Sending start place = sym there ∙ here in
     let is : p ≡ place = cc same in

@@ -1,5 +1,6 @@
 -- Bits at which a node goes on: nothing begins, nothing is told and nothing counted.
 use Rattle.std.specs.Prelude.{◌≡◌, ℕ, ◌+◌, ◌||◌, Bool, true, false, None, length, not, nat_le}
+use Rattle.can_frame.specs.Reading.{MayReadOn}
 use Rattle.can_confinement.specs.Confinement.{state_of}
 use Rattle.can_confinement.specs.Counters.{counts_of}
 use Rattle.can_confinement.specs.declared.counters.Counters.{Counters}
@@ -9,7 +10,7 @@ use Rattle.can_node.specs.declared.state.State.{State}
 use Rattle.can_node.specs.declared.state.State.TheVariants.{Delimiting, Flagging, PassiveFlagging, Recovering, Resting, Sending, Suspending, Waiting}
 use Rattle.can_node.specs.declared.state.Turn.{Turn}
 use Rattle.can_node.specs.Histories.{Past, IsHistory}
-use Rattle.can_node.specs.Machine.{Goes, is_taking, quiet}
+use Rattle.can_node.specs.Machine.{Goes, is_in_region, is_taking, quiet}
 use Rattle.can_node.specs.Node.{StandsAfter, IsSample, bit_of, counters_in, may_begin}
 use Rattle.can_node.specs.Sending.{level_at}
 
@@ -30,10 +31,6 @@ is_plain level (Recovering runs ones) = nat_le ones 9
 is_plain level (PassiveFlagging role owes ones zeros) = level || not owes
 is_plain level state = turns_plainly level state
 
--- the node is in such a state
-abbrev pub is_in_plain : Bool → Node → Bool
-is_in_plain level node = is_plain level node.state
-
 -- a turn with which nothing begins, nothing is told and nothing counted
 pub record IsPlain (turn : Turn) : Type 0 where
   pub event_is : turn.event ≡ None
@@ -45,10 +42,11 @@ pub record LeavesPlainly (state : State) (counters : Counters) (now : ℕ) (leve
   pub goes : Goes state now (state_of (counts_of counters)) level (quiet next)
   pub reads_none : is_taking next ≡ false
 
--- The node goes on with this level: it is in such a state, or sends a frame and drives this level, in another place than
--- the ACK slot and the last bit of EOF.
+-- The node goes on with this level: it is in such a state, reads a frame whose stuffed region goes on with it, or sends a
+-- frame and drives this level, in another place than the ACK slot and the last bit of EOF.
 pub data MayGoOn (level : Bool) (node : Node) : Type 0 where
   is_in : is_plain level node.state ≡ true → MayGoOn level node
+  reads : is_in_region node.state ≡ true → MayReadOn level node.reader → MayGoOn level node
   sends : (start place : ℕ) → node.state ≡ Sending start place → (place + 9 ≡ length node.spelling.levels.items → ⊥) →
       (place + 1 ≡ length node.spelling.levels.items → ⊥) → level ≡ level_at node.spelling place → MayGoOn level node
 

@@ -5,7 +5,7 @@ ghost use Rattle.can_confinement.specs.Counters.{StandsAfter as CountersStandAft
 ghost use Rattle.can_node.specs.Histories.{Past, no_past, IsHistory};
 ghost use Rattle.can_node.specs.Listener.{SendsTo, StandsWith, caught_up, listener_of, listens_in};
 ghost use Rattle.can_confinement.specs.KnownCounts.{Knows, known_of};
-ghost use Rattle.can_node.specs.PlainBits.{GoesOn, MayGoOn, is_in_plain};
+ghost use Rattle.can_node.specs.PlainBits.{GoesOn, MayGoOn};
 ghost use Rattle.can_node.specs.Node.{
   StandsAfter,
   IsSample,
@@ -21,7 +21,7 @@ ghost use Rattle.can_node.specs.Node.{
 
 use crate::listener::Listener;
 use crate::machine::{
-    advance, begin, behind_plain, is_plain, level_in, listens, may_start, sof_of,
+    advance, begin, behind_plain, is_in_region, is_plain, level_in, listens, may_start, sof_of,
 };
 use crate::outcome::Outcome;
 use crate::spelled::Spelled;
@@ -187,19 +187,21 @@ impl Node {
     }
 
     /// Whether the node goes on with its next bit, if that has this level: nothing begins then, and nothing is told or
-    /// counted. So it is where it sends a frame and drives this level, but in the ACK slot and at the last bit; in a
-    /// flag, and behind it up to the end of the intermission and of suspend transmission, with the levels that belong
-    /// there; and in bus off, but at the end of a run of eleven recessive bits.
+    /// counted. So it is where it sends a frame and drives this level, but in the ACK slot and at the last bit; where it
+    /// reads one whose stuffed region goes on with this level; in a flag, and behind it up to the end of the intermission
+    /// and of suspend transmission, with the levels that belong there; and in bus off, but at the end of a run of eleven
+    /// recessive bits.
     #[inline(always)]
     pub fn goes_on(&self, level: bool) -> bool
         ensures may { result ≡ true → MayGoOn level self.now }
-        ensures plain { is_in_plain level self.now ≡ true → result ≡ true }
+        ensures all { (past : Past) → StandsAfter self.now past → MayGoOn level self.now → result ≡ true }
     {
         match self.state {
             State::Sending(_, place) => match self.spelling.spelling().level_elsewhere(place) {
                 Some(own) => own == level,
                 None => false,
             },
+            state if is_in_region(state) => self.reader.would_read_on(level),
             state => is_plain(state, level),
         }
     }
@@ -215,6 +217,10 @@ impl Node {
         self.clock = bit + 1;
         if let State::Sending(_start, sent) = &mut self.state {
             *sent = sent.saturating_add(1);
+            return;
+        }
+        if is_in_region(self.state) {
+            self.reader.read_on(level);
             return;
         }
         self.state = behind_plain(self.state, &self.counters, bit, level);

@@ -1,6 +1,6 @@
 //! A frame as its sender drives it.
 
-ghost use Rattle.std.specs.Prelude.{◌≡◌, ◌≤◌, ◌<◌, ◌+◌, ◌∷◌, List, Bool, true, false, IfSome, length, reverse, min, take};
+ghost use Rattle.std.specs.Prelude.{◌≡◌, ◌⊎◌, ◌≤◌, ◌<◌, ◌+◌, ◌∷◌, List, Bool, true, false, IfNone, IfSome, length, reverse, min, take};
 ghost use Rattle.can_node.specs.Sends.{rtr_place};
 ghost use Rattle.can_node.specs.Sending.{IsSpelling, IsBitAt, level_at, Tallies, SaysBit};
 
@@ -98,9 +98,11 @@ impl Spelling {
         ensures slot { IfSome result (λ level. place + 9 ≡ length self.now.levels.items → ⊥) }
         ensures last { IfSome result (λ level. place + 1 ≡ length self.now.levels.items → ⊥) }
         ensures level { IfSome result (λ level. level ≡ level_at self.now place) }
+        ensures none { IfNone result ((place + 9 ≡ length self.now.levels.items)
+            ⊎ (place + 1 ≡ length self.now.levels.items)) }
     {
         let left = self.levels.len().saturating_sub(usize::from(place));
-        if left == 9 || left <= 1 {
+        if left == 9 || left == 1 {
             return None;
         }
         Some(self.level(place))
