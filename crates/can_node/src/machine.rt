@@ -357,19 +357,26 @@ pub(crate) fn is_plain(state: State, level: bool) -> bool
     }
 }
 
-/// Where this level leaves a node in such a state.
+/// One bit of a node in such a state, at which it samples this level.
 #[inline(always)]
-pub(crate) fn behind_plain(state: State, counters: &Counters, now: u64, level: bool) -> State
-    ensures { is_plain level state ≡ true → LeavesPlainly state counters.now now level result }
+pub(crate) fn go_plainly(state: &mut State, counters: &Counters, now: u64, level: bool)
+    ensures { is_plain level state.old ≡ true → LeavesPlainly state.old counters.now now level state.new }
 {
-    match state {
-        State::Recovering(runs, _) if !level => State::Recovering(runs, 0),
-        State::Recovering(runs, ones) => State::Recovering(runs, ones.saturating_add(1)),
+    // in place, since a node may be off for long
+    if let State::Recovering(_runs, ones) = state {
+        if !level {
+            *ones = 0;
+            return;
+        }
+        *ones = ones.saturating_add(1);
+        return;
+    }
+    *state = match *state {
         State::PassiveFlagging(role, owes, ones, zeros) => {
             behind_passive_flag(role, owes, ones, zeros, level)
         }
-        _ => turn_of(state, now, counters.state(), level).state,
-    }
+        other => turn_of(other, now, counters.state(), level).state,
+    };
 }
 
 /// The state of a node that begins to send at this bit. If the third bit of intermission was dominant, SOF

@@ -21,7 +21,7 @@ ghost use Rattle.can_node.specs.Node.{
 
 use crate::listener::Listener;
 use crate::machine::{
-    advance, begin, behind_plain, is_in_region, is_plain, level_in, listens, may_start, sof_of,
+    advance, begin, go_plainly, is_in_region, is_plain, level_in, listens, may_start, sof_of,
 };
 use crate::outcome::Outcome;
 use crate::spelled::Spelled;
@@ -223,7 +223,7 @@ impl Node {
             self.reader.read_on(level);
             return;
         }
-        self.state = behind_plain(self.state, &self.counters, bit, level);
+        go_plainly(&mut self.state, &self.counters, bit, level);
     }
 
     /// One bit of a frame that the node sends while all others listen: what `drive`, `sample` and `Listener::follow`

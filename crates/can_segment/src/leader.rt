@@ -1,9 +1,9 @@
-//! Which of the nodes that listen come to rest.
+//! After which node others come to rest.
 
 use can_node::Listener;
 use can_station::Member;
 
-/// One that has come as far as most of the nodes that listen.
+/// One that listens.
 #[derive(Drop)]
 pub(crate) struct Leader {
     pub(crate) listener: Listener,
@@ -12,69 +12,36 @@ pub(crate) struct Leader {
 }
 
 impl Leader {
-    /// One that has come as far as most of those nodes that listen before this bit, if most have come equally far: that
-    /// of the talker at this place, if it is one. Nothing rests on it that it is so: nodes come to rest only where they
-    /// have come as far as the listener.
-    pub(crate) fn of_most(
+    /// The first that listens before this bit: of the talkers from this place on, of those before, or of the
+    /// controllers. Nothing rests on it that it is so: nodes come to rest only where they have come as far as the
+    /// listener.
+    pub(crate) fn from_place(
+        place: usize,
         talkers: &[Member],
         controllers: &[Member],
         bit: u64,
-        likely: usize,
     ) -> Option<Leader> {
-        if let Some(member) = talkers.get(likely) {
-            if let Some(listener) = leading(member, talkers, controllers, bit) {
-                return Some(Leader {
-                    listener,
-                    place: likely,
-                });
-            }
+        if let Some(leader) = first_of(talkers, place, bit) {
+            return Some(leader);
         }
-        match leader_among(talkers, talkers, controllers, bit) {
+        match first_of(talkers, 0, bit) {
             Some(leader) => Some(leader),
-            None => leader_among(controllers, talkers, controllers, bit),
+            None => first_of(controllers, 0, bit),
         }
     }
 }
 
-/// The node's listener, if it listens and at least half of those that do have come as far.
-fn leading(
-    member: &Member,
-    talkers: &[Member],
-    controllers: &[Member],
-    bit: u64,
-) -> Option<Listener> {
-    if !member.listens_at(bit) {
-        return None;
-    }
-    let listener = member.station.node.listener();
-    if leads(&listener, talkers, controllers, bit) {
-        Some(listener)
-    } else {
-        None
-    }
-}
-
-/// The first of these that is one.
-fn leader_among(
-    candidates: &[Member],
-    talkers: &[Member],
-    controllers: &[Member],
-    bit: u64,
-) -> Option<Leader> {
-    for (place, member) in candidates.iter().enumerate() {
-        if let Some(listener) = leading(member, talkers, controllers, bit) {
-            return Some(Leader { listener, place });
+/// The first of these from a place on that listens before this bit.
+fn first_of(members: &[Member], from: usize, bit: u64) -> Option<Leader> {
+    for (place, member) in members.iter().enumerate() {
+        if from <= place && member.listens_at(bit) {
+            return Some(Leader {
+                listener: member.station.node.listener(),
+                place,
+            });
         }
     }
     None
-}
-
-/// Whether at least half of those that listen have come as far as this listener.
-fn leads(listener: &Listener, talkers: &[Member], controllers: &[Member], bit: u64) -> bool {
-    let mut votes = Votes::none();
-    votes.count(talkers, listener, bit);
-    votes.count(controllers, listener, bit);
-    votes.listening <= votes.alike.saturating_mul(2)
 }
 
 /// How many listen, and how many of them have come as far as a listener.

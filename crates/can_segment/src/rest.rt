@@ -48,7 +48,7 @@ pub(crate) struct Rest {
     asleep: usize,
     // those that rest read on in the stuffed region at the last bit, and before it
     steady: bool,
-    // of the talker whose listener was chosen last
+    // the place from which on the next listener is looked for
     leader: usize,
 }
 
@@ -286,7 +286,7 @@ impl Rest {
         votes.alike == 0 && votes.listening <= self.asleep
     }
 
-    /// Where none rests, those may come to rest that have come as far as most of those that listen.
+    /// Where none rests, those may come to rest that have come as far as one that listens.
     fn choose(&mut self, talkers: &[Member], controllers: &[Member], bit: u64)
         ensures { Chooses self.old self.new }
     {
@@ -294,11 +294,12 @@ impl Rest {
         if self.resting {
             return;
         }
-        let Some(leader) = Leader::of_most(talkers, controllers, bit, self.leader) else {
+        let Some(leader) = Leader::from_place(self.leader, talkers, controllers, bit) else {
             return;
         };
         self.listener = leader.listener;
-        self.leader = leader.place;
+        // where most have come elsewhere they wake at once (`settle`), and the next one leads
+        self.leader = leader.place.saturating_add(1);
         self.resting = true;
         self.known = KnownCounts::Zero;
         self.spent = true;

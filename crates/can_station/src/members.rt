@@ -58,6 +58,7 @@ pub fn start_controllers<R, P: RxSink<R>>(
 }
 
 /// Whether each of these nodes drives recessive, where each that rests drives this level.
+#[inline]
 fn all_recessive(members: &[Member], bit: u64, resting: bool, awake: Span) -> bool
     requires { AwakeWithin awake members.now }
     ensures { result ≡ list_all (λ m. if m.rests then resting else drives_at bit m) members.now }
