@@ -1,4 +1,4 @@
-use Rattle.std.proofs.Common.{◌≡◌, ◌∙◌, sym}
+use Rattle.std.proofs.Common.{◌∙◌, sym}
 use Rattle.can_node.proofs.PlainBits.{goes_plainly, goes_reading, goes_sending, in_plain, in_sending}
 use Rattle.can_node.proofs.node.Node.go_on.Goals as goal
 
