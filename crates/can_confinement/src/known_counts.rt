@@ -5,7 +5,6 @@ ghost use Rattle.can_confinement.specs.KnownCounts.{Knows, known_of};
 ghost use Rattle.can_confinement.specs.Counters.{counts_of};
 ghost use Rattle.can_confinement.specs.declared.counters.Counters.{Counters as CountersValue};
 
-use crate::confinement::ErrorState;
 use crate::counters::Counters;
 
 /// What is known of the error counts of nodes (Bosch CAN Specification 2.0, part B, 8 FAULT CONFINEMENT), the least
@@ -14,15 +13,13 @@ use crate::counters::Counters;
 pub enum KnownCounts {
     /// Nothing.
     Any,
-    /// They make a node error active.
-    Active,
     /// Both are 0.
     Zero,
 }
 
 impl KnownCounts {
-    /// What is known of these counters, as much as there is to be known: that both counts are 0 where they are, else
-    /// that they make a node error active where they do (Bosch CAN Specification 2.0, part B, 8 FAULT CONFINEMENT).
+    /// What is known of these counters, as much as there is to be known: that both counts are 0 where they are (Bosch CAN
+    /// Specification 2.0, part B, 8 FAULT CONFINEMENT).
     pub fn of(counters: Counters) -> KnownCounts
         ensures known { Knows result counters }
         ensures most { result ≡ known_of (counts_of counters) }
@@ -30,10 +27,7 @@ impl KnownCounts {
         if counters.tec() == 0 && counters.rec() == 0 {
             return KnownCounts::Zero;
         }
-        match counters.state() {
-            ErrorState::Active => KnownCounts::Active,
-            _ => KnownCounts::Any,
-        }
+        KnownCounts::Any
     }
 
     /// What is known of nodes of which some have counts of which this is known and some such of which the other is.
@@ -44,10 +38,6 @@ impl KnownCounts {
     {
         match self {
             KnownCounts::Any => KnownCounts::Any,
-            KnownCounts::Active => match other {
-                KnownCounts::Any => KnownCounts::Any,
-                _ => KnownCounts::Active,
-            },
             KnownCounts::Zero => other,
         }
     }

@@ -1,5 +1,5 @@
 -- Nodes that are left alone while a listener follows the line for them.
-use Rattle.std.proofs.Common.{◌≡◌, ◌≢◌, ◌⊎◌, inl, inr, ℕ, ◌+◌, min, Bool, true, false, Option, None, Some, List, [], ◌∷◌, ◌++◌, length, refl, sym, ap, subst, ◌∙◌}
+use Rattle.std.proofs.Common.{◌≡◌, ◌⊎◌, inl, inr, ℕ, ◌+◌, min, Bool, true, false, Option, None, Some, List, [], ◌∷◌, ◌++◌, length, refl, sym, ap, subst, ◌∙◌}
 use Rattle.std.proofs.lemmas.List.Sums.{fold-append}
 use Rattle.can_frame.specs.Reading.{IsPush, ReadsOn, StandsAs, StandsAfter as ReaderStandsAfter, IsReading}
 use Rattle.can_frame.specs.declared.step.Step.{Step}
@@ -8,10 +8,9 @@ use Rattle.can_frame.specs.declared.reader.Reader.{Reader}
 use Rattle.can_confinement.specs.declared.confinement.ErrorEvent.{ErrorEvent}
 use Rattle.can_confinement.specs.declared.confinement.ErrorEvent.TheVariants.{Received}
 use Rattle.can_confinement.specs.declared.confinement.ErrorState.{ErrorState}
-use Rattle.can_confinement.specs.declared.confinement.ErrorState.TheVariants.{Active as ErrorActive, Passive, Off}
 use Rattle.can_confinement.specs.declared.known_counts.KnownCounts.{KnownCounts}
-use Rattle.can_confinement.specs.declared.known_counts.KnownCounts.TheVariants.{Any, Active, Zero}
-use Rattle.can_confinement.specs.KnownCounts.{Admits, Knows}
+use Rattle.can_confinement.specs.declared.known_counts.KnownCounts.TheVariants.{Zero}
+use Rattle.can_confinement.specs.KnownCounts.{Knows}
 use Rattle.can_confinement.specs.declared.counters.Counters.{Counters}
 use Rattle.can_node.specs.declared.outcome.Outcome.TheVariants.{Nothing}
 use Rattle.can_node.specs.declared.state.State.{State}
@@ -72,46 +71,28 @@ counts_unseen : (known : KnownCounts) (counters : Counters) (event : Option Erro
 counts_unseen known counters event counts (inl is) events = counts_none counters event is events
 counts_unseen known counters event counts (inr is) events = rw is.1 (counts_received counters (subst (λ k. Knows k counters) is.0 counts) events)
 
--- the error state of a node of whose counts so much is known
-admits_by : (known : KnownCounts) (counters : Counters) → Knows known counters → Admits known (state_of (counts_of counters))
-admits_by Any counters counts = tt
-admits_by Active counters counts = counts
-admits_by Zero counters counts = ap state_of counts
-
--- what goes for nodes that are error active, and for others where they may be it, goes for all
-pub admitted : (known : KnownCounts) (Goes : ErrorState → Type 0) → Goes ErrorActive → ((errors : ErrorState) → Admits known errors → errors ≢ ErrorActive → Goes errors) → (errors : ErrorState) → Admits known errors → Goes errors
-admitted known Goes active others ErrorActive may = active
-admitted known Goes active others Passive may = others Passive may (λ is. cc is)
-admitted known Goes active others Off may = others Off may (λ is. cc is)
-
--- a turn that is made in both other error states
-pub other_errors : (Goes : ErrorState → Turn → Type 0) (turn passive off : Turn) → turn ≡ passive → turn ≡ off → Goes Passive passive → Goes Off off → (errors : ErrorState) → errors ≢ ErrorActive → Goes errors turn
-other_errors Goes turn passive off is_passive is_off at_passive at_off ErrorActive not = absurd (not refl)
-other_errors Goes turn passive off is_passive is_off at_passive at_off Passive not = subst (Goes Passive) (sym is_passive) at_passive
-other_errors Goes turn passive off is_passive is_off at_passive at_off Off not = subst (Goes Off) (sym is_off) at_off
-
 unseen_follows : (known : KnownCounts) (old new : Listener) (bit : ℕ) (level : Bool) (turn : Turn) → IsUnseen known turn → new.state ≡ turn.state →
-    ((spelling : Spelling) (errors : ErrorState) → Admits known errors → Advances old.state old.reader spelling bit errors level turn new.reader) → Follows known old bit level new
+    ((spelling : Spelling) (errors : ErrorState) → Advances old.state old.reader spelling bit errors level turn new.reader) → Follows known old bit level new
 unseen_follows known old new bit level turn unseen state_is advances = follows_by known old new bit level (λ node counts. record {
   turn = turn;
   errors = state_of (counts_of node.counters);
   shows = λ events h. ap state_of h;
-  advances = advances node.spelling (state_of (counts_of node.counters)) (admits_by known node.counters counts);
+  advances = advances node.spelling (state_of (counts_of node.counters));
   is_made = record { off = false; counts = counts_unseen known node.counters turn.event counts unseen.counts_none; ends_in = (state_is, sym unseen.tells_none) };
 })
 
 -- a level of a frame with which all read on
 pub reading_follows : (known : KnownCounts) (old : Listener) (start : ℕ) (may : Bool) (stage : Stage) (new : Reader) (bit : ℕ) (level : Bool) (step : Step) (turn : Turn) → old.state ≡ Taking start may stage →
-    IsPush old.reader level step new → ((errors : ErrorState) → Admits known errors → (may : Bool) → GoesReading (Taking start may stage) errors step level turn) → IsUnseen known turn →
+    IsPush old.reader level step new → ((errors : ErrorState) (may : Bool) → GoesReading (Taking start may stage) errors step level turn) → IsUnseen known turn →
     Follows known old bit level (listening turn.state new)
 reading_follows known old start may stage new bit level step turn is push goes unseen = unseen_follows known old (listening turn.state new) bit level turn unseen refl
-    (λ spelling errors admitted. rw is (reading_advances start may stage old.reader new spelling bit errors level step turn push (goes errors admitted)))
+    (λ spelling errors. rw is (reading_advances start may stage old.reader new spelling bit errors level step turn push (goes errors)))
 
 -- a level outside of one
-pub other_follows : (known : KnownCounts) (old : Listener) (new : Reader) (bit : ℕ) (level : Bool) (turn : Turn) → is_sending old.state ≡ false → ((errors : ErrorState) → Admits known errors → Goes old.state bit errors level turn) →
+pub other_follows : (known : KnownCounts) (old : Listener) (new : Reader) (bit : ℕ) (level : Bool) (turn : Turn) → is_sending old.state ≡ false → ((errors : ErrorState) → Goes old.state bit errors level turn) →
     IsUnseen known turn → (is_taking turn.state ≡ true → ReaderStandsAfter new (false ∷ [])) → (is_taking turn.state ≡ true → IsReading new) → Follows known old bit level (listening turn.state new)
 other_follows known old new bit level turn sends_none goes unseen stands reading = unseen_follows known old (listening turn.state new) bit level turn unseen refl
-    (λ spelling errors admitted. other_advances old.state old.reader new spelling bit errors level turn sends_none (goes errors admitted) stands reading)
+    (λ spelling errors. other_advances old.state old.reader new spelling bit errors level turn sends_none (goes errors) stands reading)
 
 -- a node that has come as far as a listener
 same_reads : (state : State) (one other : Reader) (text : List Bool) → (is_taking state ≡ true → StandsAs one other) → ReaderStands state one text → ReaderStands state other text
@@ -160,7 +141,7 @@ end_follows : (known : KnownCounts) (start : ℕ) (stage : Stage) (behind : Stat
     ((errors : ErrorState) (may : Bool) → GoesReading (Taking start may stage) errors Tail level (quiet behind)) → IsPush old level Tail new →
     Follows known (listening (Taking start false stage) old) bit level (listening behind new)
 end_follows known start stage behind old new bit level sends_none goes push =
-    reading_follows known (listening (Taking start false stage) old) start false stage new bit level Tail (quiet behind) refl push (λ errors admitted may. goes errors may)
+    reading_follows known (listening (Taking start false stage) old) start false stage new bit level Tail (quiet behind) refl push goes
     (record { tells_none = refl; counts_none = inl refl; sends_none = sends_none })
 
 -- so is a bit behind it with which the frame goes on, but the ACK slot

@@ -165,6 +165,15 @@ listens (Delimiting role ones) = is_receiver role
 listens (Resting role ones) = is_receiver role
 listens state = true
 
+-- A node in this state neither reads nor sends a frame, and what it makes of this level is the same in each error state:
+-- where no error may be signalled, nor suspend transmission begin.
+abbrev pub turns_alike : Bool → State → Bool
+turns_alike level (Taking start may_start stage) = false
+turns_alike level (Sending start place) = false
+turns_alike level (Delimiting role ones) = level
+turns_alike level (Resting role ones) = is_receiver role
+turns_alike level state = true
+
 -- the number of the SOF of the frame that a node in this state sends
 abbrev pub sof_of : State → Option ℕ
 sof_of (Sending start place) = Some start

@@ -1,16 +1,15 @@
 //! One that follows the line in place of the nodes that listen to it.
 
-ghost use Rattle.std.specs.Prelude.{◌≡◌, ◌≢◌, ℕ, Bool, true, false, IfSome};
+ghost use Rattle.std.specs.Prelude.{◌≡◌, ℕ, Bool, true, false, IfSome};
 ghost use Rattle.can_node.specs.declared.node.Node.{Node};
-ghost use Rattle.can_confinement.specs.KnownCounts.{Admits};
-ghost use Rattle.can_node.specs.Machine.{Goes, GoesReading, is_sending, is_taking, quiet};
+ghost use Rattle.can_node.specs.Machine.{GoesReading, is_sending, is_taking};
 ghost use Rattle.can_node.specs.Node.{driven_by, may_begin};
 ghost use Rattle.can_node.specs.Listener.{IsListening, IsUnseen, Follows, ReadsAlong, caught_up, is_reading};
 ghost use Rattle.can_confinement.specs.declared.confinement.ErrorState.{ErrorState as ErrorStateValue};
-ghost use Rattle.can_confinement.specs.declared.confinement.ErrorState.TheVariants.{Active as ErrorActive};
 
 use crate::machine::{
     behind_end, is_in_region, is_taking, level_of, may_start, reader_after_sof, turn_of,
+    turns_alike,
 };
 use crate::outcome::Outcome;
 use crate::state::{Stage, State, Turn};
@@ -161,11 +160,12 @@ impl Listener {
         ensures listens { IsListening self.old → IsListening self.new }
         ensures other { result ≡ false → self.new ≡ self.old }
     {
-        let turn = turn_of(self.state, bit, ErrorState::Active, level);
-        if !is_unseen(&turn, known) {
+        if !turns_alike(self.state, level) {
             return false;
         }
-        if !goes_alike(self.state, bit, level, &turn, known) {
+        // any other error state would do
+        let turn = turn_of(self.state, bit, ErrorState::Active, level);
+        if !is_unseen(&turn, known) {
             return false;
         }
         if is_taking(turn.state) {
@@ -177,7 +177,7 @@ impl Listener {
 }
 
 /// What this answer of the reader makes of each node that reads a frame and of whose counts so much is known: `None`
-/// where that is not the same for all, or is seen of one.
+/// where that is seen of one. What is not seen is the same in each error state.
 fn reading_turn(
     start: u64,
     stage: Stage,
@@ -186,64 +186,14 @@ fn reading_turn(
     known: KnownCounts,
 ) -> Option<Turn>
     ensures unseen { IfSome result (λ turn. IsUnseen known turn) }
-    ensures goes { IfSome result (λ turn. (errors : ErrorStateValue) → Admits known errors → (may : Bool)
+    ensures goes { IfSome result (λ turn. (errors : ErrorStateValue) (may : Bool)
         → GoesReading (State.Taking start may stage) errors step.now level turn) }
 {
     let turn = after_taking(start, stage, ErrorState::Active, step, level);
     if !is_unseen(&turn, known) {
         return None;
     }
-    if !reads_alike(start, stage, step, level, &turn, known) {
-        return None;
-    }
     Some(turn)
-}
-
-/// Whether that turn is made in each other error state too that a node may be in of whose counts so much is known.
-fn reads_alike(
-    start: u64,
-    stage: Stage,
-    step: &Step,
-    level: bool,
-    turn: &Turn,
-    known: KnownCounts,
-) -> bool
-    ensures { result ≡ true → (errors : ErrorStateValue) → Admits known errors → errors ≢ ErrorActive → (may : Bool)
-        → GoesReading (State.Taking start may stage) errors step.now level turn.now }
-{
-    if known != KnownCounts::Any {
-        return true;
-    }
-    let passive = after_taking(start, stage, ErrorState::Passive, step, level);
-    let off = after_taking(start, stage, ErrorState::Off, step, level);
-    is_same(turn, &passive) && is_same(turn, &off)
-}
-
-/// So of a turn outside of frames.
-fn goes_alike(state: State, bit: u64, level: bool, turn: &Turn, known: KnownCounts) -> bool
-    ensures { result ≡ true → is_taking state ≡ false → is_sending state ≡ false
-        → (errors : ErrorStateValue) → Admits known errors → errors ≢ ErrorActive
-        → Goes state bit errors level turn.now }
-{
-    if known != KnownCounts::Any {
-        return true;
-    }
-    let passive = turn_of(state, bit, ErrorState::Passive, level);
-    let off = turn_of(state, bit, ErrorState::Off, level);
-    is_same(turn, &passive) && is_same(turn, &off)
-}
-
-/// Whether these turns are the same; told only of such that count nothing and tell nothing.
-fn is_same(turn: &Turn, other: &Turn) -> bool
-    ensures { result ≡ true → turn.now ≡ other.now }
-{
-    counts_and_tells_nothing(turn) && counts_and_tells_nothing(other) && turn.state == other.state
-}
-
-fn counts_and_tells_nothing(turn: &Turn) -> bool
-    ensures { result ≡ true → turn.now ≡ quiet turn.now.state }
-{
-    turn.event.is_none() && matches!(turn.outcome, Outcome::Nothing)
 }
 
 fn is_idle(state: State) -> bool

@@ -19,8 +19,9 @@ ghost use Rattle.can_node.specs.Machine.{
   listens,
   may_start,
   sof_of,
+  turns_alike,
 };
-ghost use Rattle.can_node.specs.PlainBits.{IsPlain, LeavesPlainly, is_plain, turns_plainly};
+ghost use Rattle.can_node.specs.PlainBits.{IsPlain, turns_plainly};
 
 use crate::outcome::Outcome;
 use crate::sends::after_sending;
@@ -29,7 +30,7 @@ use crate::state::{Stage, State, Turn};
 use crate::takes::after_taking;
 use crate::turns::{
     after_closing, after_delimiting, after_flag, after_idle, after_passive_flag, after_recovering,
-    after_resting, after_suspending, after_sync, after_waiting, behind_passive_flag, plain,
+    after_resting, after_suspending, after_sync, after_waiting, plain,
 };
 use can_confinement::{Counters, ErrorEvent, ErrorState, Role};
 use can_frame::{Reader, Step};
@@ -135,32 +136,43 @@ pub(crate) fn is_taking(state: State) -> bool
     matches!(state, State::Taking(_, _, _))
 }
 
+/// Whether what a level makes of a state that neither reads nor sends a frame is the same in each error state. It says
+/// no of a dominant level in any delimiter, and of the intermission behind an own frame.
+pub(crate) fn turns_alike(state: State, level: bool) -> bool
+    ensures { result ≡ turns_alike level state }
+{
+    match state {
+        State::Taking(_, _, _) => false,
+        State::Sending(_, _) => false,
+        State::Delimiting(_, _) => level,
+        State::Resting(role, _) => is_receiver(role),
+        _ => true,
+    }
+}
+
 /// What a level makes of a state that neither reads nor sends a frame.
 pub(crate) fn turn_of(state: State, now: u64, errors: ErrorState, level: bool) -> Turn
     ensures goes { is_taking state ≡ false → is_sending state ≡ false
         → Goes state now errors level result }
+    ensures alike { turns_alike level state ≡ true → (other : ErrorState) → Goes state now other level result }
     ensures plain { turns_plainly level state ≡ true → IsPlain result }
 {
     match state {
-        State::Syncing(ones) => after_sync(ones, now, errors, level),
-        State::Idling => after_idle(now, errors, level),
+        State::Syncing(ones) => after_sync(ones, level),
+        State::Idling => after_idle(now, level),
         // for its reader to say, and for its spelling
         State::Taking(_, _, _) => plain(state),
         State::Sending(_, _) => plain(state),
-        State::Closing => after_closing(now, errors, level),
-        State::Flagging(kind, role, sent, until) => {
-            after_flag(kind, role, sent, until, now, errors, level)
-        }
+        State::Closing => after_closing(level),
+        State::Flagging(kind, role, sent, until) => after_flag(kind, role, sent, until, level),
         State::PassiveFlagging(role, owes, ones, zeros) => {
-            after_passive_flag(role, owes, ones, zeros, now, errors, level)
+            after_passive_flag(role, owes, ones, zeros, level)
         }
-        State::Waiting(kind, role, until, first) => {
-            after_waiting(kind, role, until, first, now, errors, level)
-        }
-        State::Delimiting(role, ones) => after_delimiting(role, ones, now, errors, level),
+        State::Waiting(kind, role, until, first) => after_waiting(kind, role, until, first, level),
+        State::Delimiting(role, ones) => after_delimiting(role, ones, errors, level),
         State::Resting(role, ones) => after_resting(role, ones, now, errors, level),
-        State::Suspending(ones) => after_suspending(ones, now, errors, level),
-        State::Recovering(runs, ones) => after_recovering(runs, ones, now, errors, level),
+        State::Suspending(ones) => after_suspending(ones, now, level),
+        State::Recovering(runs, ones) => after_recovering(runs, ones, level),
     }
 }
 
@@ -339,44 +351,6 @@ pub(crate) fn advance(
         }
         _ => turn_outside(state, counters, reader, now, level),
     }
-}
-
-/// Whether nothing begins, is told or counted with this level in this state, in which no frame is read or sent.
-pub(crate) fn is_plain(state: State, level: bool) -> bool
-    ensures { result ≡ is_plain level state }
-{
-    match state {
-        State::Recovering(_, ones) => ones <= 9,
-        State::PassiveFlagging(_, owes, _, _) => level || !owes,
-        State::Flagging(_, _, _, _) => !level,
-        State::Waiting(_, _, _, _) => level,
-        State::Delimiting(_, _) => level,
-        State::Resting(_, _) => level,
-        State::Suspending(_) => level,
-        _ => false,
-    }
-}
-
-/// One bit of a node in such a state, at which it samples this level.
-#[inline(always)]
-pub(crate) fn go_plainly(state: &mut State, counters: &Counters, now: u64, level: bool)
-    ensures { is_plain level state.old ≡ true → LeavesPlainly state.old counters.now now level state.new }
-{
-    // in place, since a node may be off for long
-    if let State::Recovering(_runs, ones) = state {
-        if !level {
-            *ones = 0;
-            return;
-        }
-        *ones = ones.saturating_add(1);
-        return;
-    }
-    *state = match *state {
-        State::PassiveFlagging(role, owes, ones, zeros) => {
-            behind_passive_flag(role, owes, ones, zeros, level)
-        }
-        other => turn_of(other, now, counters.state(), level).state,
-    };
 }
 
 /// The state of a node that begins to send at this bit. If the third bit of intermission was dominant, SOF

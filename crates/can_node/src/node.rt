@@ -20,10 +20,9 @@ ghost use Rattle.can_node.specs.Node.{
 };
 
 use crate::listener::Listener;
-use crate::machine::{
-    advance, begin, go_plainly, is_in_region, is_plain, level_in, listens, may_start, sof_of,
-};
+use crate::machine::{advance, begin, is_in_region, level_in, listens, may_start, sof_of};
 use crate::outcome::Outcome;
+use crate::plain_bits::{go_plainly, is_plain};
 use crate::spelled::Spelled;
 use crate::state::State;
 use can_confinement::{Counters, KnownCounts};

@@ -25,8 +25,9 @@ fn error_kind(kind: FaultKind) -> ErrorKind
 }
 
 /// A level behind the stuffed region with which the frame goes on.
-fn after_tail(start: u64, stage: Stage, errors: ErrorState, level: bool) -> Turn
-    ensures { (may_start : Bool) → GoesReading (State.Taking start may_start stage) errors Tail level result }
+fn after_tail(start: u64, stage: Stage, level: bool) -> Turn
+    ensures { (errors : ErrorState) (may_start : Bool)
+        → GoesReading (State.Taking start may_start stage) errors Tail level result }
 {
     match stage {
         Stage::AfterRegion(right) => plain(State::Taking(start, false, Stage::Slot(right))),
@@ -51,13 +52,15 @@ pub(crate) fn after_taking(
     step: &Step,
     level: bool,
 ) -> Turn
-    ensures { (may_start : Bool) → GoesReading (State.Taking start may_start stage) errors step.now level result }
+    ensures goes { (may_start : Bool) → GoesReading (State.Taking start may_start stage) errors step.now level result }
+    ensures alike { result.outcome ≡ Outcome.Nothing → (other : ErrorState) (may_start : Bool)
+        → GoesReading (State.Taking start may_start stage) other step.now level result }
 {
     match *step {
         Step::More => plain(State::Taking(start, false, Stage::Region)),
         Step::StuffBit => plain(State::Taking(start, false, Stage::Region)),
         Step::Body(_, right) => plain(State::Taking(start, false, Stage::AfterRegion(right))),
-        Step::Tail => after_tail(start, stage, errors, level),
+        Step::Tail => after_tail(start, stage, level),
         Step::Taken(frame) => Turn {
             state: State::Closing,
             event: None,

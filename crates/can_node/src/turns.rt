@@ -35,8 +35,8 @@ pub(crate) fn counted(state: State, event: ErrorEvent) -> Turn
 }
 
 /// Switched on: the eleventh recessive level in a row makes the node idle.
-pub(crate) fn after_sync(ones: u8, now: u64, errors: ErrorState, level: bool) -> Turn
-    ensures { Goes (State.Syncing ones) now errors level result }
+pub(crate) fn after_sync(ones: u8, level: bool) -> Turn
+    ensures { (now : ℕ) (errors : ErrorState) → Goes (State.Syncing ones) now errors level result }
 {
     if !level {
         return plain(State::Syncing(0));
@@ -48,8 +48,8 @@ pub(crate) fn after_sync(ones: u8, now: u64, errors: ErrorState, level: bool) ->
 }
 
 /// Idle: a dominant level is SOF.
-pub(crate) fn after_idle(now: u64, errors: ErrorState, level: bool) -> Turn
-    ensures { Goes State.Idling now errors level result }
+pub(crate) fn after_idle(now: u64, level: bool) -> Turn
+    ensures { (errors : ErrorState) → Goes State.Idling now errors level result }
 {
     if level {
         return plain(State::Idling);
@@ -58,8 +58,8 @@ pub(crate) fn after_idle(now: u64, errors: ErrorState, level: bool) -> Turn
 }
 
 /// The last bit of EOF of a frame that was taken.
-pub(crate) fn after_closing(now: u64, errors: ErrorState, level: bool) -> Turn
-    ensures { Goes State.Closing now errors level result }
+pub(crate) fn after_closing(level: bool) -> Turn
+    ensures { (now : ℕ) (errors : ErrorState) → Goes State.Closing now errors level result }
 {
     if level {
         return plain(State::Resting(Role::Receiver, 0));
@@ -68,16 +68,9 @@ pub(crate) fn after_closing(now: u64, errors: ErrorState, level: bool) -> Turn
 }
 
 /// A flag that drives dominant: a recessive level counts, and the sixth bit is the last one.
-pub(crate) fn after_flag(
-    kind: FlagKind,
-    role: Role,
-    sent: u8,
-    until: u8,
-    now: u64,
-    errors: ErrorState,
-    level: bool,
-) -> Turn
-    ensures goes { Goes (State.Flagging kind role sent until) now errors level result }
+pub(crate) fn after_flag(kind: FlagKind, role: Role, sent: u8, until: u8, level: bool) -> Turn
+    ensures goes { (now : ℕ) (errors : ErrorState)
+        → Goes (State.Flagging kind role sent until) now errors level result }
     ensures plain { level ≡ false → IsPlain result }
 {
     if level {
@@ -129,16 +122,9 @@ pub(crate) fn behind_passive_flag(role: Role, owes: bool, ones: u8, zeros: u8, l
 }
 
 /// A passive error flag, whose first dominant level may count an error.
-pub(crate) fn after_passive_flag(
-    role: Role,
-    owes: bool,
-    ones: u8,
-    zeros: u8,
-    now: u64,
-    errors: ErrorState,
-    level: bool,
-) -> Turn
-    ensures { Goes (State.PassiveFlagging role owes ones zeros) now errors level result }
+pub(crate) fn after_passive_flag(role: Role, owes: bool, ones: u8, zeros: u8, level: bool) -> Turn
+    ensures { (now : ℕ) (errors : ErrorState)
+        → Goes (State.PassiveFlagging role owes ones zeros) now errors level result }
 {
     if is_due(owes, zeros, level) {
         return counted(
@@ -171,14 +157,10 @@ fn error_event(role: Role) -> ErrorEvent
 }
 
 /// A delimiter from its second recessive level on.
-pub(crate) fn after_delimiting(
-    role: Role,
-    ones: u8,
-    now: u64,
-    errors: ErrorState,
-    level: bool,
-) -> Turn
-    ensures goes { Goes (State.Delimiting role ones) now errors level result }
+pub(crate) fn after_delimiting(role: Role, ones: u8, errors: ErrorState, level: bool) -> Turn
+    ensures goes { (now : ℕ) → Goes (State.Delimiting role ones) now errors level result }
+    ensures alike { level ≡ true → (now : ℕ) (other : ErrorState)
+        → Goes (State.Delimiting role ones) now other level result }
     ensures plain { level ≡ true → IsPlain result }
 {
     if level {
@@ -212,16 +194,9 @@ fn behind(kind: FlagKind, role: Role) -> Option<ErrorEvent>
 }
 
 /// Behind a flag, before the first recessive level.
-pub(crate) fn after_waiting(
-    kind: FlagKind,
-    role: Role,
-    until: u8,
-    first: bool,
-    now: u64,
-    errors: ErrorState,
-    level: bool,
-) -> Turn
-    ensures goes { Goes (State.Waiting kind role until first) now errors level result }
+pub(crate) fn after_waiting(kind: FlagKind, role: Role, until: u8, first: bool, level: bool) -> Turn
+    ensures goes { (now : ℕ) (errors : ErrorState)
+        → Goes (State.Waiting kind role until first) now errors level result }
     ensures plain { level ≡ true → IsPlain result }
 {
     if level {
@@ -256,6 +231,8 @@ fn is_suspended(role: Role, errors: ErrorState) -> bool
 /// Intermission: what comes behind it is decided at its third bit.
 pub(crate) fn after_resting(role: Role, ones: u8, now: u64, errors: ErrorState, level: bool) -> Turn
     ensures goes { Goes (State.Resting role ones) now errors level result }
+    ensures alike { role ≡ Role.Receiver → (other : ErrorState)
+        → Goes (State.Resting role ones) now other level result }
     ensures plain { level ≡ true → IsPlain result }
 {
     if ones < 2 {
@@ -275,8 +252,8 @@ pub(crate) fn after_resting(role: Role, ones: u8, now: u64, errors: ErrorState, 
 }
 
 /// Suspend transmission: a dominant level is SOF of a frame that is read.
-pub(crate) fn after_suspending(ones: u8, now: u64, errors: ErrorState, level: bool) -> Turn
-    ensures goes { Goes (State.Suspending ones) now errors level result }
+pub(crate) fn after_suspending(ones: u8, now: u64, level: bool) -> Turn
+    ensures goes { (errors : ErrorState) → Goes (State.Suspending ones) now errors level result }
     ensures plain { level ≡ true → IsPlain result }
 {
     if !level {
@@ -289,14 +266,8 @@ pub(crate) fn after_suspending(ones: u8, now: u64, errors: ErrorState, level: bo
 }
 
 /// Bus off: the 128th run of eleven recessive levels brings the node back.
-pub(crate) fn after_recovering(
-    runs: u8,
-    ones: u8,
-    now: u64,
-    errors: ErrorState,
-    level: bool,
-) -> Turn
-    ensures { Goes (State.Recovering runs ones) now errors level result }
+pub(crate) fn after_recovering(runs: u8, ones: u8, level: bool) -> Turn
+    ensures { (now : ℕ) (errors : ErrorState) → Goes (State.Recovering runs ones) now errors level result }
 {
     if !level {
         return plain(State::Recovering(runs, 0));

@@ -6,6 +6,6 @@ returns c may_begin old new spelling now push = record {
   turn = c.after_taking.result;
   errors = c.state-errors.result;
   shows = c.state-errors.ensures.counted;
-  advances = reading_advances c.args.start may_begin c.args.stage old new spelling now c.state-errors.result c.args.level c.args.step c.after_taking.result push c.after_taking.ensures;
+  advances = reading_advances c.args.start may_begin c.args.stage old new spelling now c.state-errors.result c.args.level c.args.step c.after_taking.result push c.after_taking.ensures.goes;
   is_made = c.make.ensures;
 }

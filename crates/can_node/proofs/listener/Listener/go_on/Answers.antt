@@ -1,5 +1,5 @@
-use Rattle.can_node.specs.Machine.{Goes}
-use Rattle.can_node.proofs.Listens.{admitted, other_follows}
+use Rattle.std.proofs.Common.{sym, ◌∙◌}
+use Rattle.can_node.proofs.Listens.{other_follows}
 use Rattle.can_node.proofs.listener.Listener.go_on.Goals as goal
 use Rattle.can_node.proofs.listener.Listener.go_on.Goals.{then-is_taking, else-is_taking}
 
@@ -8,7 +8,7 @@ returns-clause-follows c followed no_take no_send =
     let state = c.args.self.now.state in
     let turn = c.turn_of-turn.result in
     let unseen = c.is_unseen.ensures c.if-not-is_unseen.false in
-    let goes = admitted c.args.known (λ errors. Goes state c.args.bit errors c.args.level turn) (c.turn_of-turn.ensures.goes no_take no_send) (c.goes_alike.ensures c.if-not-goes_alike.false no_take no_send) in
+    let goes = c.turn_of-turn.ensures.alike (sym c.turns_alike.ensures ∙ c.if-not-turns_alike.false) in
     elim c.if-is_taking.branch [
       | then-is_taking w ↦ rw w.self-is (other_follows c.args.known c.args.self.now w.reader_after_sof-self.result c.args.bit c.args.level turn no_send goes unseen
           (λ is. w.reader_after_sof-self.ensures.stands) (λ is. w.reader_after_sof-self.ensures.reading))
