@@ -1,5 +1,4 @@
-//! The tests of mailboxes, filters, receive FIFOs, controllers and routes, over what these libraries show to those above
-//! them.
+//! The tests of mailboxes, filters, receive FIFOs and controllers, over what these libraries show to those above them.
 #![tactic(auto)]
 
 #[cfg(test)]
@@ -12,11 +11,5 @@ mod mailboxes;
 mod posts;
 #[cfg(test)]
 mod priority;
-#[cfg(test)]
-mod shared;
-#[cfg(test)]
-mod shared_closing;
-#[cfg(test)]
-mod turns;
 #[cfg(test)]
 mod words;

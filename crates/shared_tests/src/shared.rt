@@ -124,8 +124,8 @@ fn three_mailboxes_are_taken_in_turn(rt: HostRuntime) -> Result<(), Fail> {
     Ok(())
 }
 
-// Route 1's request comes between route 0's look and its claim, or between its second look and its request. The word that
-// route 0 finds is route 1's: it requests in the mailbox that was still empty.
+// Route 1's request comes between route 0's look and its claim, or between its second look and its request. The word
+// that route 0 finds is route 1's: it requests in the mailbox that was still empty.
 #[test]
 fn a_faster_seat_is_told(rt: HostRuntime) -> Result<(), Fail> {
     for (at, inner, word) in [
