@@ -2,7 +2,7 @@
 //! ways.
 
 use can_frame::{Frame, Reader, Step};
-use can_node::{Counters, KnownCounts, Listener, Node, Outcome};
+use can_node::{Counters, ErrorKind, KnownCounts, Listener, Node, Outcome};
 
 /// A data frame of identifier 0 without bytes as all sample it, its ACK slot, the level at place 41, dominant.
 const FRAME: &str = "00000100000100000100000100000100000100001011111111";
@@ -196,4 +196,47 @@ fn a_receiver_goes_on_in_the_stuffed_region(rt: HostRuntime) {
         assert_eq!(rt; sample(&mut receiver, level), Some(outcome));
     }
     assert_eq!(rt; receiver.bit(), 61);
+}
+
+#[test]
+fn a_sender_goes_on_where_it_is_acknowledged(rt: HostRuntime) {
+    let mut sender = synchronized();
+    if sender.wants_start() {
+        sender.begin(Frame::default());
+    }
+    for (place, byte) in FRAME.as_bytes().iter().enumerate() {
+        let level = *byte == b'1';
+        // another level than it drives, in the ACK slot the one that it drives, ends the frame
+        assert_eq!(rt; go_on(&mut sender, !level), None);
+        if place < 49 {
+            assert_eq!(rt; go_on(&mut sender, level), Some(Outcome::Nothing));
+            continue;
+        }
+        assert_eq!(rt; go_on(&mut sender, level), None);
+        assert_eq!(rt; sample(&mut sender, level), Some(Outcome::Completed));
+    }
+    assert_eq!(rt; sender.bit(), 61);
+}
+
+#[test]
+fn the_flags_of_others_are_waited_for(rt: HostRuntime) {
+    let mut sender = synchronized();
+    if sender.wants_start() {
+        sender.begin(Frame::default());
+    }
+    assert_eq!(rt;
+        sample(&mut sender, true),
+        Some(Outcome::Errored(ErrorKind::Bit))
+    );
+    assert_eq!(rt; sender.counters().tec(), 8);
+    // 8 more are counted at the 14th dominant level from the start of its flag on, and at each eighth behind that
+    for place in 1..=30u8 {
+        let counted = place == 14 || place == 22 || place == 30;
+        assert_eq!(rt; go_on(&mut sender, false).is_none(), counted);
+        if counted {
+            assert_eq!(rt; sample(&mut sender, false), Some(Outcome::Nothing));
+        }
+    }
+    assert_eq!(rt; sender.counters().tec(), 32);
+    assert_eq!(rt; go_on(&mut sender, true), Some(Outcome::Nothing));
 }

@@ -1,6 +1,5 @@
 -- Bits at which nodes go on.
-use Rattle.std.proofs.Common.{arith, inl, inr, ◌≡◌, ℕ, ◌+◌, ◌<◌, ◌≤◌, ◌||◌, length, min, Bool, true, false, None, not, refl, ap, subst, sym, ◌∙◌}
-use Rattle.std.specs.Bool.{beq}
+use Rattle.std.proofs.Common.{arith, inl, inr, ◌≡◌, ℕ, ◌+◌, ◌<◌, ◌≤◌, ◌||◌, min, Bool, true, false, None, not, refl, ap, subst, sym, ◌∙◌}
 use Rattle.std.proofs.lemmas.Bool.Decides.{leb_tells}
 use Rattle.can_frame.specs.Reading.{MayReadOn, ReadsOn}
 use Rattle.can_frame.specs.declared.reader.Reader.{Reader}
@@ -15,13 +14,15 @@ use Rattle.can_node.specs.declared.outcome.Outcome.TheVariants.{Nothing}
 use Rattle.can_node.specs.declared.state.State.{State}
 use Rattle.can_node.specs.declared.state.State.TheVariants.{Delimiting, Flagging, PassiveFlagging, Recovering, Resting, Sending, Suspending, Taking, Waiting}
 use Rattle.can_node.specs.declared.state.Turn.{Turn}
-use Rattle.can_node.specs.Machine.{Goes, is_in_region, is_sending, is_taking, may_start, quiet}
-use Rattle.can_node.specs.Sending.{level_at}
+use Rattle.can_node.specs.Machine.{Goes, GoesSending, is_in_region, is_sending, is_taking, may_start, quiet}
+use Rattle.can_node.specs.Sending.{SendsOn}
+use Rattle.can_node.specs.Sending.SendsOn.{acknowledged, echoed}
+use Rattle.can_node.specs.declared.spelling.Spelling.{Spelling}
 use Rattle.can_node.specs.PlainBits.{GoesOn, IsPlain, LeavesPlainly, MayGoOn, is_plain, turns_plainly}
 use Rattle.can_node.specs.PlainBits.MayGoOn.{is_in, reads, sends}
 use Rattle.can_node.proofs.Listens.{region_begins, region_follows}
 use Rattle.can_node.proofs.Moves.{off_broken, off_longer}
-use Rattle.can_node.proofs.SendMoves.{send_echoed}
+use Rattle.can_node.proofs.SendMoves.{send_acknowledged, send_echoed}
 use Rattle.can_node.proofs.Samples.{other_advances, quiet_steps, quiet_steps_now, samples, sending_advances, stands_history}
 
 -- in bus off
@@ -116,15 +117,20 @@ goes_reading node level reader inside on =
     }
 
 -- or it sends on
-pub goes_sending : (node : Node) (start place next : ℕ) (level : Bool) → node.state ≡ Sending start place → (place + 9 ≡ length node.spelling.levels.items → ⊥) → (place + 1 ≡ length node.spelling.levels.items → ⊥) →
-    level ≡ level_at node.spelling place → next ≡ min (place + 1) 255 → GoesOn node level (behind node (Sending start next))
-goes_sending node start place next level here slot last echo next_is = record {
+sends_next : (start place next : ℕ) (spelling : Spelling) (errors : ErrorState) (level : Bool) → SendsOn level spelling place → next ≡ min (place + 1) 255 →
+    GoesSending start place spelling errors level (quiet (Sending start next))
+sends_next start place next spelling errors level (acknowledged slot dominant) next_is = rw dominant (send_acknowledged start place next spelling errors slot next_is)
+sends_next start place next spelling errors level (echoed slot last echo) next_is = send_echoed start place next spelling errors level slot echo last next_is
+
+pub goes_sending : (node : Node) (start place next : ℕ) (level : Bool) → node.state ≡ Sending start place → SendsOn level node.spelling place →
+    next ≡ min (place + 1) 255 → GoesOn node level (behind node (Sending start next))
+goes_sending node start place next level here on next_is = record {
   begins_none = ap may_start here;
   samples = samples node (behind node (Sending start next)) level Nothing
       (rw here
       (quiet_steps (Sending start place) (Sending start next) node.counters node.reader node.reader node.spelling node.clock level
       (λ errors. sending_advances start place node.reader node.reader node.spelling node.clock errors level (quiet (Sending start next))
-      (send_echoed start place next node.spelling errors level slot echo last next_is) (λ is. absurd (cc is)) (λ is. absurd (cc is))))) refl refl;
+      (sends_next start place next node.spelling errors level on next_is) (λ is. absurd (cc is)) (λ is. absurd (cc is))))) refl refl;
   history = stands_history (behind node (Sending start next));
   bit_is = refl;
   counts_none = refl;
@@ -134,7 +140,7 @@ goes_sending node start place next level here slot last echo next_is = record {
 pub in_plain : (node : Node) (level : Bool) → ((start place : ℕ) → node.state ≡ Sending start place → ⊥) → is_in_region node.state ≡ false → MayGoOn level node → is_plain level node.state ≡ true
 in_plain node level not outside (is_in is) = is
 in_plain node level not outside (reads inside may) = absurd (cc (inside, outside))
-in_plain node level not outside (sends start place here slot last echo) = absurd (not start place here)
+in_plain node level not outside (sends start place here on) = absurd (not start place here)
 
 not_plain : (level : Bool) (state : State) → is_in_region state ≡ true → is_plain level state ≡ true → ⊥
 not_plain level (Taking start may stage) inside is = cc is
@@ -144,25 +150,12 @@ not_plain level state inside is = cc inside
 pub in_region : (node : Node) (level : Bool) → is_in_region node.state ≡ true → MayGoOn level node → MayReadOn level node.reader
 in_region node level inside (is_in is) = absurd (not_plain level node.state inside is)
 in_region node level inside (reads here may) = may
-in_region node level inside (sends start place here slot last echo) = absurd (let outside = ap is_in_region here in cc (inside, outside))
+in_region node level inside (sends start place here on) = absurd (let outside = ap is_in_region here in cc (inside, outside))
 
--- what is so of one that sends
-pub record SendsOn (node : Node) (level : Bool) (place : ℕ) : Type 0 where
-  pub slot : place + 9 ≡ length node.spelling.levels.items → ⊥
-  pub last : place + 1 ≡ length node.spelling.levels.items → ⊥
-  pub echo : level ≡ level_at node.spelling place
-
-pub in_sending : (node : Node) (level : Bool) (start place : ℕ) → node.state ≡ Sending start place → MayGoOn level node → SendsOn node level place
+pub in_sending : (node : Node) (level : Bool) (start place : ℕ) → node.state ≡ Sending start place → MayGoOn level node → SendsOn level node.spelling place
 in_sending node level start place here (is_in is) = absurd (let not = ap (is_plain level) here in cc (is, not))
 in_sending node level start place here (reads inside may) = absurd (let outside = ap is_in_region here in cc (inside, outside))
-in_sending node level start place here (sends s p there slot last echo) =
+in_sending node level start place here (sends s p there on) =
     let same : Sending s p ≡ Sending start place = sym there ∙ here in
     let is : p ≡ place = cc same in
-    subst (SendsOn node level) is (record { slot = slot; last = last; echo = echo })
-
--- two levels that are told equal
-pub same_level : (a b : Bool) → beq a b ≡ true → a ≡ b
-same_level true true is = refl
-same_level true false is = absurd (cc is)
-same_level false true is = absurd (cc is)
-same_level false false is = refl
+    subst (SendsOn level node.spelling) is on

@@ -9,12 +9,14 @@ use Rattle.can_frame.specs.declared.step.FaultKind.{FaultKind}
 use Rattle.can_confinement.specs.declared.confinement.Role.{Role}
 use Rattle.can_confinement.specs.declared.confinement.Role.TheVariants.{Sender, Receiver}
 use Rattle.can_confinement.specs.declared.confinement.ErrorEvent.{ErrorEvent}
-use Rattle.can_confinement.specs.declared.confinement.ErrorEvent.TheVariants.{ReceiverError, SenderError, Sent, Recovered}
+use Rattle.can_confinement.specs.declared.confinement.ErrorEvent.TheVariants.{ReceiverError}
+use Rattle.can_confinement.specs.declared.confinement.ErrorEvent.TheVariants.{SenderError, Sent, Recovered}
 use Rattle.can_confinement.specs.declared.confinement.ErrorState.{ErrorState}
 use Rattle.can_confinement.specs.declared.confinement.ErrorState.TheVariants.{Active, Passive, Off}
 use Rattle.can_node.specs.declared.outcome.ErrorKind.TheVariants.{Bit, Stuff, Form, Ack}
 use Rattle.can_node.specs.declared.outcome.Outcome.{Outcome}
-use Rattle.can_node.specs.declared.outcome.Outcome.TheVariants.{Nothing, Took, Completed, Lost, Errored, WentOff, CameBack}
+use Rattle.can_node.specs.declared.outcome.Outcome.TheVariants.{Nothing, Took, Completed}
+use Rattle.can_node.specs.declared.outcome.Outcome.TheVariants.{Lost, Errored, WentOff, CameBack}
 use Rattle.can_confinement.specs.Confinement.{is_off, counts_after, state_after}
 use Rattle.can_node.specs.Pairs.{Pair, listening, dominating, driving, recessive, dominant}
 use Rattle.can_node.specs.Sends.{IsSend, IsSendBit, IsArbitration, IsArbitrationStuffBit}
@@ -24,7 +26,8 @@ use Rattle.can_node.specs.declared.flag.FlagKind.{FlagKind}
 use Rattle.can_node.specs.declared.flag.FlagKind.TheVariants.{ActiveError, PassiveError, Overload}
 use Rattle.can_node.specs.Waits.{Broken, Recoveries}
 use Rattle.can_node.specs.Phases.{Phase, flag_of, suspends}
-use Rattle.can_node.specs.Phases.Phase.{Sync, Idle, Send, Take, LastBit, ActiveFlag, OverloadFlag, PassiveFlag, Delimiter, Intermission, Suspend, BusOff}
+use Rattle.can_node.specs.Phases.Phase.{Sync, Idle, Send, Take, LastBit, ActiveFlag}
+use Rattle.can_node.specs.Phases.Phase.{OverloadFlag, PassiveFlag, Delimiter, Intermission, Suspend, BusOff}
 
 -- an error that a node of this role detects
 abbrev pub error_of : Role → ErrorEvent
@@ -49,7 +52,8 @@ pub data Begun : Phase → List Pair → List ErrorEvent → Type 0 where
       IsSendBit frame given before seen driven expected →
       Begun (Send start given frame) (driving before seen) []
   -- a frame is read, without an error and not yet up to where it is valid
-  taking : (start : ℕ) (given : List Bool) (may_begin : Bool) (levels : List Bool) (pairs : List Pair) (events : List ErrorEvent) →
+  taking : (start : ℕ) (given : List Bool) (may_begin : Bool) (levels : List Bool) (pairs : List Pair)
+      (events : List ErrorEvent) →
       IsReadOn (given ++ levels) → Reads given levels pairs events →
       Begun (Take start given may_begin) pairs events
   last_bit :
@@ -67,13 +71,15 @@ pub data Begun : Phase → List Pair → List ErrorEvent → Type 0 where
       Begun (Intermission role) (listening (recessive k)) []
   suspended : (k : ℕ) → k < 8 →
       Begun Suspend (listening (recessive k)) []
-  recovering : (runs : ℕ) (text broken : List Bool) (n : ℕ) → runs < 128 → Recoveries runs text → Broken broken → n < 11 →
+  recovering : (runs : ℕ) (text broken : List Bool) (n : ℕ) → runs < 128 → Recoveries runs text → Broken broken →
+      n < 11 →
       Begun BusOff (listening (text ++ broken ++ recessive n)) []
 
 -- A whole episode that ends with a bit, from the bit `at` on and after these events before it: its pairs, its
 -- events, what its last bit brings to an end, and the next phase. That the node begins to send, and bus off, are
 -- left to `Episode`, below.
-pub data Course : (at : ℕ) (before : List ErrorEvent) → Phase → List Pair → List ErrorEvent → Outcome → Phase → Type 0 where
+pub data Course : (at : ℕ) (before : List ErrorEvent) → Phase → List Pair → List ErrorEvent → Outcome →
+    Phase → Type 0 where
   -- eleven recessive levels in a row, for the first time
   synced : {at : ℕ} {before : List ErrorEvent} (broken : List Bool) → Broken broken →
       Course at before Sync (listening (broken ++ recessive 11)) [] Nothing Idle
@@ -81,38 +87,51 @@ pub data Course : (at : ℕ) (before : List ErrorEvent) → Phase → List Pair 
   woken : {at : ℕ} {before : List ErrorEvent} (n : ℕ) →
       Course at before Idle (listening (recessive n ++ false ∷ [])) [] Nothing (Take (at + n) (false ∷ []) false)
   -- sending: the whole spelling, acknowledged; it is valid for the sender at the last bit of EOF
-  completed : {at : ℕ} {before : List ErrorEvent} (start : ℕ) (given : List Bool) (frame : FrameValue) (driven sampled : List Bool) →
+  completed : {at : ℕ} {before : List ErrorEvent} (start : ℕ) (given : List Bool) (frame : FrameValue)
+      (driven sampled : List Bool) →
       IsSend frame given driven sampled →
       Course at before (Send start given frame) (driving driven sampled) (Sent ∷ []) Completed (Intermission Sender)
   -- a recessive bit of the arbitration field is dominant on the bus: the node reads on as a receiver
-  lost : {at : ℕ} {before : List ErrorEvent} (start : ℕ) (given : List Bool) (frame : FrameValue) (driven seen : List Bool) →
+  lost : {at : ℕ} {before : List ErrorEvent} (start : ℕ) (given : List Bool) (frame : FrameValue)
+      (driven seen : List Bool) →
       IsSendBit frame given driven seen true true → IsArbitration frame (given ++ driven) →
-      Course at before (Send start given frame) (driving driven seen ++ record { driven = true; sampled = false } ∷ []) []
+      Course at before (Send start given frame)
+      (driving driven seen ++ record { driven = true; sampled = false } ∷ []) []
       Lost (Take start (given ++ seen ++ false ∷ []) false)
   -- a recessive stuff bit before RTR is dominant on the bus: an error that is not counted
-  stuff_lost : {at : ℕ} {before : List ErrorEvent} (start : ℕ) (given : List Bool) (frame : FrameValue) (driven seen : List Bool) →
+  stuff_lost : {at : ℕ} {before : List ErrorEvent} (start : ℕ) (given : List Bool) (frame : FrameValue)
+      (driven seen : List Bool) →
       IsSendBit frame given driven seen true true → IsArbitrationStuffBit frame (given ++ driven) →
-      Course at before (Send start given frame) (driving driven seen ++ record { driven = true; sampled = false } ∷ []) []
+      Course at before (Send start given frame)
+      (driving driven seen ++ record { driven = true; sampled = false } ∷ []) []
       (Errored Stuff) (flag_of (state_after before) [] Sender)
   -- the ACK slot is recessive
-  unacknowledged : {at : ℕ} {before : List ErrorEvent} (start : ℕ) (given : List Bool) (frame : FrameValue) (driven seen : List Bool) →
+  unacknowledged : {at : ℕ} {before : List ErrorEvent} (start : ℕ) (given : List Bool) (frame : FrameValue)
+      (driven seen : List Bool) →
       IsSendBit frame given driven seen true false →
       Course at before (Send start given frame) (driving driven seen ++ record { driven = true; sampled = true } ∷ [])
       (ack_events (state_after before)) (Errored Ack) (flag_of (state_after before) (SenderError ∷ []) Sender)
   -- any other bit differs from the bus
-  bit_differs : {at : ℕ} {before : List ErrorEvent} (start : ℕ) (given : List Bool) (frame : FrameValue) (driven seen : List Bool) (level : Bool) →
+  bit_differs : {at : ℕ} {before : List ErrorEvent} (start : ℕ) (given : List Bool) (frame : FrameValue)
+      (driven seen : List Bool) (level : Bool) →
       IsSendBit frame given driven seen level level →
-      (level ≡ true → IsArbitration frame (given ++ driven) → ⊥) → (level ≡ true → IsArbitrationStuffBit frame (given ++ driven) → ⊥) →
-      Course at before (Send start given frame) (driving driven seen ++ record { driven = level; sampled = not level } ∷ [])
+      (level ≡ true → IsArbitration frame (given ++ driven) → ⊥) →
+      (level ≡ true → IsArbitrationStuffBit frame (given ++ driven) → ⊥) →
+      Course at before (Send start given frame)
+      (driving driven seen ++ record { driven = level; sampled = not level } ∷ [])
       (SenderError ∷ []) (Errored Bit) (flag_of (state_after before) [] Sender)
   -- reading: the frame is valid for a receiver at the last but one bit of EOF
-  took : {at : ℕ} {before : List ErrorEvent} (start : ℕ) (given : List Bool) (may_begin : Bool) (levels : List Bool) (pairs : List Pair)
-      (events : List ErrorEvent) (frame : FrameValue) → Reads given levels pairs events → IsFront frame (given ++ levels) →
+  took : {at : ℕ} {before : List ErrorEvent} (start : ℕ) (given : List Bool) (may_begin : Bool) (levels : List Bool)
+      (pairs : List Pair)
+      (events : List ErrorEvent) (frame : FrameValue) → Reads given levels pairs events →
+      IsFront frame (given ++ levels) →
       Course at before (Take start given may_begin) pairs events (Took start frame) LastBit
   -- the first level with which no frame goes on, or that is an error of ACK slot or CRC; the flag is that of
   -- the state before this error, in which a frame that was acknowledged is counted
-  spoiled : {at : ℕ} {before : List ErrorEvent} (start : ℕ) (given : List Bool) (may_begin : Bool) (levels : List Bool) (level : Bool) (pairs : List Pair)
-      (events : List ErrorEvent) (kind : FaultKind) → Reads given (levels ++ level ∷ []) pairs events → IsFirstFault kind (given ++ levels) level →
+  spoiled : {at : ℕ} {before : List ErrorEvent} (start : ℕ) (given : List Bool) (may_begin : Bool)
+      (levels : List Bool) (level : Bool) (pairs : List Pair)
+      (events : List ErrorEvent) (kind : FaultKind) → Reads given (levels ++ level ∷ []) pairs events →
+      IsFirstFault kind (given ++ levels) level →
       Course at before (Take start given may_begin) pairs (events ++ ReceiverError ∷ [])
       (Errored (name_of kind)) (flag_of (state_after (before ++ events)) [] Receiver)
   -- the last bit of EOF: recessive, or dominant, which asks for an overload frame and is no error
@@ -122,16 +141,21 @@ pub data Course : (at : ℕ) (before : List ErrorEvent) → Phase → List Pair 
       Course at before LastBit (listening (false ∷ [])) [] Nothing (OverloadFlag Receiver)
   -- flags: six dominant bits, whatever is sampled; a passive one until six equal levels in a row were sampled
   flagged : {at : ℕ} {before : List ErrorEvent} (role : Role) (levels : List Bool) → length levels ≡ 6 →
-      Course at before (ActiveFlag role) (dominating levels) (flag_bits role levels) Nothing (Delimiter ActiveError role (dominant_end levels))
+      Course at before (ActiveFlag role) (dominating levels) (flag_bits role levels) Nothing
+      (Delimiter ActiveError role (dominant_end levels))
   overload_flagged : {at : ℕ} {before : List ErrorEvent} (role : Role) (levels : List Bool) → length levels ≡ 6 →
-      Course at before (OverloadFlag role) (dominating levels) (flag_bits role levels) Nothing (Delimiter Overload role (dominant_end levels))
-  passive_flagged : {at : ℕ} {before : List ErrorEvent} (owed : List ErrorEvent) (role : Role) (levels : List Bool) (level : Bool) →
+      Course at before (OverloadFlag role) (dominating levels) (flag_bits role levels) Nothing
+      (Delimiter Overload role (dominant_end levels))
+  passive_flagged : {at : ℕ} {before : List ErrorEvent} (owed : List ErrorEvent) (role : Role) (levels : List Bool)
+      (level : Bool) →
       IsWithoutSix levels → EndsInSix (levels ++ level ∷ []) →
-      Course at before (PassiveFlag owed role) (listening (levels ++ level ∷ [])) (owed_events owed (levels ++ level ∷ [])) Nothing
+      Course at before (PassiveFlag owed role) (listening (levels ++ level ∷ []))
+      (owed_events owed (levels ++ level ∷ [])) Nothing
       (Delimiter PassiveError role 0)
   -- delimiter: any number of dominant levels, and then eight recessive ones
   delimited : {at : ℕ} {before : List ErrorEvent} (kind : FlagKind) (role : Role) (run n : ℕ) →
-      Course at before (Delimiter kind role run) (listening (dominant n ++ recessive 8)) (dominant_events kind role run n) Nothing (Intermission role)
+      Course at before (Delimiter kind role run) (listening (dominant n ++ recessive 8))
+      (dominant_events kind role run n) Nothing (Intermission role)
   -- a dominant level in the place of the second to the seventh of these is an error
   cut_short : {at : ℕ} {before : List ErrorEvent} (kind : FlagKind) (role : Role) (run n k : ℕ) → 0 < k → k < 7 →
       Course at before (Delimiter kind role run) (listening (dominant n ++ recessive k ++ false ∷ []))
@@ -139,7 +163,8 @@ pub data Course : (at : ℕ) (before : List ErrorEvent) → Phase → List Pair 
       (Errored Form) (flag_of (state_after (before ++ dominant_events kind role run n)) [] role)
   -- in the place of the eighth it begins an overload frame
   overloaded : {at : ℕ} {before : List ErrorEvent} (kind : FlagKind) (role : Role) (run n : ℕ) →
-      Course at before (Delimiter kind role run) (listening (dominant n ++ recessive 7 ++ false ∷ [])) (dominant_events kind role run n)
+      Course at before (Delimiter kind role run) (listening (dominant n ++ recessive 7 ++ false ∷ []))
+      (dominant_events kind role run n)
       Nothing (OverloadFlag role)
   -- intermission: three recessive levels, behind which an error-passive sender waits and the bus is free else
   rested : {at : ℕ} {before : List ErrorEvent} (role : Role) → suspends role (state_after before) ≡ false →
@@ -172,22 +197,28 @@ AreOn events = is_off (counts_after events) ≡ false
 -- A whole episode. The node begins to send, behind the bits that it waited; or the episode runs its course; or
 -- the event of one of its bits brings TEC to 256, and that bit ends it in bus off, whether it goes on otherwise
 -- or its course ends there. No flag is sent then.
-pub data Episode : (at : ℕ) (before : List ErrorEvent) → Phase → List Pair → List ErrorEvent → Outcome → Phase → Type 0 where
+pub data Episode : (at : ℕ) (before : List ErrorEvent) → Phase → List Pair → List ErrorEvent → Outcome →
+    Phase → Type 0 where
   -- idle: the node begins to send
   begun : {at : ℕ} {before : List ErrorEvent} (n : ℕ) (frame : FrameValue) → IsFrameValue frame → AreOn before →
       Episode at before Idle (listening (recessive n)) [] Nothing (Send (at + n) [] frame)
   -- it does so too behind a dominant third bit of intermission, which is its SOF
-  joined : {at : ℕ} {before : List ErrorEvent} (start : ℕ) (given : List Bool) (frame : FrameValue) → IsFrameValue frame → AreOn before →
+  joined : {at : ℕ} {before : List ErrorEvent} (start : ℕ) (given : List Bool) (frame : FrameValue) →
+      IsFrameValue frame → AreOn before →
       Episode at before (Take start given true) [] [] Nothing (Send start given frame)
-  ends : {at : ℕ} {before : List ErrorEvent} {phase next : Phase} {pairs : List Pair} {events : List ErrorEvent} {outcome : Outcome} →
+  ends : {at : ℕ} {before : List ErrorEvent} {phase next : Phase} {pairs : List Pair} {events : List ErrorEvent}
+      {outcome : Outcome} →
       Course at before phase pairs events outcome next → AreOn (before ++ events) →
       Episode at before phase pairs events outcome next
-  off_within : {at : ℕ} {before : List ErrorEvent} {phase : Phase} {pairs : List Pair} {events : List ErrorEvent} (pair : Pair) (event : ErrorEvent) →
+  off_within : {at : ℕ} {before : List ErrorEvent} {phase : Phase} {pairs : List Pair} {events : List ErrorEvent}
+      (pair : Pair) (event : ErrorEvent) →
       Begun phase pairs events → AreOn (before ++ events) →
       Begun phase (pairs ++ pair ∷ []) (events ++ event ∷ []) → AreOff (before ++ events ++ event ∷ []) →
       Episode at before phase (pairs ++ pair ∷ []) (events ++ event ∷ []) WentOff BusOff
-  off_at_end : {at : ℕ} {before : List ErrorEvent} {phase next : Phase} {pairs : List Pair} {events : List ErrorEvent} {outcome : Outcome}
+  off_at_end : {at : ℕ} {before : List ErrorEvent} {phase next : Phase} {pairs : List Pair} {events : List ErrorEvent}
+      {outcome : Outcome}
       (pair : Pair) (event : ErrorEvent) →
       Begun phase pairs events → AreOn (before ++ events) →
-      Course at before phase (pairs ++ pair ∷ []) (events ++ event ∷ []) outcome next → AreOff (before ++ events ++ event ∷ []) →
+      Course at before phase (pairs ++ pair ∷ []) (events ++ event ∷ []) outcome next →
+      AreOff (before ++ events ++ event ∷ []) →
       Episode at before phase (pairs ++ pair ∷ []) (events ++ event ∷ []) WentOff BusOff

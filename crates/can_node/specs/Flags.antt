@@ -1,6 +1,7 @@
 -- Flags, and what is counted in and behind them. Bosch CAN Specification 2.0, part B, 3.2.3 ERROR FRAME,
 -- 3.2.4 OVERLOAD FRAME and 8 FAULT CONFINEMENT.
-use Rattle.std.specs.Prelude.{◌≡◌, ℕ, zero, suc, ◌+◌, ◌-◌, ◌%◌, ◌==◌, ◌&&◌, nat_le, not, Bool, true, false, List, [], ◌∷◌, ◌++◌, replicate, if◌then◌else◌}
+use Rattle.std.specs.Prelude.{◌≡◌, ℕ, zero, suc, ◌+◌, ◌-◌, ◌%◌, ◌==◌, ◌&&◌, nat_le, not}
+use Rattle.std.specs.Prelude.{Bool, true, false, List, [], ◌∷◌, ◌++◌, replicate, if◌then◌else◌}
 use Rattle.std.specs.List.{flat_map, list_any, suffix_len}
 use Rattle.can_node.specs.declared.flag.FlagKind.{FlagKind}
 use Rattle.can_node.specs.declared.flag.FlagKind.TheVariants.{ActiveError, PassiveError, Overload}
@@ -56,7 +57,8 @@ behind_flag kind Sender = []
 -- in the flag and n behind it
 abbrev pub dominant_event : FlagKind → Role → ℕ → ℕ → List ErrorEvent
 dominant_event kind role run n =
-    (if n == 0 then behind_flag kind role else []) ++ (if is_counted kind (run + n + 1) then (DominantRun role ∷ []) else [])
+    (if n == 0 then behind_flag kind role else [])
+    ++ (if is_counted kind (run + n + 1) then (DominantRun role ∷ []) else [])
 
 -- the events of n dominant samples behind a flag
 unfoldable pub dominant_events : FlagKind → Role → ℕ → ℕ → List ErrorEvent

@@ -31,13 +31,20 @@ listens_in node = listens node.state
 -- A node that was left alone while a listener followed the line for it, at the bit up to which that has followed:
 -- it holds what it held but for what all hold alike.
 abbrev pub caught_up : Node → Listener → ℕ → Node
-caught_up node listener bit = record { state = listener.state; reader = listener.reader; spelling = node.spelling; counters = node.counters; clock = bit }
+caught_up node listener bit = record {
+  state = listener.state;
+  reader = listener.reader;
+  spelling = node.spelling;
+  counters = node.counters;
+  clock = bit;
+}
 
 -- What a bit does to a listener and to each node for which it stands: caught up before, the node samples this level
 -- and tells nothing, and then it is the node caught up behind it. Its counts are such of which this is known.
 abbrev pub Follows : KnownCounts → Listener → ℕ → Bool → Listener → Type 0
 Follows known old bit level new =
-    (node : Node) → Knows known (counters_in node) → IsSample (caught_up node old bit) level Nothing (caught_up node new (bit + 1))
+    (node : Node) → Knows known (counters_in node) →
+    IsSample (caught_up node old bit) level Nothing (caught_up node new (bit + 1))
 
 -- A listener may come to stand for the node: caught up with it at its own next bit it stands after each past after
 -- which it stands, and it may begin to send just where it may.
@@ -53,8 +60,8 @@ pub record IsUnseen (known : KnownCounts) (turn : Turn) : Type 0 where
   pub counts_none : (turn.event ≡ None) ⊎ ((known ≡ Zero) × (turn.event ≡ Some Received))
   pub sends_none : is_sending turn.state ≡ false
 
--- One bit of a frame that all read for whom a listener stands, at which each drives recessive and none may begin to send:
--- each samples this level, tells nothing and counts nothing.
+-- One bit of a frame that all read for whom a listener stands, at which each drives recessive and none may begin to
+-- send: each samples this level, tells nothing and counts nothing.
 pub record ReadsAlong (before : Listener) (level : Bool) (after : Listener) : Type 0 where
   pub drives : (node : Node) (bit : ℕ) → driven_by (caught_up node before bit) ≡ true
   pub begins : (node : Node) (bit : ℕ) → may_begin (caught_up node before bit) ≡ false

@@ -1,6 +1,7 @@
 -- How a node's state agrees with the episode that it is in, and what a sampled level makes of it. Private
 -- clauses cite it.
-use Rattle.std.specs.Prelude.{◌≡◌, ◌⊎◌, ℕ, ◌+◌, ◌*◌, ◌<◌, ◌≤◌, ◌==◌, Bool, true, false, not, Option, Some, None, List, [], ◌∷◌, ◌++◌, length}
+use Rattle.std.specs.Prelude.{◌≡◌, ◌⊎◌, ℕ, ◌+◌, ◌*◌, ◌<◌, ◌≤◌, ◌==◌, Bool, true}
+use Rattle.std.specs.Prelude.{false, not, Option, Some, None, List, [], ◌∷◌, ◌++◌, length}
 use Rattle.std.specs.List.{list_any, suffix_len}
 use Rattle.can_frame.specs.Frames.{FrameValue}
 use Rattle.can_frame.specs.Fronts.{BeginsRegion}
@@ -19,7 +20,9 @@ use Rattle.can_node.specs.declared.outcome.Outcome.{Outcome}
 use Rattle.can_node.specs.declared.outcome.ErrorKind.{ErrorKind}
 use Rattle.can_node.specs.declared.outcome.Outcome.TheVariants.{Nothing, Errored, WentOff}
 use Rattle.can_node.specs.declared.state.State.{State}
-use Rattle.can_node.specs.declared.state.State.TheVariants.{Syncing, Idling, Taking, Closing, Flagging, PassiveFlagging, Waiting, Delimiting, Resting, Suspending, Recovering, Sending}
+use Rattle.can_node.specs.declared.state.State.TheVariants.{Syncing, Idling, Taking, Closing, Flagging}
+use Rattle.can_node.specs.declared.state.State.TheVariants.{PassiveFlagging, Waiting, Delimiting, Resting}
+use Rattle.can_node.specs.declared.state.State.TheVariants.{Suspending, Recovering, Sending}
 use Rattle.can_node.specs.declared.state.Stage.{Stage}
 use Rattle.can_node.specs.declared.state.Stage.TheVariants.{Region, AfterRegion, Slot, AfterSlot}
 use Rattle.can_node.specs.declared.state.Turn.{Turn}
@@ -35,7 +38,8 @@ use Rattle.can_node.specs.Takes.{IsReadOn, Reads}
 use Rattle.can_node.specs.Flags.{IsWithoutSix, owed_events, flag_bits, dominant_end, dominant_events, first_counted}
 use Rattle.can_node.specs.Waits.{Broken, Recoveries}
 use Rattle.can_node.specs.Phases.{Phase, wants_start}
-use Rattle.can_node.specs.Phases.Phase.{Sync, Idle, Send, Take, LastBit, ActiveFlag, OverloadFlag, PassiveFlag, Delimiter, Intermission, Suspend, BusOff}
+use Rattle.can_node.specs.Phases.Phase.{Sync, Idle, Send, Take, LastBit, ActiveFlag}
+use Rattle.can_node.specs.Phases.Phase.{OverloadFlag, PassiveFlag, Delimiter, Intermission, Suspend, BusOff}
 use Rattle.can_node.specs.Episodes.{Course, AreOn, AreOff}
 use Rattle.can_node.specs.Histories.{Past, Whole, with_episode, IsOnOutside, noted}
 
@@ -76,13 +80,15 @@ pub data Agrees : State → (text : List Bool) → (at : ℕ) → Phase → List
       Agrees (Syncing n) text at Sync (listening (broken ++ recessive n)) []
   in_idle : {text : List Bool} {at : ℕ} (n : ℕ) →
       Agrees Idling text at Idle (listening (recessive n)) []
-  in_take : {text : List Bool} {at start : ℕ} {may_start : Bool} {stage : Stage} (given levels : List Bool) (may_begin : Bool) (pairs : List Pair) (events : List ErrorEvent) →
+  in_take : {text : List Bool} {at start : ℕ} {may_start : Bool} {stage : Stage} (given levels : List Bool)
+      (may_begin : Bool) (pairs : List Pair) (events : List ErrorEvent) →
       text ≡ given ++ levels → IsReadOn text → Reads given levels pairs events →
       may_start ≡ wants_start (Take start given may_begin) pairs →
       (may_begin ≡ true → given ≡ false ∷ []) →
       IsAt stage text →
       Agrees (Taking start may_start stage) text at (Take start given may_begin) pairs events
-  in_send : {text : List Bool} {at start place : ℕ} (given : List Bool) (frame : FrameValue) (before seen : List Bool) (driven expected : Bool) →
+  in_send : {text : List Bool} {at start place : ℕ} (given : List Bool) (frame : FrameValue) (before seen : List Bool)
+      (driven expected : Bool) →
       text ≡ given ++ seen → IsSendBit frame given before seen driven expected →
       place ≡ length given + length before →
       Agrees (Sending start place) text at (Send start given frame) (driving before seen) []
@@ -90,23 +96,29 @@ pub data Agrees : State → (text : List Bool) → (at : ℕ) → Phase → List
       Agrees Closing text at LastBit [] []
   in_active : {text : List Bool} {at sent until : ℕ} {role : Role} (levels : List Bool) →
       length levels ≡ sent → sent < 6 → dominant_end levels + until ≡ 14 → dominant_end levels ≤ sent →
-      Agrees (Flagging ActiveError role sent until) text at (ActiveFlag role) (dominating levels) (flag_bits role levels)
+      Agrees (Flagging ActiveError role sent until) text at (ActiveFlag role) (dominating levels)
+      (flag_bits role levels)
   in_overload : {text : List Bool} {at sent until : ℕ} {role : Role} (levels : List Bool) →
       length levels ≡ sent → sent < 6 → dominant_end levels + until ≡ 14 → dominant_end levels ≤ sent →
       Agrees (Flagging Overload role sent until) text at (OverloadFlag role) (dominating levels) (flag_bits role levels)
-  in_passive : {text : List Bool} {at ones zeros : ℕ} {owes : Bool} {role : Role} (owed : List ErrorEvent) (levels : List Bool) →
+  in_passive : {text : List Bool} {at ones zeros : ℕ} {owes : Bool} {role : Role} (owed : List ErrorEvent)
+      (levels : List Bool) →
       IsPassive owes ones zeros owed levels →
-      Agrees (PassiveFlagging role owes ones zeros) text at (PassiveFlag owed role) (listening levels) (owed_events owed levels)
+      Agrees (PassiveFlagging role owes ones zeros) text at (PassiveFlag owed role) (listening levels)
+      (owed_events owed levels)
   in_wait : {text : List Bool} {at until : ℕ} {first : Bool} {kind : FlagKind} {role : Role} (run n : ℕ) →
       first ≡ (n == 0) → (n ≡ 0 → 8 ≤ until) → IsDue kind run n until →
-      Agrees (Waiting kind role until first) text at (Delimiter kind role run) (listening (dominant n)) (dominant_events kind role run n)
+      Agrees (Waiting kind role until first) text at (Delimiter kind role run) (listening (dominant n))
+      (dominant_events kind role run n)
   in_delimiter : {text : List Bool} {at k : ℕ} {role : Role} (kind : FlagKind) (run n : ℕ) → 0 < k → k < 8 →
-      Agrees (Delimiting role k) text at (Delimiter kind role run) (listening (dominant n ++ recessive k)) (dominant_events kind role run n)
+      Agrees (Delimiting role k) text at (Delimiter kind role run) (listening (dominant n ++ recessive k))
+      (dominant_events kind role run n)
   in_rest : {text : List Bool} {at k : ℕ} {role : Role} → k < 3 →
       Agrees (Resting role k) text at (Intermission role) (listening (recessive k)) []
   in_suspend : {text : List Bool} {at k : ℕ} → k < 8 →
       Agrees (Suspending k) text at Suspend (listening (recessive k)) []
-  in_off : {text : List Bool} {at runs n : ℕ} (rest broken : List Bool) → runs < 128 → Recoveries runs rest → Broken broken → n < 11 →
+  in_off : {text : List Bool} {at runs n : ℕ} (rest broken : List Bool) → runs < 128 → Recoveries runs rest →
+      Broken broken → n < 11 →
       Agrees (Recovering runs n) text at BusOff (listening (rest ++ broken ++ recessive n)) []
 
 -- the level that a node in this state drives, if it sends no frame
@@ -165,8 +177,8 @@ listens (Delimiting role ones) = is_receiver role
 listens (Resting role ones) = is_receiver role
 listens state = true
 
--- A node in this state neither reads nor sends a frame, and what it makes of this level is the same in each error state:
--- where no error may be signalled, nor suspend transmission begin.
+-- A node in this state neither reads nor sends a frame, and what it makes of this level is the same in each error
+-- state: where no error may be signalled, nor suspend transmission begin.
 abbrev pub turns_alike : Bool → State → Bool
 turns_alike level (Taking start may_start stage) = false
 turns_alike level (Sending start place) = false
@@ -195,26 +207,33 @@ listed (Some event) = event ∷ []
 
 -- Where a bit leaves a node, if its event does not lead to bus off: the episode goes on, or it has run its
 -- course. A reader has read the text `after` then.
-pub data Lands (new : State) (outcome : Outcome) (after : List Bool) (at : ℕ) (before : List ErrorEvent) (phase : Phase) (pairs : List Pair) (events : List ErrorEvent) : Type 0 where
-  goes_on : Agrees new after at phase pairs events → outcome ≡ Nothing → Lands new outcome after at before phase pairs events
-  is_over : (next : Phase) → Course at before phase pairs events outcome next → ((later : ℕ) → Agrees new after later next [] []) →
+pub data Lands (new : State) (outcome : Outcome) (after : List Bool) (at : ℕ) (before : List ErrorEvent)
+    (phase : Phase) (pairs : List Pair) (events : List ErrorEvent) : Type 0 where
+  goes_on : Agrees new after at phase pairs events → outcome ≡ Nothing →
+      Lands new outcome after at before phase pairs events
+  is_over : (next : Phase) → Course at before phase pairs events outcome next →
+      ((later : ℕ) → Agrees new after later next [] []) →
       Lands new outcome after at before phase pairs events
 
 -- A node in this state, at this bit and with this error state, that samples this level makes this turn,
 -- whatever its episode was so far. It reads no frame yet; a reader that begins then has read SOF.
 abbrev pub Goes : State → ℕ → ErrorState → Bool → Turn → Type 0
 Goes state now errors level turn =
-    (text : List Bool) (at : ℕ) (before : List ErrorEvent) (phase : Phase) (part : List Pair) (events : List ErrorEvent) →
+    (text : List Bool) (at : ℕ) (before : List ErrorEvent) (phase : Phase) (part : List Pair)
+    (events : List ErrorEvent) →
     now ≡ at + length part → errors ≡ state_after (before ++ events) → Agrees state text at phase part events →
-    Lands turn.state turn.outcome (false ∷ []) at before phase (part ++ pair_of state level ∷ []) (events ++ listed turn.event)
+    Lands turn.state turn.outcome (false ∷ []) at before phase (part ++ pair_of state level ∷ [])
+    (events ++ listed turn.event)
 
 -- The same of a node that reads a frame, where its reader gives this answer to the level. If it reads on, so
 -- does its reader.
 abbrev pub GoesReading : State → ErrorState → Step → Bool → Turn → Type 0
 GoesReading state errors step level turn =
-    (reader : Reader) (text : List Bool) (at : ℕ) (before : List ErrorEvent) (phase : Phase) (part : List Pair) (events : List ErrorEvent) →
+    (reader : Reader) (text : List Bool) (at : ℕ) (before : List ErrorEvent) (phase : Phase) (part : List Pair)
+    (events : List ErrorEvent) →
     errors ≡ state_after (before ++ events) → Agrees state text at phase part events → Next step reader text level →
-    Lands turn.state turn.outcome (text ++ level ∷ []) at before phase (part ++ pair_of state level ∷ []) (events ++ listed turn.event)
+    Lands turn.state turn.outcome (text ++ level ∷ []) at before phase (part ++ pair_of state level ∷ [])
+    (events ++ listed turn.event)
     × (is_taking turn.state ≡ true → IsReading reader)
 
 -- a turn that signals an error with this flag, which is that of the state before it
@@ -227,24 +246,30 @@ pub record Signals (turn : Turn) (flag : Phase) (event : Option ErrorEvent) (kin
 -- samples this level.
 abbrev pub GoesSending : ℕ → ℕ → Spelling → ErrorState → Bool → Turn → Type 0
 GoesSending start place spelling errors level turn =
-    (text : List Bool) (at : ℕ) (before : List ErrorEvent) (phase : Phase) (part : List Pair) (events : List ErrorEvent) →
-    errors ≡ state_after (before ++ events) → Agrees (Sending start place) text at phase part events → Holds phase spelling →
+    (text : List Bool) (at : ℕ) (before : List ErrorEvent) (phase : Phase) (part : List Pair)
+    (events : List ErrorEvent) →
+    errors ≡ state_after (before ++ events) → Agrees (Sending start place) text at phase part events →
+    Holds phase spelling →
     Lands turn.state turn.outcome (text ++ level ∷ []) at before phase
     (part ++ record { driven = level_at spelling place; sampled = level } ∷ []) (events ++ listed turn.event)
 
 -- where a bit leaves the state and the reader
-pub record LandsWith (turn : Turn) (reader : Reader) (at : ℕ) (before : List ErrorEvent) (phase : Phase) (pairs : List Pair) (events : List ErrorEvent) : Type 0 where
+pub record LandsWith (turn : Turn) (reader : Reader) (at : ℕ) (before : List ErrorEvent) (phase : Phase)
+    (pairs : List Pair) (events : List ErrorEvent) : Type 0 where
   pub after : List Bool
   pub lands : Lands turn.state turn.outcome after at before phase pairs events
   pub reads : ReaderStands turn.state reader after
 
--- A node in this state, with this reader and this spelling, at this bit and with this error state, that samples this level
--- makes this turn, and has this reader then.
+-- A node in this state, with this reader and this spelling, at this bit and with this error state, that samples this
+-- level makes this turn, and has this reader then.
 abbrev pub Advances : State → Reader → Spelling → ℕ → ErrorState → Bool → Turn → Reader → Type 0
 Advances state old spelling now errors level turn new =
-    (text : List Bool) (at : ℕ) (before : List ErrorEvent) (phase : Phase) (part : List Pair) (events : List ErrorEvent) →
-    now ≡ at + length part → errors ≡ state_after (before ++ events) → Agrees state text at phase part events → Holds phase spelling → ReaderStands state old text →
-    LandsWith turn new at before phase (part ++ record { driven = level_in state spelling; sampled = level } ∷ []) (events ++ listed turn.event)
+    (text : List Bool) (at : ℕ) (before : List ErrorEvent) (phase : Phase) (part : List Pair)
+    (events : List ErrorEvent) →
+    now ≡ at + length part → errors ≡ state_after (before ++ events) → Agrees state text at phase part events →
+    Holds phase spelling → ReaderStands state old text →
+    LandsWith turn new at before phase (part ++ record { driven = level_in state spelling; sampled = level } ∷ [])
+    (events ++ listed turn.event)
 
 -- the turn that leads to this state, counts nothing and tells nothing
 abbrev pub quiet : State → Turn
@@ -274,7 +299,8 @@ pub data LeadsTo (events : List ErrorEvent) : Option ErrorEvent → Bool → Typ
   goes_off : (event : ErrorEvent) → AreOff (events ++ event ∷ []) → LeadsTo events (Some event) true
 
 -- the counters have counted the event too, if there is one
-pub record Counts (old new : Counters) (event : Option ErrorEvent) (off : Bool) (events : List ErrorEvent) : Type 0 where
+pub record Counts (old new : Counters) (event : Option ErrorEvent) (off : Bool)
+    (events : List ErrorEvent) : Type 0 where
   pub stands : StandsAfter old events → StandsAfter new (events ++ listed event)
   pub leads : StandsAfter old events → LeadsTo events event off
 
@@ -291,7 +317,9 @@ pub record IsMade (turn : Turn) (old new : Counters) (state : State) (outcome : 
 
 -- What a bit at which a node samples this level makes of its state, its counters and its reader, and what it
 -- tells.
-pub record Steps (state : State) (counters : Counters) (reader : Reader) (spelling : Spelling) (now : ℕ) (level : Bool) (outcome : Outcome) (new_state : State) (new_counters : Counters) (new_reader : Reader) : Type 0 where
+pub record Steps (state : State) (counters : Counters) (reader : Reader) (spelling : Spelling) (now : ℕ)
+    (level : Bool) (outcome : Outcome) (new_state : State) (new_counters : Counters)
+    (new_reader : Reader) : Type 0 where
   pub turn : Turn
   pub errors : ErrorState
   pub shows : (events : List ErrorEvent) → StandsAfter counters events → errors ≡ state_after events

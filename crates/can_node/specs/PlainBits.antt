@@ -1,31 +1,38 @@
 -- Bits at which a node goes on: nothing begins, nothing is told and nothing counted.
-use Rattle.std.specs.Prelude.{◌≡◌, ℕ, ◌+◌, ◌||◌, Bool, true, false, None, length, not, nat_le}
+use Rattle.std.specs.Prelude.{◌≡◌, ℕ, ◌+◌, ◌||◌, ◌&&◌, Bool, true, false, None, not, nat_le}
 use Rattle.can_frame.specs.Reading.{MayReadOn}
 use Rattle.can_confinement.specs.Confinement.{state_of}
 use Rattle.can_confinement.specs.Counters.{counts_of}
+use Rattle.can_confinement.specs.declared.confinement.Role.{Role}
 use Rattle.can_confinement.specs.declared.counters.Counters.{Counters}
 use Rattle.can_node.specs.declared.node.Node.{Node}
 use Rattle.can_node.specs.declared.outcome.Outcome.TheVariants.{Nothing}
 use Rattle.can_node.specs.declared.state.State.{State}
-use Rattle.can_node.specs.declared.state.State.TheVariants.{Delimiting, Flagging, PassiveFlagging, Recovering, Resting, Sending, Suspending, Waiting}
+use Rattle.can_node.specs.declared.state.State.TheVariants.{Delimiting, Flagging, PassiveFlagging}
+use Rattle.can_node.specs.declared.state.State.TheVariants.{Recovering, Resting, Sending, Suspending, Waiting}
 use Rattle.can_node.specs.declared.state.Turn.{Turn}
 use Rattle.can_node.specs.Histories.{Past, IsHistory}
-use Rattle.can_node.specs.Machine.{Goes, is_in_region, is_taking, quiet}
+use Rattle.can_node.specs.Machine.{Goes, is_in_region, is_receiver, is_taking, quiet}
 use Rattle.can_node.specs.Node.{StandsAfter, IsSample, bit_of, counters_in, may_begin}
-use Rattle.can_node.specs.Sending.{level_at}
+use Rattle.can_node.specs.Sending.{SendsOn}
 
--- In a flag that drives dominant, with a dominant level; behind a flag, in the delimiter, the intermission and suspend
--- transmission, with a recessive one.
+-- a dominant sample behind a flag counts nothing: it is not the first behind a receiver's, nor the last of a counted
+-- run
+abbrev pub overlooks : Role → ℕ → Bool → Bool
+overlooks role until first = nat_le 2 until && not (first && is_receiver role)
+
+-- In a flag that drives dominant, with a dominant level; behind a flag with a recessive one, or a dominant one that
+-- counts nothing; in the delimiter, the intermission and suspend transmission with a recessive one.
 abbrev pub turns_plainly : Bool → State → Bool
 turns_plainly level (Flagging kind role sent until) = not level
-turns_plainly level (Waiting kind role until first) = level
+turns_plainly level (Waiting kind role until first) = level || overlooks role until first
 turns_plainly level (Delimiting role ones) = level
 turns_plainly level (Resting role ones) = level
 turns_plainly level (Suspending ones) = level
 turns_plainly level state = false
 
--- So with any level in bus off, where no run of eleven recessive bits ends with the next bit, and in a passive error flag,
--- but for the first dominant level of one that owes an error count.
+-- So with any level in bus off, where no run of eleven recessive bits ends with the next bit, and in a passive error
+-- flag, but for the first dominant level of one that owes an error count.
 abbrev pub is_plain : Bool → State → Bool
 is_plain level (Recovering runs ones) = nat_le ones 9
 is_plain level (PassiveFlagging role owes ones zeros) = level || not owes
@@ -42,13 +49,12 @@ pub record LeavesPlainly (state : State) (counters : Counters) (now : ℕ) (leve
   pub goes : Goes state now (state_of (counts_of counters)) level (quiet next)
   pub reads_none : is_taking next ≡ false
 
--- The node goes on with this level: it is in such a state, reads a frame whose stuffed region goes on with it, or sends a
--- frame and drives this level, in another place than the ACK slot and the last bit of EOF.
+-- The node goes on with this level: it is in such a state, reads a frame whose stuffed region goes on with it, or sends
+-- a frame and goes on with that.
 pub data MayGoOn (level : Bool) (node : Node) : Type 0 where
   is_in : is_plain level node.state ≡ true → MayGoOn level node
   reads : is_in_region node.state ≡ true → MayReadOn level node.reader → MayGoOn level node
-  sends : (start place : ℕ) → node.state ≡ Sending start place → (place + 9 ≡ length node.spelling.levels.items → ⊥) →
-      (place + 1 ≡ length node.spelling.levels.items → ⊥) → level ≡ level_at node.spelling place → MayGoOn level node
+  sends : (start place : ℕ) → node.state ≡ Sending start place → SendsOn level node.spelling place → MayGoOn level node
 
 -- One such bit: it samples this level, may not begin to send, tells nothing and counts nothing.
 pub record GoesOn (old : Node) (level : Bool) (new : Node) : Type 0 where

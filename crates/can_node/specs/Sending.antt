@@ -1,5 +1,5 @@
 -- A frame as its sender drives it, and what a bit of it is. Private clauses cite it.
-use Rattle.std.specs.Prelude.{◌≡◌, ℕ, ◌≤◌, min, Bool, true, false, List, length, reverse, take, get_or}
+use Rattle.std.specs.Prelude.{◌≡◌, ℕ, ◌+◌, ◌≤◌, min, Bool, true, false, List, length, reverse, take, get_or}
 use Rattle.can_frame.specs.Frames.{FrameValue, IsFrameValue}
 use Rattle.can_frame.specs.Fields.{senders_choice}
 use Rattle.can_frame.specs.Stuffing.{five_equal, unstuffed}
@@ -29,6 +29,13 @@ Holds phase spelling = Unit {0}
 abbrev pub level_at : Spelling → ℕ → Bool
 level_at spelling place = get_or spelling.levels.items place true
 
+-- The sender goes on where the bit in this place has this level: in the ACK slot a dominant one, elsewhere the one that
+-- it drives, but in the last bit of EOF, behind which the frame is sent.
+pub data SendsOn (level : Bool) (spelling : Spelling) (place : ℕ) : Type 0 where
+  acknowledged : place + 9 ≡ length spelling.levels.items → level ≡ false → SendsOn level spelling place
+  echoed : (place + 9 ≡ length spelling.levels.items → ⊥) → (place + 1 ≡ length spelling.levels.items → ⊥) →
+      level ≡ level_at spelling place → SendsOn level spelling place
+
 -- how a text ends, which is given with its newest level first, and how many of its levels are no stuff bits, 255 or
 -- more counting as 255
 pub record Tallies (tally : Tally) (newest_first : List Bool) : Type 0 where
@@ -37,11 +44,13 @@ pub record Tallies (tally : Tally) (newest_first : List Bool) : Type 0 where
 
 -- what the bit behind a text is, which is given with its newest level first, where RTR has this place
 abbrev pub SaysBit : SendBit → List Bool → ℕ → Type 0
-SaysBit Arbitration text rtr = (five_equal text ≡ false) × (1 ≤ length (unstuffed text)) × (length (unstuffed text) ≤ rtr)
+SaysBit Arbitration text rtr = (five_equal text ≡ false) × (1 ≤ length (unstuffed text))
+    × (length (unstuffed text) ≤ rtr)
 SaysBit ArbitrationStuffBit text rtr = (five_equal text ≡ true) × (length (unstuffed text) ≤ rtr)
 SaysBit Other text rtr = (five_equal text ≡ false → 1 ≤ length (unstuffed text) → length (unstuffed text) ≤ rtr → ⊥)
     × (five_equal text ≡ true → length (unstuffed text) ≤ rtr → ⊥)
 
 -- what the bit in this place of a spelling is
 abbrev pub IsBitAt : SendBit → Spelling → ℕ → Type 0
-IsBitAt bit spelling place = place ≤ length spelling.levels.items → spelling.rtr ≤ 32 → SaysBit bit (reverse (take place spelling.levels.items)) spelling.rtr
+IsBitAt bit spelling place = place ≤ length spelling.levels.items → spelling.rtr ≤ 32 →
+    SaysBit bit (reverse (take place spelling.levels.items)) spelling.rtr

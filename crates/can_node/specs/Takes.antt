@@ -33,10 +33,12 @@ acknowledged true = []
 -- What a receiver drives while it samples these levels of a frame, of which the levels `given` were sampled
 -- before, and what it counts: it drives recessive, and dominant in the ACK slot where the CRC is right.
 pub data Reads (given : List Bool) : List Bool → List Pair → List ErrorEvent → Type 0 where
-  no_slot : (levels : List Bool) → ((before more : List Bool) (slot : Bool) → levels ≡ before ++ slot ∷ more → IsBeforeSlot (given ++ before) → ⊥) →
+  no_slot : (levels : List Bool) → ((before more : List Bool) (slot : Bool) → levels ≡ before ++ slot ∷ more →
+      IsBeforeSlot (given ++ before) → ⊥) →
       Reads given levels (listening levels) []
   with_slot : (before more : List Bool) (slot : Bool) → IsBeforeSlot (given ++ before) →
-      Reads given (before ++ slot ∷ more) (listening before ++ dominating (slot ∷ []) ++ listening more) (acknowledged slot)
+      Reads given (before ++ slot ∷ more) (listening before ++ dominating (slot ∷ []) ++ listening more)
+      (acknowledged slot)
 
 -- The name of a receiver's error. A recessive sample in the ACK slot that the receiver itself drives
 -- dominant is a bit error.

@@ -11,4 +11,5 @@ pub data Broken : List Bool → Type 0 where
 -- so many runs of eleven recessive levels that do not overlap
 pub data Recoveries : ℕ → List Bool → Type 0 where
   no_run : Recoveries 0 []
-  one_more : {n : ℕ} {text broken : List Bool} → Recoveries n text → Broken broken → Recoveries (suc n) (text ++ broken ++ recessive 11)
+  one_more : {n : ℕ} {text broken : List Bool} → Recoveries n text → Broken broken →
+      Recoveries (suc n) (text ++ broken ++ recessive 11)

@@ -95,7 +95,7 @@ pub(crate) fn listens(state: State) -> bool
     }
 }
 
-fn is_receiver(role: Role) -> bool
+pub(crate) fn is_receiver(role: Role) -> bool
     ensures { result ≡ is_receiver role }
 {
     match role {

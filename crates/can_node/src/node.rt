@@ -186,20 +186,17 @@ impl Node {
     }
 
     /// Whether the node goes on with its next bit, if that has this level: nothing begins then, and nothing is told or
-    /// counted. So it is where it sends a frame and drives this level, but in the ACK slot and at the last bit; where it
-    /// reads one whose stuffed region goes on with this level; in a flag, and behind it up to the end of the intermission
-    /// and of suspend transmission, with the levels that belong there; and in bus off, but at the end of a run of eleven
-    /// recessive bits.
+    /// counted. So it is where it sends a frame, in the ACK slot with a dominant level and elsewhere with the one that
+    /// it drives, but not at the last bit; where it reads one whose stuffed region goes on with this level; in a flag,
+    /// and behind it up to the end of the intermission and of suspend transmission, with the levels that belong there;
+    /// and in bus off, but at the end of a run of eleven recessive bits.
     #[inline(always)]
     pub fn goes_on(&self, level: bool) -> bool
         ensures may { result ≡ true → MayGoOn level self.now }
         ensures all { (past : Past) → StandsAfter self.now past → MayGoOn level self.now → result ≡ true }
     {
         match self.state {
-            State::Sending(_, place) => match self.spelling.spelling().level_elsewhere(place) {
-                Some(own) => own == level,
-                None => false,
-            },
+            State::Sending(_, place) => self.spelling.spelling().goes_on(place, level),
             state if is_in_region(state) => self.reader.would_read_on(level),
             state => is_plain(state, level),
         }

@@ -3,14 +3,24 @@
 
 ghost use Rattle.std.specs.Prelude.{◌≡◌, ℕ, true, false};
 ghost use Rattle.can_confinement.specs.declared.counters.Counters.{Counters as CountersValue};
-ghost use Rattle.can_node.specs.PlainBits.{LeavesPlainly, is_plain};
+ghost use Rattle.can_node.specs.PlainBits.{LeavesPlainly, is_plain, overlooks};
 
-use crate::machine::turn_of;
+use crate::machine::{is_receiver, turn_of};
 use crate::state::State;
 use crate::turns::behind_passive_flag;
-use can_confinement::Counters;
+use can_confinement::{Counters, Role};
+
+/// Whether a dominant sample behind a flag counts nothing: it is not the first behind a receiver's, nor the last of so
+/// many that are counted together.
+#[inline(always)]
+fn overlooks(role: Role, until: u8, first: bool) -> bool
+    ensures { result ≡ overlooks role until first }
+{
+    until >= 2 && !(first && is_receiver(role))
+}
 
 /// Whether nothing begins, is told or counted with this level in this state, in which no frame is read or sent.
+#[inline(always)]
 pub(crate) fn is_plain(state: State, level: bool) -> bool
     ensures { result ≡ is_plain level state }
 {
@@ -18,7 +28,7 @@ pub(crate) fn is_plain(state: State, level: bool) -> bool
         State::Recovering(_, ones) => ones <= 9,
         State::PassiveFlagging(_, owes, _, _) => level || !owes,
         State::Flagging(_, _, _, _) => !level,
-        State::Waiting(_, _, _, _) => level,
+        State::Waiting(_, role, until, first) => level || overlooks(role, until, first),
         State::Delimiting(_, _) => level,
         State::Resting(_, _) => level,
         State::Suspending(_) => level,

@@ -1,8 +1,9 @@
 //! A frame as its sender drives it.
 
-ghost use Rattle.std.specs.Prelude.{◌≡◌, ◌⊎◌, ◌≤◌, ◌<◌, ◌+◌, ◌∷◌, List, Bool, true, false, IfNone, IfSome, length, reverse, min, take};
+ghost use Rattle.std.specs.Prelude.{◌≡◌, ◌⊎◌, ◌≤◌, ◌<◌, ◌+◌, ◌∷◌, List, Bool, true};
+ghost use Rattle.std.specs.Prelude.{false, IfNone, IfSome, length, reverse, min, take};
 ghost use Rattle.can_node.specs.Sends.{rtr_place};
-ghost use Rattle.can_node.specs.Sending.{IsSpelling, IsBitAt, level_at, Tallies, SaysBit};
+ghost use Rattle.can_node.specs.Sending.{IsSpelling, IsBitAt, SendsOn, level_at, Tallies, SaysBit};
 
 use arrayvec::ArrayVec;
 use can_frame::{Frame, Id, LevelRun, wire};
@@ -106,6 +107,18 @@ impl Spelling {
             return None;
         }
         Some(self.level(place))
+    }
+
+    /// Whether the sender goes on where the bit in this place has this level: in the ACK slot with a dominant one,
+    /// elsewhere with the one that it drives, and with none in the last bit of EOF.
+    pub(crate) fn goes_on(&self, place: u8, level: bool) -> bool
+        ensures yes { result ≡ true → SendsOn level self.now place }
+        ensures no { result ≡ false → SendsOn level self.now place → ⊥ }
+    {
+        match self.level_elsewhere(place) {
+            Some(own) => own == level,
+            None => !level && self.is_slot(place),
+        }
     }
 
     /// What the bit in this place is.

@@ -4,7 +4,7 @@ ghost use Rattle.std.specs.Prelude.{◌≡◌, ◌<◌, ◌≤◌, ℕ, List, Bo
 ghost use Rattle.can_node.specs.Phases.{suspends, flag_of};
 ghost use Rattle.can_node.specs.Flags.{behind_flag};
 ghost use Rattle.can_node.specs.Machine.{Agrees, Goes, is_taking, listed, quiet};
-ghost use Rattle.can_node.specs.PlainBits.{IsPlain};
+ghost use Rattle.can_node.specs.PlainBits.{IsPlain, turns_plainly};
 ghost use Rattle.can_node.specs.Episodes.{error_of};
 
 use crate::flag::FlagKind;
@@ -197,7 +197,7 @@ fn behind(kind: FlagKind, role: Role) -> Option<ErrorEvent>
 pub(crate) fn after_waiting(kind: FlagKind, role: Role, until: u8, first: bool, level: bool) -> Turn
     ensures goes { (now : ℕ) (errors : ErrorState)
         → Goes (State.Waiting kind role until first) now errors level result }
-    ensures plain { level ≡ true → IsPlain result }
+    ensures plain { turns_plainly level (State.Waiting kind role until first) ≡ true → IsPlain result }
 {
     if level {
         return plain(State::Delimiting(role, 1));

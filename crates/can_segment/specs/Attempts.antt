@@ -1,5 +1,6 @@
 -- What the lines of a record tell of a node's attempts.
-use Rattle.std.specs.Prelude.{◌≡◌, ℕ, ◌<◌, ◌≤◌, Option, Some, None, true, List, length, slice_get, take, option_and_then}
+use Rattle.std.specs.Prelude.{◌≡◌, ℕ, ◌<◌, ◌≤◌, Option, Some, None, true}
+use Rattle.std.specs.Prelude.{List, length, slice_get, take, option_and_then}
 use Rattle.can_frame.specs.Frames.{FrameValue}
 use Rattle.can_confinement.specs.declared.confinement.ErrorState.{ErrorState}
 use Rattle.can_node.specs.declared.outcome.Outcome.{Outcome}

@@ -1,6 +1,7 @@
 -- What the lines of a record tell of a node is what its port was brought: the bus side its starts, its
 -- completions and what was reaped, the sink the frames that were taken.
-use Rattle.std.specs.Prelude.{◌≡◌, ℕ, ◌≤◌, ◌==◌, Bool, Option, List, [], ◌∷◌, ◌++◌, length, option_to_list, if◌then◌else◌}
+use Rattle.std.specs.Prelude.{◌≡◌, ℕ, ◌≤◌, ◌==◌, Bool, Option, List, []}
+use Rattle.std.specs.Prelude.{◌∷◌, ◌++◌, length, option_to_list, if◌then◌else◌}
 use Rattle.can_frame.specs.Frames.{FrameValue}
 use Rattle.bx_core.specs.Lists.{Each}
 use Rattle.bx_core.specs.TxBus.{Item, BusPast, BusCall, IsUndone}
@@ -62,16 +63,21 @@ all_in names (one ∷ more) = names one ++ all_in names more
 
 -- the past of a bus side which was brought this
 abbrev pub grown : BusPast → List Told → BusPast
-grown past tells = record { started = past.started ++ all_in start_in tells; done = past.done ++ all_in sent_in tells; reaped = past.reaped ++ all_in reaped_in tells }
+grown past tells = record {
+  started = past.started ++ all_in start_in tells;
+  done = past.done ++ all_in sent_in tells;
+  reaped = past.reaped ++ all_in reaped_in tells;
+}
 
 -- what starts at one of these lines is not over: it was neither sent nor reaped, in the past or by an earlier line
 abbrev pub StartsUndone : BusPast → List Told → Type 0
 StartsUndone past [] = Unit {0}
 StartsUndone past (one ∷ more) = Each (IsUndone past) (start_in one) × StartsUndone (grown past (one ∷ [])) more
 
--- A port was brought what is told of its node, which sends this then; what starts is not over. Its bus side was asked for a
--- request just where the node wanted to start, and what starts is what it gave.
-pub record IsBrought {P : Type 0} (after : P → BusPast → Type 0) (asked : P → List BusCall → Type 0) (transmitting : P → Option Item) (sink : P → List FrameValue → Type 0) (stays : P → P → Type 0)
+-- A port was brought what is told of its node, which sends this then; what starts is not over. Its bus side was asked
+-- for a request just where the node wanted to start, and what starts is what it gave.
+pub record IsBrought {P : Type 0} (after : P → BusPast → Type 0) (asked : P → List BusCall → Type 0)
+    (transmitting : P → Option Item) (sink : P → List FrameValue → Type 0) (stays : P → P → Type 0)
     (tells : List Told) (wants : Bool) (sends : Option Item) (from to : P) : Type 0 where
   pub bus : (past : BusPast) → after from past → after to (grown past tells)
   pub undone : (past : BusPast) → after from past → StartsUndone past tells

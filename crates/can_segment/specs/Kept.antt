@@ -23,12 +23,15 @@ pub record StandsBehind (on k : ℕ) (trace : List Bit) (member : Member) : Type
 pub record SegmentStands (plan : SegmentPlan) (trace : List Bit) (talkers controllers : List Member) : Type 0 where
   pub talkers_size : length talkers ≡ length plan.talkers.items
   pub controllers_size : length controllers ≡ length plan.controllers.items
-  pub talkers_stand : (k : ℕ) (talker : Talker) (member : Member) → slice_get plan.talkers.items k ≡ Some talker → slice_get talkers k ≡ Some member → StandsBehind talker.on k trace member
-  pub controllers_stand : (k : ℕ) (controller : Controller) (member : Member) → slice_get plan.controllers.items k ≡ Some controller → slice_get controllers k ≡ Some member →
+  pub talkers_stand : (k : ℕ) (talker : Talker) (member : Member) → slice_get plan.talkers.items k ≡ Some talker →
+      slice_get talkers k ≡ Some member → StandsBehind talker.on k trace member
+  pub controllers_stand : (k : ℕ) (controller : Controller) (member : Member) →
+      slice_get plan.controllers.items k ≡ Some controller → slice_get controllers k ≡ Some member →
       StandsBehind controller.on (length plan.talkers.items + k) trace member
 
 -- all nodes stand behind the bits of a run that was recorded so
-pub record SegmentKept (plan : SegmentPlan) (levels : List Bool) (events : List Event) (talkers controllers : List Member) : Type 0 where
+pub record SegmentKept (plan : SegmentPlan) (levels : List Bool) (events : List Event)
+    (talkers controllers : List Member) : Type 0 where
   pub trace : List Bit
   pub run : Run plan trace levels events
   pub stands : SegmentStands plan trace talkers controllers

@@ -24,11 +24,14 @@ pub data MakeQuietBits : SegmentValue → SegmentValue → Type 0 where
   no_bit : {segment : SegmentValue} → MakeQuietBits segment segment
   one_more : {old mid new : SegmentValue} → MakeQuietBits old mid → MakesQuietBit mid new → MakeQuietBits old new
 
--- A record grows by the level of a bit at which nothing is told of any node, and by nothing else. No fault stands at it.
-pub record GrowsQuietly (faults : FaultOrder) (old new : Record) (rest after : Rest) (t0 t1 c0 c1 : List Member) : Type 0 where
+-- A record grows by the level of a bit at which nothing is told of any node, and by nothing else. No fault stands at
+-- it.
+pub record GrowsQuietly (faults : FaultOrder) (old new : Record) (rest after : Rest)
+    (t0 t1 c0 c1 : List Member) : Type 0 where
   pub level : Bool
   pub sends : GoesQuietly (length old.levels.items) level rest after t0 t1 c0 c1
-  pub faultless : (plan : SegmentPlan) → StandsAt plan (length old.levels.items) faults → IsFaultless plan (length old.levels.items)
+  pub faultless : (plan : SegmentPlan) → StandsAt plan (length old.levels.items) faults →
+      IsFaultless plan (length old.levels.items)
   pub levels_is : new.levels.items ≡ old.levels.items ++ level ∷ []
   pub events_is : new.events ≡ old.events
   pub counters_is : new.counters ≡ old.counters

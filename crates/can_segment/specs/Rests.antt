@@ -1,5 +1,6 @@
 -- Nodes that are left alone while a listener follows the line for them. Private clauses cite it.
-use Rattle.std.specs.Prelude.{◌≡◌, ◌⊎◌, ℕ, ◌+◌, ◌≤◌, ◌&&◌, Bool, true, false, None, Some, List, map, slice_get, if◌then◌else◌}
+use Rattle.std.specs.Prelude.{◌≡◌, ◌⊎◌, ℕ, ◌+◌, ◌≤◌, ◌&&◌, Bool, true, false}
+use Rattle.std.specs.Prelude.{None, Some, List, map, slice_get, if◌then◌else◌}
 use Rattle.std.specs.List.{list_all}
 use Rattle.can_confinement.specs.KnownCounts.{Knows}
 use Rattle.can_node.specs.Listener.{Follows, IsListening, caught_up as node_caught_up}
@@ -11,7 +12,8 @@ use Rattle.can_station.specs.declared.plan.Talker.{Talker}
 use Rattle.can_segment.specs.declared.rest.Rest.{Rest}
 use Rattle.can_station.specs.Deeds.{IsQuiet}
 use Rattle.can_station.specs.Members.{drives_at}
-use Rattle.can_station.specs.RestingNodes.{AllGo, AreAlike, AwakeWithin, LeavesResting, MayLieDown, MemberSends, NoneRests, passes, woken}
+use Rattle.can_station.specs.RestingNodes.{AllGo, AreAlike, AwakeWithin, LeavesResting}
+use Rattle.can_station.specs.RestingNodes.{MayLieDown, MemberSends, NoneRests, passes, woken}
 use Rattle.can_station.specs.Places.{MovesOne}
 
 -- nodes as they are before this bit
@@ -28,12 +30,14 @@ pub record IsResting (rest : Rest) (bit : ℕ) (member : Member) : Type 0 where
 
 -- so is each of these that rests
 abbrev pub AreResting : Rest → ℕ → List Member → Type 0
-AreResting rest bit members = (k : ℕ) (m : Member) → slice_get members k ≡ Some m → m.rests ≡ true → IsResting rest bit m
+AreResting rest bit members = (k : ℕ) (m : Member) → slice_get members k ≡ Some m → m.rests ≡ true →
+    IsResting rest bit m
 
 -- where it is known that those that rest are spent, no talker that rests has a frame left
 abbrev pub AreSpent : Rest → List Talker → List Member → Type 0
 AreSpent rest talkers members =
-    rest.spent ≡ true → (k : ℕ) (m : Member) (talker : Talker) → slice_get members k ≡ Some m → slice_get talkers k ≡ Some talker → m.rests ≡ true → slice_get talker.frames.items m.station.completed ≡ None
+    rest.spent ≡ true → (k : ℕ) (m : Member) (talker : Talker) → slice_get members k ≡ Some m →
+    slice_get talkers k ≡ Some talker → m.rests ≡ true → slice_get talker.frames.items m.station.completed ≡ None
 
 -- one talker is awake at most, and one controller
 pub record AreFew (rest : Rest) : Type 0 where
@@ -52,11 +56,13 @@ pub record RestHolds (rest : Rest) (bit : ℕ) (plan : List Talker) (talkers con
 
 -- no node that rests wants to start, or none has anything to
 abbrev pub StartsNone : Rest → Type 0
-StartsNone rest = (rest.spent ≡ true) ⊎ ((node : Node) (bit : ℕ) → may_begin (node_caught_up node rest.listener bit) ≡ false)
+StartsNone rest = (rest.spent ≡ true) ⊎ ((node : Node) (bit : ℕ) →
+    may_begin (node_caught_up node rest.listener bit) ≡ false)
 
 -- each node that rests drives this level
 abbrev pub Drives : Rest → Bool → Type 0
-Drives rest drive = IsListening rest.listener → (node : Node) (bit : ℕ) → drive ≡ driven_by (node_caught_up node rest.listener bit)
+Drives rest drive = IsListening rest.listener → (node : Node) (bit : ℕ) →
+    drive ≡ driven_by (node_caught_up node rest.listener bit)
 
 -- the listener follows for those that rest while they sample this level
 pub record RestsThrough (bit : ℕ) (level : Bool) (old new : Rest) : Type 0 where
@@ -69,8 +75,8 @@ pub record RestsThrough (bit : ℕ) (level : Bool) (old new : Rest) : Type 0 whe
   pub follows : Follows old.known old.listener bit level new.listener
   pub listens : IsListening old.listener → IsListening new.listener
 
--- The nodes that rest go through a bit at which they sample this level: the listener followed for them. Some may have woken
--- before it.
+-- The nodes that rest go through a bit at which they sample this level: the listener followed for them. Some may have
+-- woken before it.
 pub record GoesThrough (before after : Rest) (bit : ℕ) (level : Bool) (old new : List Member) : Type 0 where
   pub same : members_at before bit new ≡ members_at before bit old
   pub left : LeavesResting old new
@@ -114,22 +120,24 @@ pub record ComesToRest (bit : ℕ) (plan : List Talker) (old new : Rest) (t0 t1 
   pub controllers : AreAlike (members_at old bit c0) (members_at new bit c1)
   pub holds : RestHolds new bit plan t1 c1
 
--- A bit at which the talker at the first of these places sends on, or the controller at the second, or none, and the listener
--- follows for those that rest: the line has the level that the one drives, or else is recessive.
-pub record SendsAlone (bit : ℕ) (level : Bool) (talker controller : ℕ) (old new : Rest) (t0 t1 c0 c1 : List Member) : Type 0 where
+-- A bit at which the talker at the first of these places sends on, or the controller at the second, or none, and the
+-- listener follows for those that rest: the line has the level that the one drives, or else is recessive.
+pub record SendsAlone (bit : ℕ) (level : Bool) (talker controller : ℕ) (old new : Rest)
+    (t0 t1 c0 c1 : List Member) : Type 0 where
   pub starts_none : StartsNone old
   pub through : RestsThrough bit level old new
   pub drives : Drives old true
   pub talkers : MovesOne talker (MemberSends bit old.listener level new.listener) t0 t1
   pub controllers : MovesOne controller (MemberSends bit old.listener level new.listener) c0 c1
-  pub level_is : level ≡ (passes (drives_at bit) (slice_get t0 talker) && passes (drives_at bit) (slice_get c0 controller))
+  pub level_is : level ≡ (passes (drives_at bit) (slice_get t0 talker)
+      && passes (drives_at bit) (slice_get c0 controller))
 
 -- the AND of what these drive at a bit, of which those that rest drive this level
 abbrev pub driven_beside : ℕ → Bool → List Member → Bool
 driven_beside bit resting = list_all (λ member. if member.rests then resting else drives_at bit member)
 
--- A bit at which nothing is told of any node: the listener follows for those that rest, and those that are awake sample the
--- AND of what all drive.
+-- A bit at which nothing is told of any node: the listener follows for those that rest, and those that are awake sample
+-- the AND of what all drive.
 pub record GoesQuietly (bit : ℕ) (level : Bool) (old new : Rest) (t0 t1 c0 c1 : List Member) : Type 0 where
   pub starts_none : StartsNone old
   pub through : RestsThrough bit level old new

@@ -1,6 +1,7 @@
 -- A run of a segment: a trace in which every node goes by the rules of a node, and the line by the wired AND.
 -- Bosch CAN Specification 2.0, part B, 2 BASIC CONCEPTS, Bus values; ISO 11898-1.
-use Rattle.std.specs.Prelude.{◌≡◌, ℕ, ◌+◌, ◌<◌, ◌≤◌, Bool, true, Option, Some, None, List, [], ◌∷◌, ◌++◌, length, map, slice_get, option_map, IsSome, if◌then◌else◌}
+use Rattle.std.specs.Prelude.{◌≡◌, ℕ, ◌+◌, ◌<◌, ◌≤◌, Bool, true, Option, Some, None, List, []}
+use Rattle.std.specs.Prelude.{◌∷◌, ◌++◌, length, map, slice_get, option_map, IsSome, if◌then◌else◌}
 use Rattle.std.specs.List.{list_all}
 use Rattle.can_frame.specs.Frames.{FrameValue}
 use Rattle.can_node.specs.Histories.{Past, IsHistory}
@@ -56,11 +57,13 @@ drives None = true
 drives (Some act) = act.driven
 
 -- a node that is on from a bit on acts by these rules from there on, and does nothing before
-pub record ActsAt (plan : SegmentPlan) (on node : ℕ) (Rules : Act → Type 0) (trace : List Bit) (bit : Bit) : Type 0 where
+pub record ActsAt (plan : SegmentPlan) (on node : ℕ) (Rules : Act → Type 0) (trace : List Bit)
+    (bit : Bit) : Type 0 where
   pub before : length trace < on → slice_get bit.acts node ≡ Some None
   pub from_there_on : on ≤ length trace →
       (act : Act) × (slice_get bit.acts node ≡ Some (Some act))
-      × IsAct (past_of on node trace) (sampled_level plan.node_faults.items node (length trace) bit.level) act × Rules act
+      × IsAct (past_of on node trace) (sampled_level plan.node_faults.items node (length trace) bit.level) act
+      × Rules act
 
 -- one more bit of a run
 pub record IsBit (plan : SegmentPlan) (trace : List Bit) (bit : Bit) : Type 0 where
@@ -68,14 +71,17 @@ pub record IsBit (plan : SegmentPlan) (trace : List Bit) (bit : Bit) : Type 0 wh
   pub each : length bit.acts ≡ length plan.talkers.items + length plan.controllers.items
   pub level_is : bit.level ≡ line_level plan.line_faults.items (length trace) (list_all drives bit.acts)
   pub talkers : (k : ℕ) (talker : Talker) → slice_get plan.talkers.items k ≡ Some talker →
-      ActsAt plan talker.on k (λ act. IsTalking talker.frames.items (completed_of k trace) (past_of talker.on k trace) act) trace bit
+      ActsAt plan talker.on k (λ act. IsTalking talker.frames.items (completed_of k trace) (past_of talker.on k trace)
+      act) trace bit
   pub controllers : (k : ℕ) (controller : Controller) → slice_get plan.controllers.items k ≡ Some controller →
-      ActsAt plan controller.on (length plan.talkers.items + k) (λ act. IsControlling (sending_of (length plan.talkers.items + k) trace) act) trace bit
+      ActsAt plan controller.on (length plan.talkers.items + k)
+      (λ act. IsControlling (sending_of (length plan.talkers.items + k) trace) act) trace bit
 
 -- a run so far: its bits, the levels of the line, and what is told
 pub data Run (plan : SegmentPlan) : List Bit → List Bool → List Event → Type 0 where
   no_bit : Run plan [] [] []
-  one_more : {trace : List Bit} {levels : List Bool} {events : List Event} (bit : Bit) → Run plan trace levels events → IsBit plan trace bit →
+  one_more : {trace : List Bit} {levels : List Bool} {events : List Event} (bit : Bit) →
+      Run plan trace levels events → IsBit plan trace bit →
       Run plan (trace ++ bit ∷ []) (levels ++ bit.level ∷ []) (events ++ events_at trace bit)
 
 -- the first bit of each node, in their order
@@ -84,7 +90,8 @@ firsts plan = map (λ talker. talker.on) plan.talkers.items ++ map (λ controlle
 
 -- the counters of each node show what its events make of them
 abbrev pub Shows : SegmentPlan → List Bit → List Counters → Type 0
-Shows plan trace counters = (k on : ℕ) (shown : Counters) → slice_get (firsts plan) k ≡ Some on → slice_get counters k ≡ Some shown → CountersStandAfter shown (past_of on k trace).events
+Shows plan trace counters = (k on : ℕ) (shown : Counters) → slice_get (firsts plan) k ≡ Some on →
+    slice_get counters k ≡ Some shown → CountersStandAfter shown (past_of on k trace).events
 
 -- A record is that of a run of the plan: there is a trace that it tells.
 pub record IsRun (plan : SegmentPlan) (record_of : Record) : Type 0 where

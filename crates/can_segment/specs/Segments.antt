@@ -1,5 +1,6 @@
 -- A segment, as contracts see it.
-use Rattle.std.specs.Prelude.{◌≡◌, ℕ, ◌+◌, ◌<◌, ◌≤◌, Bool, true, false, Option, Some, None, List, [], ◌∷◌, ◌++◌, length, map, slice_get}
+use Rattle.std.specs.Prelude.{◌≡◌, ℕ, ◌+◌, ◌<◌, ◌≤◌, Bool, true, false, Option}
+use Rattle.std.specs.Prelude.{Some, None, List, [], ◌∷◌, ◌++◌, length, map, slice_get}
 use Rattle.std.specs.List.{slice_index_or}
 use Rattle.can_frame.specs.Frames.{FrameValue}
 use Rattle.bx_core.specs.TxBus.{Item, BusPast, BusCall}
@@ -18,7 +19,8 @@ use Rattle.can_station.specs.Ports.{item_of}
 use Rattle.can_segment.specs.Runs.{Run, Shows, firsts}
 use Rattle.can_segment.specs.Traces.{Bit, past_of}
 
--- its plan, what it recorded so far, what each controller has on the bus, and whether it is on and wants to start at the next bit
+-- its plan, what it recorded so far, what each controller has on the bus, and whether it is on and wants to start at
+-- the next bit
 pub record SegmentValue : Type 0 where
   pub plan : SegmentPlan
   pub levels : List Bool
@@ -43,7 +45,8 @@ pub record IsSoFar (segment : SegmentValue) : Type 0 where
   pub size : length segment.counters ≡ length (firsts segment.plan)
   pub shows : Shows segment.plan trace segment.counters
   pub wanting : (k : ℕ) (controller : Controller) → slice_get segment.plan.controllers.items k ≡ Some controller →
-      WantsBy controller.on (length trace) (past_of controller.on (length segment.plan.talkers.items + k) trace) (wants_next segment k)
+      WantsBy controller.on (length trace) (past_of controller.on (length segment.plan.talkers.items + k) trace)
+      (wants_next segment k)
 
 -- a record of this plan shows what the segment recorded
 pub record IsRecordOf (segment : SegmentValue) (record_of : Record) : Type 0 where
@@ -54,10 +57,12 @@ pub record IsRecordOf (segment : SegmentValue) (record_of : Record) : Type 0 whe
 -- there is a port for each controller, and it transmits what the segment has sending there
 pub record Fit {P : Type 0} (transmitting : P → Option Item) (segment : SegmentValue) (ports : List P) : Type 0 where
   pub size : length ports ≡ length segment.sending
-  pub transmits : (k : ℕ) (sends : Option Item) (p : P) → slice_get segment.sending k ≡ Some sends → slice_get ports k ≡ Some p → transmitting p ≡ sends
+  pub transmits : (k : ℕ) (sends : Option Item) (p : P) → slice_get segment.sending k ≡ Some sends →
+      slice_get ports k ≡ Some p → transmitting p ≡ sends
 
 -- it makes one more bit: each port was brought what the new lines tell of its node
-pub record MakesBit {P : Type 0} (after : P → BusPast → Type 0) (asked : P → List BusCall → Type 0) (transmitting : P → Option Item) (sink : P → List FrameValue → Type 0) (stays : P → P → Type 0)
+pub record MakesBit {P : Type 0} (after : P → BusPast → Type 0) (asked : P → List BusCall → Type 0)
+    (transmitting : P → Option Item) (sink : P → List FrameValue → Type 0) (stays : P → P → Type 0)
     (old new : SegmentValue) (from to : List P) : Type 0 where
   pub level : Bool
   pub lines : List Event
@@ -65,8 +70,10 @@ pub record MakesBit {P : Type 0} (after : P → BusPast → Type 0) (asked : P �
   pub levels_is : new.levels ≡ old.levels ++ level ∷ []
   pub events_is : new.events ≡ old.events ++ lines
   pub size : length to ≡ length from
-  pub ports : (k : ℕ) (sends : Option Item) (p q : P) → slice_get new.sending k ≡ Some sends → slice_get from k ≡ Some p → slice_get to k ≡ Some q →
-      IsBrought after asked transmitting sink stays (told_of (length old.plan.talkers.items + k) lines) (wants_next old k) sends p q
+  pub ports : (k : ℕ) (sends : Option Item) (p q : P) → slice_get new.sending k ≡ Some sends →
+      slice_get from k ≡ Some p → slice_get to k ≡ Some q →
+      IsBrought after asked transmitting sink stays (told_of (length old.plan.talkers.items + k) lines)
+      (wants_next old k) sends p q
 
 -- a segment of this plan before its first bit
 pub record IsOpening (plan : SegmentPlan) (segment : SegmentValue) : Type 0 where
@@ -78,12 +85,14 @@ pub record IsOpening (plan : SegmentPlan) (segment : SegmentValue) : Type 0 wher
 
 -- from this place on, counters show those of these nodes
 abbrev pub AreFrom : ℕ → List Member → List Counters → Type 0
-AreFrom first members counters = (k : ℕ) (member : Member) (shown : Counters) → slice_get members k ≡ Some member → slice_get counters (first + k) ≡ Some shown → AreOf member shown
+AreFrom first members counters = (k : ℕ) (member : Member) (shown : Counters) → slice_get members k ≡ Some member →
+    slice_get counters (first + k) ≡ Some shown → AreOf member shown
 
 -- those of these nodes that rest
 abbrev pub AreFromResting : ℕ → List Member → List Counters → Type 0
 AreFromResting first members counters =
-    (k : ℕ) (member : Member) (shown : Counters) → member.rests ≡ true → slice_get members k ≡ Some member → slice_get counters (first + k) ≡ Some shown → AreOf member shown
+    (k : ℕ) (member : Member) (shown : Counters) → member.rests ≡ true → slice_get members k ≡ Some member →
+    slice_get counters (first + k) ≡ Some shown → AreOf member shown
 
 -- what stands in a segment between two bits
 pub record SegmentHolds (plan : SegmentPlan) (record_of : Record) (talkers controllers : List Member) : Type 0 where
@@ -102,12 +111,15 @@ abbrev pub wanting_of_all : ℕ → List Member → List Bool
 wanting_of_all bit = map (wants_at bit)
 
 -- the record grows by a bit, and each port was brought what its lines tell
-pub record Grows {P : Type 0} (after : P → BusPast → Type 0) (asked : P → List BusCall → Type 0) (transmitting : P → Option Item) (sink : P → List FrameValue → Type 0) (stays : P → P → Type 0)
+pub record Grows {P : Type 0} (after : P → BusPast → Type 0) (asked : P → List BusCall → Type 0)
+    (transmitting : P → Option Item) (sink : P → List FrameValue → Type 0) (stays : P → P → Type 0)
     (plan : SegmentPlan) (old new : Record) (before behind : List Member) (from to : List P) : Type 0 where
   pub level : Bool
   pub lines : List Event
   pub levels_is : new.levels.items ≡ old.levels.items ++ level ∷ []
   pub events_is : new.events.items ≡ old.events.items ++ lines
-  pub ports : (k : ℕ) (a m : Member) (p q : P) → slice_get before k ≡ Some a → slice_get behind k ≡ Some m → slice_get from k ≡ Some p → slice_get to k ≡ Some q →
-      IsBrought after asked transmitting sink stays (told_of (length plan.talkers.items + k) lines) (wants_at (length old.levels.items) a) (item_of m.station.sending) p q
+  pub ports : (k : ℕ) (a m : Member) (p q : P) → slice_get before k ≡ Some a → slice_get behind k ≡ Some m →
+      slice_get from k ≡ Some p → slice_get to k ≡ Some q →
+      IsBrought after asked transmitting sink stays (told_of (length plan.talkers.items + k) lines)
+      (wants_at (length old.levels.items) a) (item_of m.station.sending) p q
   pub size : length to ≡ length from

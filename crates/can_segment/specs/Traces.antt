@@ -33,7 +33,8 @@ with_start past (Some sent) = with_begin past sent.frame
 -- the past of a node behind an act; one that is not on has done nothing
 abbrev pub with_act : Past → Option Act → Past
 with_act past None = past
-with_act past (Some act) = with_bit (with_start past act.begun) (record { driven = act.driven; sampled = act.sampled }) act.event act.outcome
+with_act past (Some act) = with_bit (with_start past act.begun)
+    (record { driven = act.driven; sampled = act.sampled }) act.event act.outcome
 
 -- the act of a node at a bit
 abbrev pub act_of : ℕ → Bit → Option Act

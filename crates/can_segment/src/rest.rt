@@ -92,6 +92,11 @@ impl Rest {
         !self.listener.wants_start()
     }
 
+    /// Whether those that rest read within the stuffed region of a frame, or drive dominant, as in its ACK slot.
+    pub(crate) fn is_reading_or_driving(&self) -> bool {
+        self.listener.is_reading() || !self.listener.drive()
+    }
+
     /// Nodes at any place may be awake.
     fn look_everywhere(&mut self, talkers: &[Member], controllers: &[Member])
         ensures same { IsSame self.old self.new }
@@ -270,7 +275,8 @@ impl Rest {
 
     /// Whether none that is awake can have come as far as the listener at the last bit, as far as that is seen at once.
     fn stays_so(&self, talkers: &[Member], controllers: &[Member], bit: u64, told: bool) -> bool {
-        if self.steady && !told {
+        // where one has woken it is looked once more at which places they are awake
+        if self.steady && self.settled && !told {
             return true;
         }
         if !self.resting || !self.settled {

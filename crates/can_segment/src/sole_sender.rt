@@ -154,8 +154,10 @@ pub(crate) fn quiet_level(
         if let Some(level) = level_with(talkers, controllers, rest, talker, controller, bit) {
             return Some(level);
         }
-        // then the others don't read on, or it is its ACK slot or its last bit
-        if sends(talkers, talker) || sends(controllers, controller) {
+        // one that sends goes on with those that rest at the last bit of the CRC and in the ACK slot, and at no other
+        // bit
+        let one_sends = sends(talkers, talker) || sends(controllers, controller);
+        if one_sends && !rest.is_reading_or_driving() {
             return None;
         }
     }

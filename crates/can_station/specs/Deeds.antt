@@ -21,7 +21,8 @@ pub record IsQuiet (deed : Deed) : Type 0 where
 
 -- nothing is told of those of these nodes that are on at this bit
 abbrev pub AreQuiet : ℕ → List Member → Type 0
-AreQuiet bit members = (k : ℕ) (member : Member) → slice_get members k ≡ Some member → member.on ≤ bit → IsQuiet member.deed
+AreQuiet bit members = (k : ℕ) (member : Member) → slice_get members k ≡ Some member → member.on ≤ bit →
+    IsQuiet member.deed
 
 -- a deed names what its node sent, unless nothing is told of it
 abbrev pub Names : Deed → Option Transmission → Type 0

@@ -17,5 +17,6 @@ pub record IsFresh (on : ℕ) (member : Member) : Type 0 where
 
 -- a fresh node for each of these, with the bit at which it is switched on
 pub record AreFresh {X : Type 0} (on : X → ℕ) (xs : List X) (members : List Member) : Type 0 where
-  pub at : (k : ℕ) (x : X) (member : Member) → slice_get xs k ≡ Some x → slice_get members k ≡ Some member → IsFresh (on x) member
+  pub at : (k : ℕ) (x : X) (member : Member) → slice_get xs k ≡ Some x → slice_get members k ≡ Some member →
+      IsFresh (on x) member
   pub size : length members ≡ length xs

@@ -1,5 +1,6 @@
 -- What a node does at a bit of its segment.
-use Rattle.std.specs.Prelude.{◌≡◌, ℕ, ◌+◌, ◌<◌, ◌≤◌, Bool, true, false, nat_le, Option, Some, None, IfSome, List, [], ◌++◌, slice_get, ◌&&◌, if◌then◌else◌}
+use Rattle.std.specs.Prelude.{◌≡◌, ℕ, ◌+◌, ◌<◌, ◌≤◌, Bool, true, false, nat_le, Option}
+use Rattle.std.specs.Prelude.{Some, None, IfSome, List, [], ◌++◌, slice_get, ◌&&◌, if◌then◌else◌}
 use Rattle.can_frame.specs.Frames.{FrameValue}
 use Rattle.can_node.specs.Histories.{Past, IsHistory}
 use Rattle.can_confinement.specs.declared.counters.Counters.{Counters}
@@ -100,23 +101,28 @@ NodeSamples first bit level faults k old new = Samples bit (sampled_level faults
 
 -- what each talker does at the start of a bit
 abbrev pub TalkerStarts : ℕ → List Talker → ℕ → Member → Member → Type 0
-TalkerStarts bit talkers k old new = (talker : Talker) → slice_get talkers k ≡ Some talker → StartsTalking bit old new talker.frames.items
+TalkerStarts bit talkers k old new = (talker : Talker) → slice_get talkers k ≡ Some talker →
+    StartsTalking bit old new talker.frames.items
 
 -- each talker samples what its faults make of the level of the line
 abbrev pub TalkerSamples : ℕ → Bool → List NodeFault → ℕ → Member → Member → Type 0
 TalkerSamples bit level faults k old new = Samples bit (sampled_level faults k bit level) old new
 
 -- what each controller and its port do at the start of a bit
-pub record PortStarts {P : Type 0} (after : P → BusPast → Type 0) (asked : P → List BusCall → Type 0) (transmitting : P → Option Item) (stays : P → P → Type 0) (bit : ℕ) (old new : Member) (from to : P) : Type 0 where
+pub record PortStarts {P : Type 0} (after : P → BusPast → Type 0) (asked : P → List BusCall → Type 0)
+    (transmitting : P → Option Item) (stays : P → P → Type 0) (bit : ℕ) (old new : Member) (from to : P) : Type 0 where
   pub member : StartsRequest bit old new
-  pub bus : (past : BusPast) → after from past → after to (started past (started_item (is_on bit new && new.deed.began) new.station.sending))
-  pub undone : (past : BusPast) → after from past → Undone past (started_item (is_on bit new && new.deed.began) new.station.sending)
+  pub bus : (past : BusPast) → after from past →
+      after to (started past (started_item (is_on bit new && new.deed.began) new.station.sending))
+  pub undone : (past : BusPast) → after from past →
+      Undone past (started_item (is_on bit new && new.deed.began) new.station.sending)
   pub asks : Asks asked (wants_at bit old) (started_item (is_on bit new && new.deed.began) new.station.sending) from to
   pub transmits : transmitting to ≡ item_of new.station.sending
   pub stays_on : stays from to
 
 -- and behind it, when the node has sampled
-pub record PortSettled {P : Type 0} (after : P → BusPast → Type 0) (asked : P → List BusCall → Type 0) (transmitting : P → Option Item) (sink : P → List FrameValue → Type 0) (stays : P → P → Type 0)
+pub record PortSettled {P : Type 0} (after : P → BusPast → Type 0) (asked : P → List BusCall → Type 0)
+    (transmitting : P → Option Item) (sink : P → List FrameValue → Type 0) (stays : P → P → Type 0)
     (bit : ℕ) (old new : Member) (from to : P) : Type 0 where
   pub member : Settles bit old new
   pub bus : (past : BusPast) → after from past → after to (settled_at (is_on bit old) past new.deed)
@@ -126,7 +132,8 @@ pub record PortSettled {P : Type 0} (after : P → BusPast → Type 0) (asked : 
   pub stays_on : stays from to
 
 -- both in one
-pub record PortSettles {P : Type 0} (after : P → BusPast → Type 0) (asked : P → List BusCall → Type 0) (transmitting : P → Option Item) (sink : P → List FrameValue → Type 0) (stays : P → P → Type 0)
+pub record PortSettles {P : Type 0} (after : P → BusPast → Type 0) (asked : P → List BusCall → Type 0)
+    (transmitting : P → Option Item) (sink : P → List FrameValue → Type 0) (stays : P → P → Type 0)
     (bit : ℕ) (level : Bool) (old new : Member) (from to : P) : Type 0 where
   pub member : SamplesAndSettles bit level old new
   pub bus : (past : BusPast) → after from past → after to (settled_at (is_on bit old) past new.deed)

@@ -13,13 +13,17 @@ pub record AtPlacesBelow {M : Type 0} (Step : ℕ → M → M → Type 0) (old n
   pub size : length new ≡ length old
 
 -- each element made this step with the one at its place in the other list
-pub record AtBoth {M P : Type 0} (Step : ℕ → M → M → P → P → Type 0) (old new : List M) (from to : List P) : Type 0 where
-  pub at : (k : ℕ) (a b : M) (p q : P) → slice_get old k ≡ Some a → slice_get new k ≡ Some b → slice_get from k ≡ Some p → slice_get to k ≡ Some q → Step k a b p q
+pub record AtBoth {M P : Type 0} (Step : ℕ → M → M → P → P → Type 0) (old new : List M)
+    (from to : List P) : Type 0 where
+  pub at : (k : ℕ) (a b : M) (p q : P) → slice_get old k ≡ Some a → slice_get new k ≡ Some b →
+      slice_get from k ≡ Some p → slice_get to k ≡ Some q → Step k a b p q
   pub size : length new ≡ length old
   pub size_too : length to ≡ length from
 
-pub record AtBothBelow {M P : Type 0} (Step : ℕ → M → M → P → P → Type 0) (old new : List M) (from to : List P) (i : ℕ) : Type 0 where
-  pub below : (k : ℕ) (a b : M) (p q : P) → k < i → slice_get old k ≡ Some a → slice_get new k ≡ Some b → slice_get from k ≡ Some p → slice_get to k ≡ Some q → Step k a b p q
+pub record AtBothBelow {M P : Type 0} (Step : ℕ → M → M → P → P → Type 0) (old new : List M) (from to : List P)
+    (i : ℕ) : Type 0 where
+  pub below : (k : ℕ) (a b : M) (p q : P) → k < i → slice_get old k ≡ Some a → slice_get new k ≡ Some b →
+      slice_get from k ≡ Some p → slice_get to k ≡ Some q → Step k a b p q
   pub above : (k : ℕ) → i ≤ k → slice_get new k ≡ slice_get old k
   pub above_too : (k : ℕ) → i ≤ k → slice_get to k ≡ slice_get from k
   pub size : length new ≡ length old

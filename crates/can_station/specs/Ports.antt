@@ -1,9 +1,12 @@
 -- What the nodes of a segment bring to their ports.
-use Rattle.std.specs.Prelude.{◌≡◌, ℕ, Bool, true, Option, Some, None, IfSome, List, [], ◌∷◌, ◌++◌, false, option_map, if◌then◌else◌}
+use Rattle.std.specs.Prelude.{◌≡◌, ℕ, Bool, true, Option, Some, None, IfSome}
+use Rattle.std.specs.Prelude.{List, [], ◌∷◌, ◌++◌, false, option_map, if◌then◌else◌}
 use Rattle.can_frame.specs.Frames.{FrameValue}
 use Rattle.can_node.specs.declared.outcome.Outcome.{Outcome}
-use Rattle.can_node.specs.declared.outcome.Outcome.TheVariants.{Nothing, Took, Completed, Lost, Errored, WentOff, CameBack}
-use Rattle.bx_core.specs.TxBus.{Item, BusPast, BusCall, asked_ready, asked_start, IsUndone, after_start, after_complete, after_fail}
+use Rattle.can_node.specs.declared.outcome.Outcome.TheVariants.{Nothing, Took, Completed}
+use Rattle.can_node.specs.declared.outcome.Outcome.TheVariants.{Lost, Errored, WentOff, CameBack}
+use Rattle.bx_core.specs.TxBus.{Item, BusPast, BusCall, asked_ready, asked_start}
+use Rattle.bx_core.specs.TxBus.{IsUndone, after_start, after_complete, after_fail}
 use Rattle.can_station.specs.declared.event.Label.{Label}
 use Rattle.can_station.specs.declared.transmission.Transmission.{Transmission}
 use Rattle.can_station.specs.Outcomes.{is_failure}
@@ -30,8 +33,8 @@ abbrev pub started : BusPast → Option Item → BusPast
 started past None = past
 started past (Some item) = after_start past (Some item)
 
--- how a node asks its bus side at the start of a bit: not at all where it doesn't want to start, else whether a request is
--- ready, and where one is, for that
+-- how a node asks its bus side at the start of a bit: not at all where it doesn't want to start, else whether a request
+-- is ready, and where one is, for that
 abbrev pub asked_at : Bool → Bool → Option Item → List BusCall
 asked_at false ready given = []
 asked_at true false given = asked_ready false ∷ []
@@ -44,7 +47,8 @@ begun_at true false given = None
 begun_at true true given = given
 
 -- a bus side is asked just so at the start of a bit, and this begins, or nothing
-pub record Asks {P : Type 0} (asked : P → List BusCall → Type 0) (wants : Bool) (begins : Option Item) (from to : P) : Type 0 where
+pub record Asks {P : Type 0} (asked : P → List BusCall → Type 0) (wants : Bool) (begins : Option Item)
+    (from to : P) : Type 0 where
   pub ready : Bool
   pub given : Option Item
   pub begins_is : begins ≡ begun_at wants ready given

@@ -1,5 +1,6 @@
 -- Nodes of which some are left alone while a listener follows the line for them.
-use Rattle.std.specs.Prelude.{◌≡◌, ◌≢◌, ◌⊎◌, ℕ, ◌+◌, ◌≤◌, ◌<◌, Bool, true, false, Option, None, Some, List, length, slice_get, if◌then◌else◌}
+use Rattle.std.specs.Prelude.{◌≡◌, ◌≢◌, ◌⊎◌, ℕ, ◌+◌, ◌≤◌, ◌<◌, Bool, true, false}
+use Rattle.std.specs.Prelude.{Option, None, Some, List, length, slice_get, if◌then◌else◌}
 use Rattle.bx_core.specs.TxBus.{Item}
 use Rattle.can_node.specs.Histories.{Past, IsHistory}
 use Rattle.can_node.specs.Listener.{SendsTo, StandsWith, caught_up as node_caught_up}
@@ -50,7 +51,8 @@ pub record IfAwake (Step : Member → Member → Type 0) (old new : Member) : Ty
   pub steps : old.rests ≡ false → Step old new
 
 -- so with its port
-pub record IfAwakeBoth {P : Type 0} (Step : Member → Member → P → P → Type 0) (old new : Member) (from to : P) : Type 0 where
+pub record IfAwakeBoth {P : Type 0} (Step : Member → Member → P → P → Type 0) (old new : Member)
+    (from to : P) : Type 0 where
   pub rests_on : old.rests ≡ true → (new ≡ old) × (to ≡ from)
   pub stays_awake : old.rests ≡ false → new.rests ≡ false
   pub steps : old.rests ≡ false → Step old new from to
@@ -78,18 +80,22 @@ abbrev pub MayWake : Listener → ℕ → Member → Member → Type 0
 MayWake listener bit old new = (new ≡ old) ⊎ (new ≡ woken listener bit old)
 
 -- and where it rests on it is a talker with no frame left
-pub record WakesUnspent (listener : Listener) (bit : ℕ) (talkers : List Talker) (k : ℕ) (old new : Member) : Type 0 where
+pub record WakesUnspent (listener : Listener) (bit : ℕ) (talkers : List Talker) (k : ℕ)
+    (old new : Member) : Type 0 where
   pub wakes : MayWake listener bit old new
-  pub spent : new.rests ≡ true → (talker : Talker) → slice_get talkers k ≡ Some talker → slice_get talker.frames.items new.station.completed ≡ None
+  pub spent : new.rests ≡ true → (talker : Talker) → slice_get talkers k ≡ Some talker →
+      slice_get talker.frames.items new.station.completed ≡ None
 
 -- or a node without a fault of its own at this bit
-pub record WakesDisturbed (listener : Listener) (bit : ℕ) (faults : List NodeFault) (first k : ℕ) (old new : Member) : Type 0 where
+pub record WakesDisturbed (listener : Listener) (bit : ℕ) (faults : List NodeFault) (first k : ℕ)
+    (old new : Member) : Type 0 where
   pub wakes : MayWake listener bit old new
   pub undisturbed : new.rests ≡ true → is_inverted faults (first + k) bit ≡ false
 
 -- those that rest, the first of which has this number, have no fault of their own at this bit
 abbrev pub Undisturbed : List NodeFault → ℕ → ℕ → List Member → Type 0
-Undisturbed faults first bit members = (k : ℕ) (m : Member) → slice_get members k ≡ Some m → m.rests ≡ true → is_inverted faults (first + k) bit ≡ false
+Undisturbed faults first bit members = (k : ℕ) (m : Member) → slice_get members k ≡ Some m → m.rests ≡ true →
+    is_inverted faults (first + k) bit ≡ false
 
 -- those that rest rested before, and are as they were
 abbrev pub LeavesResting : List Member → List Member → Type 0
@@ -108,7 +114,8 @@ laid_down member = record { on = member.on; rests = true; station = member.stati
 
 -- nothing is told of it any more, or it is as it was
 abbrev pub MayFallSilent : Member → Member → Type 0
-MayFallSilent old new = (new ≡ old) ⊎ (new ≡ record { on = old.on; rests = old.rests; station = old.station; deed = no_deed })
+MayFallSilent old new = (new ≡ old) ⊎ (new
+    ≡ record { on = old.on; rests = old.rests; station = old.station; deed = no_deed })
 
 -- it may have come to rest
 abbrev pub MayLieDown : Listener → ℕ → Member → Member → Type 0
@@ -135,19 +142,23 @@ passes test (Some x) = test x
 
 -- each of these that is awake and on may sample one bit more
 abbrev pub HasRoom : ℕ → ℕ → List Member → Type 0
-HasRoom limit bit members = (k : ℕ) (m : Member) → slice_get members k ≡ Some m → m.rests ≡ false → m.on ≤ bit → (bit_of m.station.node < limit) × (m.station.completed < limit)
+HasRoom limit bit members = (k : ℕ) (m : Member) → slice_get members k ≡ Some m → m.rests ≡ false → m.on ≤ bit →
+    (bit_of m.station.node < limit) × (m.station.completed < limit)
 
 -- nothing is told of those of these that are awake and on at this bit
 abbrev pub AwakeAreQuiet : ℕ → List Member → Type 0
-AwakeAreQuiet bit members = (k : ℕ) (m : Member) → slice_get members k ≡ Some m → m.rests ≡ false → m.on ≤ bit → IsQuiet m.deed
+AwakeAreQuiet bit members = (k : ℕ) (m : Member) → slice_get members k ≡ Some m → m.rests ≡ false → m.on ≤ bit →
+    IsQuiet m.deed
 
 -- nor of the first of them
 abbrev pub AwakeQuietBelow : ℕ → List Member → ℕ → Type 0
-AwakeQuietBelow bit members i = (k : ℕ) (m : Member) → k < i → slice_get members k ≡ Some m → m.rests ≡ false → m.on ≤ bit → IsQuiet m.deed
+AwakeQuietBelow bit members i = (k : ℕ) (m : Member) → k < i → slice_get members k ≡ Some m → m.rests ≡ false →
+    m.on ≤ bit → IsQuiet m.deed
 
 -- each port transmits what its node sends
 abbrev pub TransmitsAll : {P : Type 0} → (P → Option Item) → List Member → List P → Type 0
-TransmitsAll {P = P} transmitting members ports = (k : ℕ) (m : Member) (p : P) → slice_get members k ≡ Some m → slice_get ports k ≡ Some p → transmitting p ≡ item_of m.station.sending
+TransmitsAll {P = P} transmitting members ports = (k : ℕ) (m : Member) (p : P) → slice_get members k ≡ Some m →
+    slice_get ports k ≡ Some p → transmitting p ≡ item_of m.station.sending
 
 -- one bit of a frame that it sends while all others that are there listen, and nothing is told of it
 pub record MemberSends (bit : ℕ) (before : Listener) (level : Bool) (after : Listener) (old new : Member) : Type 0 where
@@ -162,7 +173,8 @@ pub record MemberSends (bit : ℕ) (before : Listener) (level : Bool) (after : L
   pub completed_is : new.station.completed ≡ old.station.completed
 
 -- so does the one at this place, which is there
-pub record OneSends (place bit : ℕ) (before : Listener) (level : Bool) (after : Listener) (old new : List Member) : Type 0 where
+pub record OneSends (place bit : ℕ) (before : Listener) (level : Bool) (after : Listener)
+    (old new : List Member) : Type 0 where
   pub from : Member
   pub to : Member
   pub from_is : slice_get old place ≡ Some from

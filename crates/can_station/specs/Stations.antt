@@ -18,9 +18,11 @@ pub record IsStart (old new : Station) (frame : FrameValue) (label : Option Labe
 -- A talker takes its next message or not, whatever past its node stands after: it begins just where it wants to
 -- start and has a frame left.
 pub record IsTalk (old new : Station) (frames : List FrameValue) (began : Bool) : Type 0 where
-  pub begins : began ≡ true → (frame : FrameValue) × (slice_get frames old.completed ≡ Some frame) × IsStart old new frame None
+  pub begins : began ≡ true → (frame : FrameValue) × (slice_get frames old.completed ≡ Some frame)
+      × IsStart old new frame None
   pub stays : began ≡ false → new ≡ old
-  pub wants : (past : Past) → StandsAfter old.node past → (wanting : Bool) × IsWanting past wanting × (began ≡ (wanting && is_some (slice_get frames old.completed)))
+  pub wants : (past : Past) → StandsAfter old.node past → (wanting : Bool) × IsWanting past wanting
+      × (began ≡ (wanting && is_some (slice_get frames old.completed)))
 
 -- A controller takes its next request or not: it begins only where it wants to start.
 pub record IsRequest (old new : Station) (began : Bool) : Type 0 where

@@ -22,4 +22,5 @@ told_by tells bit node (member ∷ more) = lines bit node (tells member.deed) ++
 -- all lines of a bit: what starts, and then the rest, each for the talkers and then for the controllers
 abbrev pub bit_lines : ℕ → List Member → List Member → List Event
 bit_lines bit talkers controllers =
-    (told_by start_of bit 0 talkers ++ told_by start_of bit (length talkers) controllers) ++ (told_by rest_by bit 0 talkers ++ told_by rest_by bit (length talkers) controllers)
+    (told_by start_of bit 0 talkers ++ told_by start_of bit (length talkers) controllers)
+    ++ (told_by rest_by bit 0 talkers ++ told_by rest_by bit (length talkers) controllers)

@@ -59,8 +59,8 @@ fn is_taken(events: &[Event], bit: u64, start: u64, frame: Frame) -> bool {
     events.iter().any(|event| event.node == RECEIVER && event.bit == bit && event.told == took)
 }
 
-/// The sender, which is error active throughout, met an error: an attempt that began at the first of these bits ended at the
-/// other. A receiver that is not falsified behind it took nothing of the attempt any more.
+/// The sender, which is error active throughout, met an error: an attempt that began at the first of these bits ended
+/// at the other. A receiver that is not falsified behind it took nothing of the attempt any more.
 fn look_behind_an_error(rt: &impl Abort, events: &[Event], turned: Turned, first: u64, end: u64) {
     for event in events {
         if event.node == RECEIVER && event.bit > end {

@@ -6,6 +6,7 @@ use Rattle.can_segment.specs.Rests.{members_at}
 use Rattle.can_station.proofs.Places.{some_there}
 use Rattle.can_segment.proofs.Moves.{talker_clock, controller_clock, port_moves}
 use Rattle.can_segment.proofs.Rests.{awake_at, members_length}
+use Rattle.can_segment.proofs.Woken.{left_on}
 use Rattle.can_segment.proofs.all_nodes.move_nodes.Goals as goal
 
 pub sample_all-told-requires-clause-talker_room : goal.sample_all-told-requires-clause-talker_room
@@ -93,3 +94,9 @@ returns-clause-port g c k a m p q d e f h =
     let between = some_there c.start_all-driven.new.ports k (omega (arith, within, size, starts.size, settles.size, starts.size_too, c.requires.ports)) in
     port_moves g.P.TxBus.bus_after g.P.TxBus.bus_asked g.P.TxBus.transmitting g.P.RxSink.sink_after g.P.TxBus.bus_stays g.P.RxSink.port_stays c.args.bit _ a mid.0 m p between.0 q g.met.P.RxSink.port_of_bus g.met.P.RxSink.port_stays_on g.met.P.RxSink.sink_stays
     (starts.at k a mid.0 p between.0 d mid.1 f between.1) (settles.at k mid.0 m between.0 q mid.1 e between.1 h)
+
+pub returns-clause-left : goal.returns-clause-left
+returns-clause-left g c =
+    let started = c.start_all-driven.ensures.left in
+    let sampled = c.sample_all-told.ensures.left in
+    (left_on _ _ _ started.0 sampled.0, left_on _ _ _ started.1 sampled.1)

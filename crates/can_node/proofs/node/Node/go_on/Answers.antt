@@ -7,7 +7,7 @@ returns-in-Sending c =
     let node = c.args.self.now in
     let here = c.in-Sending in
     let on = in_sending node c.args.level here._start here.sent here.is c.requires.goes in
-    goes_sending node here._start here.sent c.saturating_add.result c.args.level here.is on.slot on.last on.echo c.saturating_add.ensures
+    goes_sending node here._start here.sent c.saturating_add.result c.args.level here.is on c.saturating_add.ensures
 
 pub returns-then-is_in_region : goal.returns-then-is_in_region
 returns-then-is_in_region c = goes_reading c.args.self.now c.args.level _ (sym c.is_in_region.ensures ∙ c.if-is_in_region.true) c.read_on.ensures
