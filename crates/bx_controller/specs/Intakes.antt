@@ -24,9 +24,11 @@ fifo_of (Some found) = Some found.0
 -- the second list are those of the first whose chosen filter has this FIFO
 pub data GoTo (banks : List BankValue) (fifo : ℕ) : List FrameValue → List FrameValue → Type 0 where
   nothing : GoTo banks fifo [] []
-  here : {taken offered : List FrameValue} (frame : FrameValue) (found : Option (ℕ × ℕ)) → IsFound banks frame found → fifo_of found ≡ Some fifo →
+  here : {taken offered : List FrameValue} (frame : FrameValue) (found : Option (ℕ × ℕ)) → IsFound banks frame found →
+      fifo_of found ≡ Some fifo →
       GoTo banks fifo taken offered → GoTo banks fifo (taken ++ frame ∷ []) (offered ++ frame ∷ [])
-  elsewhere : {taken offered : List FrameValue} (frame : FrameValue) (found : Option (ℕ × ℕ)) → IsFound banks frame found → fifo_of found ≢ Some fifo →
+  elsewhere : {taken offered : List FrameValue} (frame : FrameValue) (found : Option (ℕ × ℕ)) →
+      IsFound banks frame found → fifo_of found ≢ Some fifo →
       GoTo banks fifo taken offered → GoTo banks fifo (taken ++ frame ∷ []) offered
 
 -- how many calls on a FIFO stored nothing
@@ -39,8 +41,8 @@ discards_in (Some x ∷ calls) = discards_in calls
 abbrev pub StoresAtMost : Intake → Intake → RxFrame → Type 0
 StoresAtMost old new x = (new.rxin.stored ≡ old.rxin.stored ++ x ∷ []) ⊎ (new.rxin.stored ≡ old.rxin.stored)
 
--- it was offered these frames, each by a call of its own: what it stored is all of them but those it discarded, and it discards only
--- when full
+-- it was offered these frames, each by a call of its own: what it stored is all of them but those it discarded, and it
+-- discards only when full
 pub record IntakeStands (intake : Intake) (offered : List FrameValue) : Type 0 where
   pub accepted_is : intake.accepted ≡ length offered
   pub asked : length intake.rxin.calls ≡ length offered

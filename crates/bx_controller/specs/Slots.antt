@@ -36,5 +36,6 @@ SlotOffers None None x = Unit {0}
 SlotOffers None (Some new) x = ⊥
 SlotOffers (Some old) None x = ⊥
 SlotOffers (Some old) (Some new) x =
-    ((offered : List FrameValue) → length offered < 18446744073709551615 → IntakeStands old offered → IntakeStands new (offered ++ x.frame ∷ []))
+    ((offered : List FrameValue) → length offered < 18446744073709551615 → IntakeStands old offered →
+    IntakeStands new (offered ++ x.frame ∷ []))
     × StoresAtMost old new x

@@ -10,7 +10,8 @@ use Rattle.bx_core.specs.Lists.{Each}
 
 -- the gate passed just these points more, in this order
 abbrev pub Passes : {G : Type 0} → (G → List Point → Type 0) → List Point → G → G → Type 0
-Passes may_have_heard points old new = (told : List Point) → may_have_heard old told → may_have_heard new (told ++ points)
+Passes may_have_heard points old new = (told : List Point) → may_have_heard old told →
+    may_have_heard new (told ++ points)
 
 -- a point before a step, and not the end of a request
 abbrev pub IsStep : Point → Type 0
@@ -39,7 +40,8 @@ pub record HearsSteps {G : Type 0} (may_have_heard : G → List Point → Type 0
   pub passes : Passes may_have_heard steps old new
 
 -- a request that was answered so: it passes steps, and then its answer
-pub record HearsAnswer {G : Type 0} (may_have_heard : G → List Point → Type 0) (sent : Sent) (old new : G) : Type 0 where
+pub record HearsAnswer {G : Type 0} (may_have_heard : G → List Point → Type 0) (sent : Sent)
+    (old new : G) : Type 0 where
   pub steps : List Point
   pub are_steps : Each IsStep steps
   pub heard : Heard

@@ -1,12 +1,14 @@
 -- The core law: what holds of a core after every list of events.
-use Rattle.std.specs.Prelude.{◌≡◌, ◌<◌, ◌≤◌, length, ℕ, suc, ◌+◌, Option, Some, None, Result, Ok, Err, List, [], ◌∷◌, ◌++◌, Bool, true, false, if◌then◌else◌}
+use Rattle.std.specs.Prelude.{◌≡◌, ◌<◌, ◌≤◌, length, ℕ, suc, ◌+◌, Option, Some, None, Result}
+use Rattle.std.specs.Prelude.{Ok, Err, List, [], ◌∷◌, ◌++◌, Bool, true, false, if◌then◌else◌}
 use Rattle.bx_core.specs.declared.waiting.Waiting.{Waiting}
 use Rattle.bx_core.specs.declared.status.Status.TheVariants.{Pending}
 use Rattle.bx_core.specs.declared.event.Event.{Event}
 use Rattle.bx_core.specs.declared.event.Event.TheVariants.{Schedule}
 use Rattle.bx_core.specs.declared.refused.Refused.{Refused}
 use Rattle.bx_core.specs.Lists.{Each, Has, Rises, times}
-use Rattle.bx_core.specs.States.{State, RouteLists, opening_by, claim_of, lists_of, is_at, is_pending, entry_of, numbers, waits_of}
+use Rattle.bx_core.specs.States.{State, RouteLists, opening_by, claim_of}
+use Rattle.bx_core.specs.States.{lists_of, is_at, is_pending, entry_of, numbers, waits_of}
 use Rattle.bx_core.specs.Priority.{next}
 use Rattle.bx_core.specs.Steps.{after, InRange, InRoutes, greatest_number}
 
@@ -51,7 +53,8 @@ pub record IsRouteLawful (txfp : Bool) (l : RouteLists) (waits : List ℕ) : Typ
   -- and are at least 1 and at most 16,777,215
   pub in_range : Each (λ n. (1 ≤ n) × (n ≤ greatest_number)) (numbers l.requested)
   -- with `rises`: each requested number is in exactly one of done, aborted, reaped and waiting, and these hold no other
-  pub once : (n : ℕ) → times n (numbers l.requested) ≡ times n (numbers l.done) + times n l.aborted + times n l.reaped + times n waits
+  pub once : (n : ℕ) → times n (numbers l.requested) ≡ times n (numbers l.done) + times n l.aborted + times n l.reaped
+      + times n waits
   -- waiting rises
   pub waits_rise : Rises waits
   -- by order of requests, done and waiting rise, and each done number is below each waiting one

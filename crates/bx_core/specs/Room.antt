@@ -5,7 +5,12 @@ use Rattle.bx_core.specs.States.{RouteLists}
 
 -- the lists without their capacities
 abbrev pub lists_view : Lists → RouteLists
-lists_view l = record { requested = l.requested.items; done = l.done.items; aborted = l.aborted.items; reaped = l.reaped.items }
+lists_view l = record {
+  requested = l.requested.items;
+  done = l.done.items;
+  aborted = l.aborted.items;
+  reaped = l.reaped.items;
+}
 
 -- each list that a request can end in has room for this many more
 pub record HasRoom (l : Lists) (more : ℕ) : Type 0 where

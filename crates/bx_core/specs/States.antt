@@ -1,5 +1,6 @@
 -- What the mailbox core of one controller keeps (RM0008, bxCAN, "Transmission handling").
-use Rattle.std.specs.Prelude.{◌≡◌, ℕ, suc, ◌<◌, ◌==◌, ◌&&◌, Option, Some, None, List, [], ◌∷◌, map, replicate, Bool, true, false, if◌then◌else◌}
+use Rattle.std.specs.Prelude.{◌≡◌, ℕ, suc, ◌<◌, ◌==◌, ◌&&◌, Option, Some, None, List}
+use Rattle.std.specs.Prelude.{[], ◌∷◌, map, replicate, Bool, true, false, if◌then◌else◌}
 use Rattle.std.specs.List.{slice_index_or, find}
 use Rattle.bx_core.specs.declared.entry.Entry.{Entry}
 use Rattle.bx_core.specs.declared.waiting.Waiting.{Waiting}
@@ -33,7 +34,12 @@ no_lists = record { requested = []; done = []; aborted = []; reaped = [] }
 
 -- three empty mailboxes with this priority, and this many routes that requested nothing yet
 abbrev pub opening_by : Bool → ℕ → State
-opening_by txfp routes = record { txfp = txfp; claims = replicate 3 None; queue = []; routes = replicate routes no_lists }
+opening_by txfp routes = record {
+  txfp = txfp;
+  claims = replicate 3 None;
+  queue = [];
+  routes = replicate routes no_lists;
+}
 
 -- the same, with the order of requests as the priority
 abbrev pub opening : ℕ → State
@@ -107,7 +113,8 @@ NoneIsEmpty s = (k : ℕ) → k < 3 → IsEmpty s k → ⊥
 -- the request of a route's number, where it waits
 abbrev pub of_number : ℕ → ℕ → List Waiting → Option Waiting
 of_number route number [] = None
-of_number route number (w ∷ ws) = if (w.route == route) && (w.number == number) then Some w else of_number route number ws
+of_number route number (w ∷ ws) = if (w.route == route) && (w.number == number) then Some w
+    else of_number route number ws
 
 -- the request that is transmitting: by the core law there is at most one
 abbrev pub on_bus : State → Option Waiting

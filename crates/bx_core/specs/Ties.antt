@@ -25,9 +25,11 @@ as_left w = record { route = w.route; number = w.number; frame = w.frame }
 -- a route's own requests among those that are left, in their order
 abbrev pub left_of : ℕ → List Left → List Entry
 left_of route [] = []
-left_of route (x ∷ xs) = if x.route == route then record { number = x.number; frame = x.frame } ∷ left_of route xs else left_of route xs
+left_of route (x ∷ xs) = if x.route == route then record { number = x.number; frame = x.frame } ∷ left_of route xs
+    else left_of route xs
 
--- What the bus side did of a route's requests is tied to what the route did, where these requests of it wait at the end.
+-- What the bus side did of a route's requests is tied to what the route did, where these requests of it wait at the
+-- end.
 pub record RouteTied (txfp : Bool) (route : ℕ) (bus : BusPast) (past : RoutePast) (waiting : List Entry) : Type 0 where
   -- what became of the requests
   pub lists : RouteLists
@@ -46,8 +48,10 @@ pub record RouteTied (txfp : Bool) (route : ℕ) (bus : BusPast) (past : RoutePa
   pub starts : (e : Entry) → Has (entries_of route bus.started) e → Has past.requested e
 
 -- so it is for each route, whatever the sides did
-abbrev pub AllTied : {B S : Type 0} (bus_after : B → BusPast → Type 0) (route_after : S → RoutePast → Type 0) → Bool → B → List S → List Left → Type 0
-AllTied bus_after route_after txfp bus sides left = (route : ℕ) (s : _) (did : BusPast) (past : RoutePast) → slice_get sides route ≡ Some s →
+abbrev pub AllTied : {B S : Type 0} (bus_after : B → BusPast → Type 0) (route_after : S → RoutePast → Type 0) → Bool →
+    B → List S → List Left → Type 0
+AllTied bus_after route_after txfp bus sides left = (route : ℕ) (s : _) (did : BusPast) (past : RoutePast) →
+    slice_get sides route ≡ Some s →
     bus_after bus did → route_after s past → RouteTied txfp route did past (left_of route left)
 
 -- the bus side did nothing for a route of this number, and nothing of it is left
@@ -59,4 +63,5 @@ pub record NothingOf (route : ℕ) (bus : BusPast) (left : List Left) : Type 0 w
 
 -- so it is for each number that no route has
 abbrev pub NothingBeyond : {B : Type 0} (bus_after : B → BusPast → Type 0) → ℕ → B → List Left → Type 0
-NothingBeyond bus_after routes bus left = (did : BusPast) → bus_after bus did → (route : ℕ) → routes ≤ route → NothingOf route did left
+NothingBeyond bus_after routes bus left = (did : BusPast) → bus_after bus did → (route : ℕ) → routes ≤ route →
+    NothingOf route did left

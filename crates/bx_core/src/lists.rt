@@ -71,7 +71,8 @@ impl Lists {
 
     fn add_done(&mut self, entry: Entry)
         requires { HasRoom self.old 1 }
-        ensures lists { lists_view self.new ≡ record (lists_view self.old) { done = self.old.done.items ++ entry ∷ [] } }
+        ensures lists { lists_view self.new ≡ record (lists_view self.old)
+            { done = self.old.done.items ++ entry ∷ [] } }
         ensures keeps { (more : ℕ) → HasRoom self.old (more + 1) → HasRoom self.new more }
     {
         let _ = self.done.push(entry);
@@ -79,7 +80,8 @@ impl Lists {
 
     fn add_aborted(&mut self, number: u32)
         requires { HasRoom self.old 1 }
-        ensures lists { lists_view self.new ≡ record (lists_view self.old) { aborted = self.old.aborted.items ++ number ∷ [] } }
+        ensures lists { lists_view self.new ≡ record (lists_view self.old)
+            { aborted = self.old.aborted.items ++ number ∷ [] } }
         ensures keeps { (more : ℕ) → HasRoom self.old (more + 1) → HasRoom self.new more }
     {
         let _ = self.aborted.push(number);
@@ -87,7 +89,8 @@ impl Lists {
 
     fn add_reaped(&mut self, number: u32)
         requires { HasRoom self.old 1 }
-        ensures lists { lists_view self.new ≡ record (lists_view self.old) { reaped = self.old.reaped.items ++ number ∷ [] } }
+        ensures lists { lists_view self.new ≡ record (lists_view self.old)
+            { reaped = self.old.reaped.items ++ number ∷ [] } }
         ensures keeps { (more : ℕ) → HasRoom self.old (more + 1) → HasRoom self.new more }
     {
         let _ = self.reaped.push(number);

@@ -50,7 +50,8 @@ pub trait Mailboxes<R, B: TxBus<R>, S: RouteTx<R>> {
     fn close(rt: &R, alloc: Global, bus: B, sides: Vec<S>) -> Result<Vec<Left>, Memory>
         requires all { length sides.items ≡ routes_of bus }
         requires sides { AreSides side_of bus sides.items }
-        ensures tied { IfOk result (λ left. AllTied B.bus_after S.route_after (txfp_of bus) bus sides.items left.items) }
+        ensures tied { IfOk result (λ left. AllTied B.bus_after S.route_after (txfp_of bus) bus sides.items
+            left.items) }
         ensures beyond { IfOk result (λ left. NothingBeyond B.bus_after (routes_of bus) bus left.items) }
         ensures few { IfOk result (λ left. length left.items ≤ room) };
 

@@ -2,7 +2,8 @@
 ghost use Rattle.std.specs.Prelude.{◌≡◌, ◌<◌, length};
 ghost use Rattle.std.specs.List.{slice_index_or};
 ghost use Rattle.bx_core.specs.declared.waiting.Waiting.{Waiting};
-ghost use Rattle.bx_core.specs.Steps.{Steps, IsRequest, InRange, Leads, after, claimed, withdrawn, requested, with_waiting};
+ghost use Rattle.bx_core.specs.Steps.{Steps, IsRequest, InRange, Leads, after};
+ghost use Rattle.bx_core.specs.Steps.{claimed, withdrawn, requested, with_waiting};
 ghost use Rattle.bx_core.specs.Steps.{scheduled, started, completed, failed, aborted, reaped};
 
 use crate::end::End;

@@ -1,6 +1,7 @@
--- What each call of the bus side does to the requests in the mailboxes, the oldest first (RM0008, bxCAN, "Transmission handling").
--- By order of requests only the oldest is scheduled or transmitting.
-use Rattle.std.specs.Prelude.{◌≡◌, ◌<◌, ℕ, Bool, true, false, Option, Some, None, List, [], ◌∷◌, ◌++◌, slice_set, if◌then◌else◌}
+-- What each call of the bus side does to the requests in the mailboxes, the oldest first (RM0008, bxCAN, "Transmission
+-- handling"). By order of requests only the oldest is scheduled or transmitting.
+use Rattle.std.specs.Prelude.{◌≡◌, ◌<◌, ℕ, Bool, true, false, Option, Some}
+use Rattle.std.specs.Prelude.{None, List, [], ◌∷◌, ◌++◌, slice_set, if◌then◌else◌}
 use Rattle.std.specs.List.{remove}
 use Rattle.bx_core.specs.declared.waiting.Waiting.{Waiting}
 use Rattle.bx_core.specs.declared.status.Status.TheVariants.{Pending, Scheduled, Transmitting}
@@ -20,10 +21,11 @@ pub record IsLowestFree (boxes : List Waiting) (mailbox : ℕ) : Type 0 where
 abbrev pub NoneIsFree : List Waiting → Type 0
 NoneIsFree boxes = (k : ℕ) → k < 3 → at_mailbox k boxes ≡ None → ⊥
 
--- True: a request went into the lowest mailbox that held none, behind the others. False: nothing changed, and where a request is
--- asked for each mailbox holds one.
+-- True: a request went into the lowest mailbox that held none, behind the others. False: nothing changed, and where a
+-- request is asked for each mailbox holds one.
 abbrev pub IsSeated : List Waiting → ℕ → ℕ → Asks → Bool → List Waiting → Type 0
-IsSeated old route number (Transmit frame) true new = (mailbox : ℕ) × IsLowestFree old mailbox × (new ≡ old ++ new_waiting route mailbox number frame ∷ [])
+IsSeated old route number (Transmit frame) true new = (mailbox : ℕ) × IsLowestFree old mailbox
+    × (new ≡ old ++ new_waiting route mailbox number frame ∷ [])
 IsSeated old route number (Transmit frame) false new = (new ≡ old) × NoneIsFree old
 IsSeated old route number Abort true new = ⊥
 IsSeated old route number Abort false new = new ≡ old
@@ -68,12 +70,14 @@ reaping (w ∷ ws) = if w.abort_asked then Some (w.route, w.number) else None
 
 -- where a name ends in _found, it is told of the request that was found
 
--- a request that waits leaves its mailbox, and one that is transmitting is asked to end; of one that was asked before nothing changes
+-- a request that waits leaves its mailbox, and one that is transmitting is asked to end; of one that was asked before
+-- nothing changes
 abbrev pub aborted_found : List Waiting → Option Waiting → List Waiting
 aborted_found ws None = ws
 aborted_found ws (Some w) =
     if w.abort_asked then ws
-    else (if is_transmitting w.status then slice_set ws (place_of w.mailbox ws) (record w { abort_asked = true }) else remove ws (place_of w.mailbox ws))
+    else (if is_transmitting w.status then slice_set ws (place_of w.mailbox ws) (record w { abort_asked = true })
+    else remove ws (place_of w.mailbox ws))
 
 abbrev pub aborted_of : ℕ → ℕ → List Waiting → List Waiting
 aborted_of route number ws = aborted_found ws (of_number route number ws)

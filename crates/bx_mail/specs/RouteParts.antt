@@ -13,5 +13,6 @@ route_view s = record { queue = s.pass.table_id; route = s.route; sent = (view s
 
 -- it may post for its route, at a queue of eight places
 abbrev pub IsRoute : Inside → Type 0
-IsRoute s = IsPassOf (arc_value s.line) s.pass × (ruled_capacity (arc_value s.line) ≡ 8) × (view s.pass ≡ route_log s.route (view s.pass).sent)
+IsRoute s = IsPassOf (arc_value s.line) s.pass × (ruled_capacity (arc_value s.line) ≡ 8)
+    × (view s.pass ≡ route_log s.route (view s.pass).sent)
     × (s.last ≡ last_number (requests_in (view s.pass).sent))

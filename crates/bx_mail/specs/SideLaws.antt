@@ -19,7 +19,8 @@ pub route_keeps-on : (a b c : RouteSide) → RouteKeeps a b → RouteKeeps b c �
 route_keeps-on a b c p q = record { queue = q.queue ∙ p.queue; route = q.route ∙ p.route }
 
 -- the newest number requested is that of the newest request posted
-pub last-is : (s : RouteSide) (past : RoutePast) → RouteRuns s past → last_number (requests_in s.sent) ≡ last_number past.requested
+pub last-is : (s : RouteSide) (past : RoutePast) → RouteRuns s past →
+    last_number (requests_in s.sent) ≡ last_number past.requested
 last-is s past h = ap last_number (sym h.requested)
 
 pub side-stays : (a b : BusSide) (route : ℕ) (s : RouteSide) → BusKeeps a b → IsSideOf a route s → IsSideOf b route s

@@ -1,5 +1,6 @@
 -- What contracts see of the sides of a post, and what they may have done (RM0008, bxCAN, "Transmission handling").
-use Rattle.std.specs.Prelude.{◌≡◌, ℕ, ◌≤◌, Bool, true, false, Option, Some, None, IfSome, List, [], ◌∷◌, ◌++◌, length, option_to_list, slice_get, map}
+use Rattle.std.specs.Prelude.{◌≡◌, ℕ, ◌≤◌, Bool, true, false, Option, Some, None, IfSome}
+use Rattle.std.specs.Prelude.{List, [], ◌∷◌, ◌++◌, length, option_to_list, slice_get, map}
 use Rattle.atomic_table.specs.Seated.{TableId}
 use Rattle.crossbeam_queue.specs.Fifo.{Held}
 use Rattle.bx_core.specs.declared.waiting.Waiting.{Waiting}
@@ -21,7 +22,8 @@ use Rattle.bx_mail.specs.declared.posting.Posting.{Posting}
 use Rattle.bx_mail.specs.declared.posting.Asks.{Asks}
 use Rattle.bx_mail.specs.Postings.{of, requests_in, aborts_in, lefts_in, IsRequest, AreOrderly}
 
--- the bus side: its queue, for how many routes it is, the posts that it took, the requests in its mailboxes, the oldest first, and the one aside
+-- the bus side: its queue, for how many routes it is, the posts that it took, the requests in its mailboxes, the oldest
+-- first, and the one aside
 pub record BusSide : Type 0 where
   pub queue : TableId
   pub routes : ℕ
@@ -35,8 +37,9 @@ pub record RouteSide : Type 0 where
   pub route : ℕ
   pub sent : List Posting
 
--- The bus side may have done this. There is a mailbox core of which it is so: its requests wait in the mailboxes, what each route asked of
--- it is what was taken of that route's posts but for the one aside, and only what was asked to end was aborted or reaped.
+-- The bus side may have done this. There is a mailbox core of which it is so: its requests wait in the mailboxes, what
+-- each route asked of it is what was taken of that route's posts but for the one aside, and only what was asked to end
+-- was aborted or reaped.
 pub record Runs (v : BusSide) (past : BusPast) : Type 0 where
   pub core : State
   pub law : Law core
@@ -49,14 +52,16 @@ pub record Runs (v : BusSide) (past : BusPast) : Type 0 where
   pub stands : (route : ℕ) → RouteStands core route (asks route)
   pub asked : (route : ℕ) → Each (Has (aborts_in (of route v.got))) (asks route).asked
   pub aborted : (route : ℕ) → Each (Has (aborts_in (of route v.got))) (asks route).aborted
-  pub requested : (route : ℕ) → (asks route).requested ++ requests_in (of route (option_to_list v.aside)) ≡ requests_in (of route v.got)
+  pub requested : (route : ℕ) → (asks route).requested
+      ++ requests_in (of route (option_to_list v.aside)) ≡ requests_in (of route v.got)
   pub orderly : AreOrderly v.routes v.got
   pub aside : IfSome v.aside (λ (p : Posting). IsRequest p.what)
 
 abbrev pub IsRunning : BusSide → Type 0
 IsRunning v = (past : BusPast) × Runs v past
 
--- The side of a route may have done this: what it requested and what it asked to end is what it posted, and nothing was answered Ended.
+-- The side of a route may have done this: what it requested and what it asked to end is what it posted, and nothing was
+-- answered Ended.
 pub record RouteRuns (s : RouteSide) (past : RoutePast) : Type 0 where
   pub requested : past.requested ≡ requests_in s.sent
   pub aborted : past.aborted ≡ []
@@ -84,8 +89,8 @@ posted s number what = record s { sent = s.sent ++ record { route = s.route; num
 abbrev pub AreLastOf : RouteSide → List Posting → Type 0
 AreLastOf s items = (got : List Posting) × (s.sent ≡ of s.route (got ++ items))
 
--- True: the post is the last one of the route. False: nothing is posted, and at one moment of the call the queue held eight posts, as
--- far as this side can know.
+-- True: the post is the last one of the route. False: nothing is posted, and at one moment of the call the queue held
+-- eight posts, as far as this side can know.
 abbrev pub IsPosted : RouteSide → ℕ → Asks → Bool → RouteSide → Type 0
 IsPosted before number what true after = after ≡ posted before number what
 IsPosted before number what false after = (after ≡ before) × Held 8 (AreLastOf before)
@@ -116,7 +121,11 @@ pub record IsNewBus (routes : ℕ) (bus : BusSide) : Type 0 where
 
 -- the sides of routes in order, which posted nothing yet
 abbrev pub AreNewSides : TableId → List RouteSide → Type 0
-AreNewSides queue sides = (route : ℕ) (s : RouteSide) → slice_get sides route ≡ Some s → s ≡ record { queue = queue; route = route; sent = [] }
+AreNewSides queue sides = (route : ℕ) (s : RouteSide) → slice_get sides route ≡ Some s → s ≡ record {
+  queue = queue;
+  route = route;
+  sent = [];
+}
 
 -- Of these routes, in order, the posts that the bus side took and then these that were left are all that they posted.
 pub record AreAll (bus : BusSide) (sides : List RouteSide) (posts : List Posting) : Type 0 where

@@ -1,5 +1,6 @@
 //! The requests in the three mailboxes, the oldest first.
-ghost use Rattle.std.specs.Prelude.{◌≡◌, ◌<◌, ◌++◌, ◌∷◌, [], ℕ, None, length, slice_get, slice_set, IsTrue, ◌↔◌, IsSome, IfSome, IfNone, option_map};
+ghost use Rattle.std.specs.Prelude.{◌≡◌, ◌<◌, ◌++◌, ◌∷◌, [], ℕ, None, length, slice_get};
+ghost use Rattle.std.specs.Prelude.{slice_set, IsTrue, ◌↔◌, IsSome, IfSome, IfNone, option_map};
 ghost use Rattle.bx_core.specs.States.{at_mailbox, place_of, of_number, is_pending};
 ghost use Rattle.bx_core.specs.Steps.{may_start};
 ghost use Rattle.bx_mail.specs.Boxes.{IsLowestFree, NoneIsFree, on_bus_now, scheduled_first, may_start_first};

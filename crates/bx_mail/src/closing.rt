@@ -1,5 +1,6 @@
 //! The end of the mailboxes over a post: the sides are taken in, and the posts that are left are taken out.
-ghost use Rattle.std.specs.Prelude.{◌≡◌, ℕ, ◌≤◌, ◌<◌, ◌++◌, [], Some, List, ◌∷◌, IfOk, OnOk, length, map, slice_get, option_to_list};
+ghost use Rattle.std.specs.Prelude.{◌≡◌, ℕ, ◌≤◌, ◌<◌, ◌++◌, [], Some, List, ◌∷◌};
+ghost use Rattle.std.specs.Prelude.{IfOk, OnOk, length, map, slice_get, option_to_list};
 ghost use Rattle.crossbeam_queue.specs.Passes.{view, IsPassOf};
 ghost use Rattle.bx_core.specs.Ties.{AreSides, as_left};
 ghost use Rattle.bx_mail.specs.Postings.{left_by, lefts_in};
@@ -25,7 +26,8 @@ fn join(line: &Line, pass: &mut Pass<Posting, Log>, side: PostRoute)
     requires route { side.route ≡ length (view pass.old).known }
     ensures pass { IsPassOf line.now pass.new }
     ensures table { pass.new.table_id ≡ pass.old.table_id }
-    ensures view { view pass.new ≡ bus_log (view pass.old).got (view pass.old).made ((view pass.old).known ++ side.sent ∷ []) }
+    ensures view { view pass.new ≡ bus_log (view pass.old).got (view pass.old).made
+        ((view pass.old).known ++ side.sent ∷ []) }
 {
     let PostRoute {
         line: _,
@@ -40,9 +42,11 @@ fn join(line: &Line, pass: &mut Pass<Posting, Log>, side: PostRoute)
 fn join_all(line: &Line, pass: &mut Pass<Posting, Log>, sides: Vec<PostRoute>)
     requires pass { IsPassOf line.now pass.old }
     requires bus { view pass.old ≡ bus_log (view pass.old).got (view pass.old).made [] }
-    requires sides { (route : ℕ) (s : RouteSide) → slice_get sides.items route ≡ Some s → (s.queue ≡ pass.old.table_id) × (s.route ≡ route) }
+    requires sides { (route : ℕ) (s : RouteSide) → slice_get sides.items route ≡ Some s
+        → (s.queue ≡ pass.old.table_id) × (s.route ≡ route) }
     ensures pass { IsPassOf line.now pass.new }
-    ensures view { view pass.new ≡ bus_log (view pass.old).got (view pass.old).made (map (λ (s : RouteSide). s.sent) sides.items) }
+    ensures view { view pass.new ≡ bus_log (view pass.old).got (view pass.old).made
+        (map (λ (s : RouteSide). s.sent) sides.items) }
 {
     for side in sides {
         join(line, pass, side);
@@ -76,7 +80,8 @@ fn leave(
     aside: &Option<Posting>,
     posts: &[Posting],
 ) -> Result<Vec<Left>, AllocError>
-    ensures { IfOk result (λ left. left.items ≡ (map as_left boxes.now ++ lefts_in (option_to_list aside.now)) ++ lefts_in posts.now) }
+    ensures { IfOk result (λ left. left.items ≡ (map as_left boxes.now ++ lefts_in (option_to_list aside.now))
+        ++ lefts_in posts.now) }
 {
     let mut left = leave_boxes(alloc, boxes)?;
     if let Some(posting) = aside {
@@ -103,7 +108,8 @@ fn leave_boxes(alloc: Global, boxes: &[Waiting]) -> Result<Vec<Left>, AllocError
 }
 
 fn add_left(left: &mut Vec<Left>, posting: &Posting) -> Result<(), AllocError>
-    ensures { OnOk result (left.new.items ≡ left.old.items ++ left_by posting.now.route posting.now.number posting.now.what) }
+    ensures { OnOk result (left.new.items ≡ left.old.items ++ left_by posting.now.route posting.now.number
+        posting.now.what) }
 {
     if let Asks::Transmit(frame) = posting.what {
         left.push(Left {

@@ -145,7 +145,8 @@ impl<R: Wait> TxBus<R> for PostBus {
     /// `is_transmitting`.
     fn complete(&mut self, _rt: &R)
         requires { IsSome (on_bus_now self.old.boxes) }
-        ensures past { (past : BusPast) → Runs self.old past → Runs self.new (after_complete past (on_bus_now self.old.boxes)) }
+        ensures past { (past : BusPast) → Runs self.old past
+            → Runs self.new (after_complete past (on_bus_now self.old.boxes)) }
         ensures idle { on_bus_now self.new.boxes ≡ None }
         ensures stays { BusKeeps self.old self.new }
         ensures boxes { self.new.boxes ≡ left_first self.old.boxes }

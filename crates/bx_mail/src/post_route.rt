@@ -65,7 +65,8 @@ impl PostRoute {
         ensures unchanged { OnErr result (self.new ≡ self.old) }
         ensures unheard { OnErr result (gate.new ≡ gate.old) }
         ensures posted { IfOk result (λ sent. IsPosted self.old number (Transmit frame) (is_yes sent) self.new) }
-        ensures hears { IfOk result (λ sent. Passes G.may_have_heard (Post ∷ Answered (heard_as sent) ∷ []) gate.old gate.new) }
+        ensures hears { IfOk result (λ sent. Passes G.may_have_heard (Post ∷ Answered (heard_as sent) ∷ []) gate.old
+            gate.new) }
     {
         if number > 16_777_215 {
             return Err(NumberTooLarge);

@@ -1,6 +1,7 @@
 -- A filter bank and its filters. RM0008, bxCAN, "Filter bank scale and mode configuration" and "Filter
 -- match index".
-use Rattle.std.specs.Prelude.{◌≡◌, ℕ, ◌/◌, ◌%◌, ◌^◌, ◌<◌, ◌⊎◌, Bool, false, List, [], ◌∷◌, Option, None, Some, IsSomeAnd, slice_get}
+use Rattle.std.specs.Prelude.{◌≡◌, ℕ, ◌/◌, ◌%◌, ◌^◌, ◌<◌, ◌⊎◌, Bool, false, List}
+use Rattle.std.specs.Prelude.{[], ◌∷◌, Option, None, Some, IsSomeAnd, slice_get}
 use Rattle.std.specs.Int.{bit_at}
 use Rattle.can_frame.specs.Frames.{FrameValue}
 use Rattle.bx_rx.specs.Images.{image32, image16}
@@ -61,7 +62,8 @@ AdmitsAt fs image place = IsSomeAnd (slice_get fs place) (λ filter. Admits filt
 -- the lowest place of a filter that admits the image, or none
 abbrev pub IsFirstAmong : List Filter → ℕ → Option ℕ → Type 0
 IsFirstAmong fs image None = (place : ℕ) → ¬ (AdmitsAt fs image place)
-IsFirstAmong fs image (Some place) = AdmitsAt fs image place × ((lower : ℕ) → lower < place → ¬ (AdmitsAt fs image lower))
+IsFirstAmong fs image (Some place) = AdmitsAt fs image place
+    × ((lower : ℕ) → lower < place → ¬ (AdmitsAt fs image lower))
 
 -- the filter at this place of the bank matches the frame
 abbrev pub MatchesAt : BankValue → FrameValue → ℕ → Type 0
@@ -73,4 +75,5 @@ IsFirstMatch b f o = IsFirstAmong (filters_of b) (at_scale b.scale (image32 f) (
 
 -- "Filter priority rules": 32 bits come before 16, and at one scale a list before a mask
 abbrev pub Outranks : BankValue → BankValue → Type 0
-Outranks a b = ((a.scale ≡ Bits32) × (b.scale ≡ Bits16)) ⊎ ((a.scale ≡ b.scale) × (a.mode ≡ Identifiers) × (b.mode ≡ Mask))
+Outranks a b = ((a.scale ≡ Bits32) × (b.scale ≡ Bits16))
+    ⊎ ((a.scale ≡ b.scale) × (a.mode ≡ Identifiers) × (b.mode ≡ Mask))

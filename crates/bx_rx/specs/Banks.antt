@@ -1,6 +1,7 @@
 -- The filters of a controller, and which of them a frame is received by. RM0008, bxCAN, "Identifier
 -- filtering", "Filter match index" and "Filter priority rules".
-use Rattle.std.specs.Prelude.{◌≡◌, ℕ, ◌+◌, ◌<◌, ◌==◌, ◌⊎◌, true, List, length, take, sum_by, Option, None, Some, slice_get, if◌then◌else◌}
+use Rattle.std.specs.Prelude.{◌≡◌, ℕ, ◌+◌, ◌<◌, ◌==◌, ◌⊎◌, true, List, length, take}
+use Rattle.std.specs.Prelude.{sum_by, Option, None, Some, slice_get, if◌then◌else◌}
 use Rattle.can_frame.specs.Frames.{FrameValue}
 use Rattle.bx_rx.specs.Bank.{BankValue, filters_of, MatchesAt, Outranks}
 
@@ -24,7 +25,8 @@ pub record IsMatching (banks : List BankValue) (frame : FrameValue) (p : Placed)
 abbrev pub Precedes : Placed → Placed → Type 0
 Precedes p q =
     Outranks p.bank q.bank
-    ⊎ ((p.bank.scale ≡ q.bank.scale) × (p.bank.mode ≡ q.bank.mode) × ((p.number < q.number) ⊎ ((p.number ≡ q.number) × (p.place < q.place))))
+    ⊎ ((p.bank.scale ≡ q.bank.scale) × (p.bank.mode ≡ q.bank.mode)
+    × ((p.number < q.number) ⊎ ((p.number ≡ q.number) × (p.place < q.place))))
 
 -- it matches, and no filter that matches comes before it
 pub record IsChosen (banks : List BankValue) (frame : FrameValue) (p : Placed) : Type 0 where
@@ -49,8 +51,10 @@ filter_number banks p = count_of p.bank.fifo (take p.number banks) + p.place
 -- the FIFO and the number of the chosen filter, or nothing where no filter of an active bank matches
 abbrev pub IsFound : List BankValue → FrameValue → Option (ℕ × ℕ) → Type 0
 IsFound banks frame None = (p : Placed) → ¬ (IsMatching banks frame p)
-IsFound banks frame (Some answer) = (p : Placed) × IsChosen banks frame p × (answer ≡ (p.bank.fifo, filter_number banks p))
+IsFound banks frame (Some answer) = (p : Placed) × IsChosen banks frame p
+    × (answer ≡ (p.bank.fifo, filter_number banks p))
 
 -- at most one filter is the chosen one
 abbrev pub OneChosen : Type 0
-OneChosen = (banks : List BankValue) (frame : FrameValue) (p q : Placed) → IsChosen banks frame p → IsChosen banks frame q → p ≡ q
+OneChosen = (banks : List BankValue) (frame : FrameValue) (p q : Placed) → IsChosen banks frame p →
+    IsChosen banks frame q → p ≡ q

@@ -13,10 +13,12 @@ log offers releases stored released calls =
 
 -- the side with this number knows what it has to
 abbrev pub Knows : ℕ → ℕ → List RxFrame → List RxFrame → ℕ → Log → Type 0
-Knows offering releasing stored released side v = (v.offers ≡ true → (side ≡ offering) × (v.stored ≡ stored)) × (v.releases ≡ true → (side ≡ releasing) × (v.released ≡ released))
+Knows offering releasing stored released side v = (v.offers ≡ true → (side ≡ offering) × (v.stored ≡ stored))
+    × (v.releases ≡ true → (side ≡ releasing) × (v.released ≡ released))
 
 abbrev pub Relays : List RxFrame → List Log → Type 0
-Relays items views = (offering : ℕ) × (releasing : ℕ) × (stored : List RxFrame) × (released : List RxFrame) × (stored ≡ released ++ items) × (length items ≤ 3)
+Relays items views = (offering : ℕ) × (releasing : ℕ) × (stored : List RxFrame) × (released : List RxFrame)
+    × (stored ≡ released ++ items) × (length items ≤ 3)
     × ((side : ℕ) (v : Log) → get_elem? views side ≡ some v → Knows offering releasing stored released side v)
 
 -- what the offering side learns: the queue holds the last of what was stored
@@ -25,7 +27,8 @@ StoredFact v items = (released : List RxFrame) × (v.stored ≡ released ++ item
 
 -- what the releasing side learns: something was stored, which is what was released and then what the queue holds
 abbrev pub ReleasedFact : Log → List RxFrame → Type 0
-ReleasedFact v items = (stored : List RxFrame) × (stored ≡ v.released ++ items) × (length items ≤ 3) × (v.offers ≡ true → v.stored ≡ stored)
+ReleasedFact v items = (stored : List RxFrame) × (stored ≡ v.released ++ items) × (length items ≤ 3)
+    × (v.offers ≡ true → v.stored ≡ stored)
 
 -- what both learn together
 abbrev pub TotalFact : Log → List RxFrame → Type 0

@@ -23,8 +23,9 @@ none_put rxin = record rxin { calls = rxin.calls ++ None ∷ [] }
 abbrev pub AreLastOf : List RxFrame → List RxFrame → Type 0
 AreLastOf stored held = (released : List RxFrame) × (stored ≡ released ++ held)
 
--- One call more, with its answer. Stored: the frame is the last one stored. Overrun: nothing is stored, and at one moment of the
--- call the FIFO held three frames, the last of those stored, as far as this side can know: `Held 3` says that three were stored.
+-- One call more, with its answer. Stored: the frame is the last one stored. Overrun: nothing is stored, and at one
+-- moment of the call the FIFO held three frames, the last of those stored, as far as this side can know: `Held 3` says
+-- that three were stored.
 abbrev pub IsOffered : Inlet → RxFrame → Offered → Inlet → Type 0
 IsOffered before frame Stored after = after ≡ put_in before frame
 IsOffered before frame Overrun after = (after ≡ none_put before) × Held 3 (AreLastOf before.stored)

@@ -11,4 +11,5 @@ in_view s = record { queue = s.pass.table_id; stored = (view s.pass).stored; cal
 
 -- it may offer and not release, at a queue of three places
 abbrev pub IsIn : Inside → Type 0
-IsIn s = IsPassOf (arc_value s.line) s.pass × (ruled_capacity (arc_value s.line) ≡ 3) × (view s.pass ≡ log true false (view s.pass).stored [] (view s.pass).calls)
+IsIn s = IsPassOf (arc_value s.line) s.pass × (ruled_capacity (arc_value s.line) ≡ 3)
+    × (view s.pass ≡ log true false (view s.pass).stored [] (view s.pass).calls)

@@ -21,12 +21,13 @@ none_given out = record out { calls = out.calls ++ None ∷ [] }
 abbrev pub AreRestOf : List RxFrame → List RxFrame → Type 0
 AreRestOf released held = (stored : List RxFrame) × (stored ≡ released ++ held)
 
--- At one moment the FIFO held no frame behind those released. That is as much as this side can know: it holds of some list of
--- what was stored.
+-- At one moment the FIFO held no frame behind those released. That is as much as this side can know: it holds of some
+-- list of what was stored.
 abbrev pub WasEmpty : Outlet → Type 0
 WasEmpty out = Held 0 (AreRestOf out.released)
 
--- One call more, with its answer: a frame is the last one released, and at None nothing is released, and the FIFO was empty.
+-- One call more, with its answer: a frame is the last one released, and at None nothing is released, and the FIFO was
+-- empty.
 abbrev pub IsReleased : Outlet → Option RxFrame → Outlet → Type 0
 IsReleased before (Some frame) after = after ≡ given before frame
 IsReleased before None after = (after ≡ none_given before) × WasEmpty before

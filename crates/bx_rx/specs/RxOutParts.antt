@@ -11,4 +11,5 @@ out_view s = record { queue = s.pass.table_id; released = (view s.pass).released
 
 -- it may release and not offer, at a queue of three places
 abbrev pub IsOut : Inside → Type 0
-IsOut s = IsPassOf (arc_value s.line) s.pass × (ruled_capacity (arc_value s.line) ≡ 3) × (view s.pass ≡ log false true [] (view s.pass).released (view s.pass).calls)
+IsOut s = IsPassOf (arc_value s.line) s.pass × (ruled_capacity (arc_value s.line) ≡ 3)
+    × (view s.pass ≡ log false true [] (view s.pass).released (view s.pass).calls)

@@ -1,7 +1,8 @@
 //! One filter bank.
 ghost use Rattle.std.specs.Prelude.{◌≡◌, ◌≤◌, ◌↔◌, IsTrue, length};
 ghost use Rattle.std.specs.List.{position_from};
-ghost use Rattle.bx_rx.specs.Bank.{masked, Admits, low, high, filters_of, at_scale, IsFirstAmong, IsFirstMatch, Outranks, unlisted};
+ghost use Rattle.bx_rx.specs.Bank.{masked, Admits, low, high, filters_of, at_scale};
+ghost use Rattle.bx_rx.specs.Bank.{IsFirstAmong, IsFirstMatch, Outranks, unlisted};
 
 use crate::images::Images;
 use crate::mode::Mode;

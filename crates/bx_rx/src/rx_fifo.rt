@@ -73,7 +73,8 @@ fn sides(alloc: Global) -> Result<(RxIn, RxOut), AllocError>
 /// Takes out what the queue holds, three frames at most, by the pass that alone may push and pop.
 fn drain<R: Wait>(rt: &R, line: &Line, pass: &mut Pass<RxFrame, Log>) -> ArrayVec<RxFrame, 3>
     requires pass { IsPassOf line.now pass.old }
-    requires both { view pass.old ≡ log true true (view pass.old).stored (view pass.old).released (view pass.old).calls }
+    requires both { view pass.old ≡ log true true (view pass.old).stored (view pass.old).released
+        (view pass.old).calls }
     ensures kept { (view pass.old).stored ≡ (view pass.old).released ++ result.items }
     ensures few { length result.items ≤ 3 }
 {

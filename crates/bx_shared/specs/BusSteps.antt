@@ -1,5 +1,6 @@
 -- What each atomic step of the bus's seat tells it, and what it then knows.
-use Rattle.std.specs.Prelude.{◌≡◌, ℕ, ◌+◌, ◌*◌, ◌%◌, ◌<◌, ◌≤◌, Option, Some, None, List, [], ◌∷◌, ◌++◌, nat_lt, if◌then◌else◌, option_to_list, map, length, slice_index, slice_set}
+use Rattle.std.specs.Prelude.{◌≡◌, ℕ, ◌+◌, ◌*◌, ◌%◌, ◌<◌, ◌≤◌, Option, Some, None, List, [], ◌∷◌, ◌++◌}
+use Rattle.std.specs.Prelude.{nat_lt, if◌then◌else◌, option_to_list, map, length, slice_index, slice_set}
 use Rattle.std.specs.List.{slice_index_or}
 use Rattle.can_frame.specs.Frames.{FrameValue}
 use Rattle.can_frame.specs.Keys.{key_of}
@@ -28,7 +29,14 @@ bus_tried b found written = record b { exchanges = b.exchanges + 1; found = foun
 -- such an exchange started this transmission
 abbrev pub bus_started : BusView → ℕ → ℕ → ℕ → Item → BusView
 bus_started b found written mailbox item =
-    record b { exchanges = b.exchanges + 1; found = found; written = written; started = b.started ++ item ∷ []; sends = Some item; mailbox = mailbox }
+    record b {
+      exchanges = b.exchanges + 1;
+      found = found;
+      written = written;
+      started = b.started ++ item ∷ [];
+      sends = Some item;
+      mailbox = mailbox;
+    }
 
 -- the head of a mailbox was read
 abbrev pub head_read : BusView → ℕ → ℕ → BusView
@@ -40,13 +48,18 @@ bus_completed b = record b { done = b.done ++ option_to_list b.sends; sends = No
 
 -- what it transmitted failed, and is to be reaped where the word found has its abort asked
 abbrev pub bus_failed : BusView → ℕ → BusView
-bus_failed b word = record b { sends = None; reaps = if nat_lt 15 (mark_of word b.mailbox) then b.sends else None; found = word }
+bus_failed b word = record b {
+  sends = None;
+  reaps = if nat_lt 15 (mark_of word b.mailbox) then b.sends else None;
+  found = word;
+}
 
 -- what was to be reaped is
 abbrev pub bus_reaped : BusView → BusView
 bus_reaped b = record b { reaped = b.reaped ++ option_to_list b.reaps; reaps = None }
 
--- The exchange started this: it was scheduled under this route, it was neither sent nor reaped, and nothing was transmitting.
+-- The exchange started this: it was scheduled under this route, it was neither sent nor reaped, and nothing was
+-- transmitting.
 pub record IsStarted (b d : BusView) (mailbox word written : ℕ) : Type 0 where
   pub item : Item
   pub lane : lane_of word mailbox ≡ 7 + 32 * item.0
@@ -60,8 +73,8 @@ pub record HasKey (b : BusView) (mailbox key : ℕ) : Type 0 where
   pub read : slice_index_or b.heads mailbox None ≡ Some head
   pub key_is : (f : FrameValue) (n : ℕ) → IsHeadOf f n head → key ≡ key_of f
 
--- By identifier: the word is the one looked at last; each request is pending; the head of each was read since, and of their keys this
--- mailbox's is the least.
+-- By identifier: the word is the one looked at last; each request is pending; the head of each was read since, and of
+-- their keys this mailbox's is the least.
 pub record IsLeastRead (b : BusView) (word mailbox : ℕ) : Type 0 where
   pub seen : b.seen ≡ word
   pub pending : (j : ℕ) → j < 3 → IsRequested word j → mark_of word j ≡ 3
@@ -84,7 +97,8 @@ AreBytesSent b mailbox bytes = (item : Item) → b.sends ≡ Some item → b.mai
 
 -- of each route at most as many were sent and reaped as there are numbers
 abbrev pub AreFew : BusView → Type 0
-AreFew b = (route : ℕ) → (length (entries_of route b.done) ≤ greatest_number) × (length (numbers_of route (map label_of b.reaped)) ≤ greatest_number)
+AreFew b = (route : ℕ) → (length (entries_of route b.done) ≤ greatest_number)
+    × (length (numbers_of route (map label_of b.reaped)) ≤ greatest_number)
 
 abbrev pub BusLooks : Tells
 BusLooks st me found next = next ≡ bus_seat (bus_looked (bus_of me) found) me.0.routes
@@ -94,21 +108,26 @@ abbrev pub Schedules : Tells
 Schedules st me found next = next ≡ bus_seat (bus_tried (bus_of me) found st.second) me.0.routes
 
 abbrev pub Starts : Tells
-Starts st me found next = (found ≡ st.first → (next ≡ bus_seat (bus_of next) me.0.routes) × IsStarted (bus_of me) (bus_of next) (mailbox_said st.said) found st.second)
+Starts st me found next = (found ≡ st.first → (next ≡ bus_seat (bus_of next) me.0.routes)
+    × IsStarted (bus_of me) (bus_of next) (mailbox_said st.said) found st.second)
     × (¬ (found ≡ st.first) → next ≡ bus_seat (bus_tried (bus_of me) found st.second) me.0.routes)
 
 -- the payload words of mailbox m are 1 + 2m and 2 + 2m
 abbrev pub ReadsHead : Tells
-ReadsHead st me found next = (mailbox : ℕ) → st.word ≡ 1 + 2 * mailbox → (next ≡ bus_seat (head_read (bus_of me) mailbox found) me.0.routes) × IsHead found × IsHeadSent (bus_of me) mailbox found
+ReadsHead st me found next = (mailbox : ℕ) → st.word ≡ 1 + 2 * mailbox →
+    (next ≡ bus_seat (head_read (bus_of me) mailbox found) me.0.routes) × IsHead found
+    × IsHeadSent (bus_of me) mailbox found
 
 abbrev pub ReadsBytes : Tells
-ReadsBytes st me found next = (next ≡ me) × ((mailbox : ℕ) → st.word ≡ 2 + 2 * mailbox → AreBytesSent (bus_of me) mailbox found)
+ReadsBytes st me found next = (next ≡ me)
+    × ((mailbox : ℕ) → st.word ≡ 2 + 2 * mailbox → AreBytesSent (bus_of me) mailbox found)
 
 abbrev pub Completes : Tells
 Completes st me found next = (next ≡ bus_seat (bus_completed (bus_of me)) me.0.routes) × AreFew (bus_of me)
 
 abbrev pub Fails : Tells
-Fails st me found next = (next ≡ bus_seat (bus_failed (bus_of me) found) me.0.routes) × IsTransmitting found (bus_of me).mailbox
+Fails st me found next = (next ≡ bus_seat (bus_failed (bus_of me) found) me.0.routes)
+    × IsTransmitting found (bus_of me).mailbox
 
 abbrev pub Reaps : Tells
 Reaps st me found next = (next ≡ bus_seat (bus_reaped (bus_of me)) me.0.routes) × AreFew (bus_of me)

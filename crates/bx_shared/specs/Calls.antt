@@ -28,8 +28,8 @@ HasScheduled word = (mailbox : ℕ) × IsScheduled word mailbox
 abbrev pub NoneScheduled : ℕ → Type 0
 NoneScheduled word = (mailbox : ℕ) → ¬ IsScheduled word mailbox
 
--- By the word this request may be scheduled: it is pending; by order of requests (bit 27 is clear) it is the oldest; by identifier no
--- request is scheduled or transmitting.
+-- By the word this request may be scheduled: it is pending; by order of requests (bit 27 is clear) it is the oldest; by
+-- identifier no request is scheduled or transmitting.
 pub record MayBeScheduled (word mailbox : ℕ) : Type 0 where
   pub small : mailbox < 3
   pub pending : mark_of word mailbox ≡ 3
@@ -67,15 +67,16 @@ pub record Lost (b d : BusView) : Type 0 where
   pub exchanges : d.exchanges ≡ b.exchanges + 1
   pub found : ¬ (d.found ≡ d.seen)
 
--- Whether one is scheduled that may start: the seat looked once. True: the word looked at, or the one that its exchange wrote, has it.
--- False: the word looked at has none, and no request to schedule, or an exchange found another word.
+-- Whether one is scheduled that may start: the seat looked once. True: the word looked at, or the one that its exchange
+-- wrote, has it. False: the word looked at has none, and no request to schedule, or an exchange found another word.
 pub record Readied (b d : BusView) (result : Bool) : Type 0 where
   pub rests : BusRests b d
   pub looks : d.looks ≡ b.looks + 1
   pub yes : result ≡ true → (NoExchange b d × HasScheduled d.seen) ⊎ (Won b d × HasScheduled d.written)
   pub no : result ≡ false → (NoExchange b d × NoneScheduled d.seen × NoneToSchedule d.seen) ⊎ Lost b d
 
--- This transmission started: nothing was transmitting, it was neither sent nor reaped, and started grew by just it. The seat looked once and its one exchange was made.
+-- This transmission started: nothing was transmitting, it was neither sent nor reaped, and started grew by just it. The
+-- seat looked once and its one exchange was made.
 pub record Began (b d : BusView) (item : Item) : Type 0 where
   pub route : item.0 < 8
   pub priority : d.txfp ≡ b.txfp
@@ -89,13 +90,15 @@ pub record Began (b d : BusView) (item : Item) : Type 0 where
   pub looks : d.looks ≡ b.looks + 1
   pub won : Won b d
 
--- None started: the seat looked once. The word looked at has none that is scheduled, or the exchange found another word.
+-- None started: the seat looked once. The word looked at has none that is scheduled, or the exchange found another
+-- word.
 pub record NotBegan (b d : BusView) : Type 0 where
   pub rests : BusRests b d
   pub looks : d.looks ≡ b.looks + 1
   pub none : (NoExchange b d × NoneScheduled d.seen) ⊎ Lost b d
 
--- The transmission failed in one step, by whose word its abort was asked, or wasn't; where it was, a second step reaped it.
+-- The transmission failed in one step, by whose word its abort was asked, or wasn't; where it was, a second step reaped
+-- it.
 pub record Failed (b d : BusView) : Type 0 where
   pub is : d ≡ bus_failed b d.found
   pub not_asked : mark_of d.found b.mailbox ≡ 15
@@ -120,7 +123,8 @@ pub record IsAskedThere (q : RouteView) (number mailbox : ℕ) : Type 0 where
 
 -- Asked: this call asked, or the abort was asked already
 abbrev pub AsksOrWas : RouteView → RouteView → ℕ → Type 0
-AsksOrWas p q number = (q.asked ≡ p.asked ++ number ∷ []) ⊎ ((q.asked ≡ p.asked) × ((mailbox : ℕ) × IsAskedThere q number mailbox))
+AsksOrWas p q number = (q.asked ≡ p.asked ++ number ∷ [])
+    ⊎ ((q.asked ≡ p.asked) × ((mailbox : ℕ) × IsAskedThere q number mailbox))
 
 pub record IsMissed (p q : RouteView) (word : ℕ) : Type 0 where
   pub aborted : q.aborted ≡ p.aborted
@@ -136,7 +140,8 @@ Answered p q number Asked = (q.aborted ≡ p.aborted) × AsksOrWas p q number
 Answered p q number Gone = (q.aborted ≡ p.aborted) × (q.asked ≡ p.asked) × Has q.ended number
 Answered p q number (Contended word) = IsMissed p q word
 
--- the exchange of an abort found this word, and not the last one looked at; in both the same mailboxes fill under the route
+-- the exchange of an abort found this word, and not the last one looked at; in both the same mailboxes fill under the
+-- route
 pub record IsMissedBy (p q : RouteView) (word : ℕ) : Type 0 where
   pub is : q ≡ missed p word
   pub differs : ¬ (word ≡ p.seen)
@@ -155,10 +160,12 @@ AsksNow p q mailbox Asked = q ≡ asked_at p mailbox
 AsksNow p q mailbox Gone = ⊥
 AsksNow p q mailbox (Contended word) = IsMissedBy p q word
 
--- the points that an abort passes: it looks, and where the number is in a mailbox and its abort was not asked, it tries to abort
+-- the points that an abort passes: it looks, and where the number is in a mailbox and its abort was not asked, it tries
+-- to abort
 abbrev pub HearsAbort : {G : Type 0} → (G → List Point → Type 0) → RouteView → RouteView → AbortOutcome → G → G → Type 0
 HearsAbort may_have_heard p q Aborted old new = Passes may_have_heard (Look ∷ Abort ∷ []) old new
-HearsAbort may_have_heard p q Asked old new = ((q.asked ≡ p.asked) × Passes may_have_heard (Look ∷ []) old new) ⊎ Passes may_have_heard (Look ∷ Abort ∷ []) old new
+HearsAbort may_have_heard p q Asked old new = ((q.asked ≡ p.asked) × Passes may_have_heard (Look ∷ []) old new)
+    ⊎ Passes may_have_heard (Look ∷ Abort ∷ []) old new
 HearsAbort may_have_heard p q Gone old new = Passes may_have_heard (Look ∷ []) old new
 HearsAbort may_have_heard p q (Contended word) old new = Passes may_have_heard (Look ∷ Abort ∷ []) old new
 

@@ -1,5 +1,7 @@
--- How the mailboxes end: the bus's seat takes all places back, seals the mailboxes, and tells what waits, the oldest first.
-use Rattle.std.specs.Prelude.{◌≡◌, ℕ, ◌+◌, ◌-◌, ◌*◌, ◌/◌, ◌<◌, ◌≤◌, Option, Some, None, List, [], ◌∷◌, ◌++◌, false, map, length, slice_get, slice_index}
+-- How the mailboxes end: the bus's seat takes all places back, seals the mailboxes, and tells what waits, the oldest
+-- first.
+use Rattle.std.specs.Prelude.{◌≡◌, ℕ, ◌+◌, ◌-◌, ◌*◌, ◌/◌, ◌<◌, ◌≤◌, Option, Some, None}
+use Rattle.std.specs.Prelude.{List, [], ◌∷◌, ◌++◌, false, map, length, slice_get, slice_index}
 use Rattle.std.proofs.Common.{◌∙◌, sym, ap}
 use Rattle.atomic_table.specs.Table.{Me}
 use Rattle.bx_core.specs.declared.left.Left.{Left}
@@ -35,7 +37,8 @@ pub record IsIdleIn (rs : List RouteView) (route : ℕ) : Type 0 where
 abbrev pub AreAllIdle : List RouteView → Type 0
 AreAllIdle rs = (route : ℕ) → route < 8 → IsIdleIn rs route
 
--- What the seat that holds every place knows: the state of the core that words and views show, with these requests waiting.
+-- What the seat that holds every place knows: the state of the core that words and views show, with these requests
+-- waiting.
 pub record Ends (b : BusView) (rs : List RouteView) (es : List Waiting) (word : ℕ) : Type 0 where
   pub core : State
   pub words : List ℕ
@@ -52,11 +55,13 @@ sealed_seat b rs es = (record { buses = b ∷ []; routes = rs; sealed = Some es 
 
 -- a last look, by the seat that holds every place
 abbrev pub Seals : Tells
-Seals st me found next = (es : List Waiting) × (next ≡ sealed_seat (bus_of me) me.0.routes es) × Ends (bus_of me) me.0.routes es found
+Seals st me found next = (es : List Waiting) × (next ≡ sealed_seat (bus_of me) me.0.routes es)
+    × Ends (bus_of me) me.0.routes es found
 
 -- this payload word is of the request that waits in its mailbox
 abbrev pub IsLast : List Waiting → ℕ → ℕ → Type 0
-IsLast es place found = Each (λ w. (place ≡ 1 + 2 * w.mailbox → IsHeadOf w.frame w.number found) × (place ≡ 2 + 2 * w.mailbox → found ≡ bytes_word w.frame)) es
+IsLast es place found = Each (λ w. (place ≡ 1 + 2 * w.mailbox → IsHeadOf w.frame w.number found)
+    × (place ≡ 2 + 2 * w.mailbox → found ≡ bytes_word w.frame)) es
 
 -- a payload word of sealed mailboxes
 abbrev pub ReadsLast : Tells
@@ -77,7 +82,8 @@ pub record IsInMailbox (es : List Waiting) (word mailbox : ℕ) : Type 0 where
   pub mailbox_is : request.mailbox ≡ mailbox
   pub owner : lane_of word mailbox / 32 ≡ request.route
 
--- Some of the requests that wait were told, in their order; the lanes and the order bits of the word are those of the rest.
+-- Some of the requests that wait were told, in their order; the lanes and the order bits of the word are those of the
+-- rest.
 pub record Remains (word : ℕ) (es : List Waiting) (left : List Left) : Type 0 where
   pub taken : List Waiting
   pub rest : List Waiting
@@ -93,8 +99,8 @@ pub record IsSideOf (b : BusPlace) (route : ℕ) (s : RoutePlace) : Type 0 where
   pub table : s.table ≡ b.table
   pub route_is : s.part.route ≡ route
 
--- these are the counts of this route: the lengths of the lists of what its seat requested and aborted, and of what the bus's seat
--- sent and reaped of it
+-- these are the counts of this route: the lengths of the lists of what its seat requested and aborted, and of what the
+-- bus's seat sent and reaped of it
 pub record IsCounted (b : BusPlace) (route : ℕ) (s : RoutePlace) (c : RouteCounts) : Type 0 where
   pub requested : c.requested ≡ length s.part.requested
   pub aborted : c.aborted ≡ length s.part.aborted
@@ -102,13 +108,15 @@ pub record IsCounted (b : BusPlace) (route : ℕ) (s : RoutePlace) (c : RouteCou
   pub reaped : c.reaped ≡ length (numbers_of route (map label_of b.bus.reaped))
 
 abbrev pub AreCounted : BusPlace → List RoutePlace → List RouteCounts → Type 0
-AreCounted b sides counts = (route : ℕ) (s : RoutePlace) (c : RouteCounts) → slice_get sides route ≡ Some s → slice_get counts route ≡ Some c → IsCounted b route s c
+AreCounted b sides counts = (route : ℕ) (s : RoutePlace) (c : RouteCounts) → slice_get sides route ≡ Some s →
+    slice_get counts route ≡ Some c → IsCounted b route s c
 
 -- for how many routes the mailboxes are
 abbrev pub routes_of : BusPlace → ℕ
 routes_of b = 8 - length b.routes
 
-pub side-stays : (a b : BusPlace) (route : ℕ) (s : RoutePlace) → SameMailboxes a b → IsSideOf a route s → IsSideOf b route s
+pub side-stays : (a b : BusPlace) (route : ℕ) (s : RoutePlace) → SameMailboxes a b → IsSideOf a route s →
+    IsSideOf b route s
 side-stays a b route s same h = record { table = h.table ∙ sym same.table; route_is = h.route_is }
 
 pub side-moves : (a : BusPlace) (route : ℕ) (s t : RoutePlace) → SameRoute s t → IsSideOf a route s → IsSideOf a route t

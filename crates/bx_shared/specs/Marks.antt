@@ -1,6 +1,7 @@
--- What a mailbox's state is in its lane of the control word: the low five bits, the mark, say how far its request has come, and
--- the three above say whose it is.
-use Rattle.std.specs.Prelude.{◌≡◌, ℕ, ◌+◌, ◌*◌, ◌⊎◌, Option, Some, None, List, [], ◌∷◌, Bool, true, false, if◌then◌else◌, length}
+-- What a mailbox's state is in its lane of the control word: the low five bits, the mark, say how far its request has
+-- come, and the three above say whose it is.
+use Rattle.std.specs.Prelude.{◌≡◌, ℕ, ◌+◌, ◌*◌, ◌⊎◌, Option, Some, None, List}
+use Rattle.std.specs.Prelude.{[], ◌∷◌, Bool, true, false, if◌then◌else◌, length}
 use Rattle.bx_core.specs.declared.status.Status.{Status}
 use Rattle.bx_core.specs.declared.status.Status.TheVariants.{Pending, Scheduled, Transmitting}
 use Rattle.bx_core.specs.declared.waiting.Waiting.{Waiting}
@@ -36,7 +37,8 @@ abbrev pub count_requests : List RouteLists → ℕ
 count_requests [] = 0
 count_requests (l ∷ ls) = length l.requested + count_requests ls
 
--- the bits above the order bits: by identifier (TXFP clear) the lowest of them is set, and those above it count the requests
+-- the bits above the order bits: by identifier (TXFP clear) the lowest of them is set, and those above it count the
+-- requests
 abbrev pub rest_by : Bool → ℕ → ℕ
 rest_by true requests = 0
 rest_by false requests = 1 + 2 * requests

@@ -12,8 +12,8 @@ use Rattle.bx_shared.specs.declared.bus_seat.BusSeat.TheInside.{Inside as BusIns
 abbrev pub route_view : RouteInside → RoutePlace
 route_view s = route_place s.seat.table_id s.seat.me
 
--- it holds its route's place alone, it fills no mailbox, it keeps the newest number and that of each mailbox, and it counts
--- what it requested and aborted
+-- it holds its route's place alone, it fills no mailbox, it keeps the newest number and that of each mailbox, and it
+-- counts what it requested and aborted
 pub record IsRouteSeat (s : RouteInside) : Type 0 where
   pub at : IsAt (arc_value s.words).shared.table_id s.seat.table_id
   pub alone : s.seat.me ≡ seat_of (part_of s.seat.me)
@@ -31,8 +31,8 @@ pub record IsRouteSeat (s : RouteInside) : Type 0 where
 abbrev pub bus_view : BusInside → BusPlace
 bus_view s = bus_place s.seat.table_id (arc_value s.words).shared.key s.seat.me
 
--- it holds the bus's place, and those of the routes that no seat was made for; it keeps what it transmits and the mailbox of that, and
--- between its calls nothing is to be reaped; it counts what was sent and reaped of each route
+-- it holds the bus's place, and those of the routes that no seat was made for; it keeps what it transmits and the
+-- mailbox of that, and between its calls nothing is to be reaped; it counts what was sent and reaped of each route
 pub record IsBusSeat (s : BusInside) : Type 0 where
   pub at : IsAt (arc_value s.words).shared.table_id s.seat.table_id
   pub alone : s.seat.me ≡ bus_seat (bus_of s.seat.me) s.seat.me.0.routes

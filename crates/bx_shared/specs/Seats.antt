@@ -1,5 +1,6 @@
 -- What the seats at a controller's mailboxes are to their callers.
-use Rattle.std.specs.Prelude.{◌≡◌, ◌⊎◌, ℕ, zero, suc, ◌+◌, ◌-◌, ◌<◌, Some, List, [], ◌∷◌, ◌++◌, Bool, true, false, slice_get, slice_set}
+use Rattle.std.specs.Prelude.{◌≡◌, ◌⊎◌, ℕ, zero, suc, ◌+◌, ◌-◌, ◌<◌, Some, List}
+use Rattle.std.specs.Prelude.{[], ◌∷◌, ◌++◌, Bool, true, false, slice_get, slice_set}
 use Rattle.atomic_table.specs.Seated.{TableId}
 use Rattle.atomic_table.specs.Table.{Me}
 use Rattle.can_frame.specs.Frames.{FrameValue}
@@ -46,7 +47,8 @@ pub record Rests (p q : RouteView) : Type 0 where
 abbrev pub entry : ℕ → FrameValue → Entry
 entry number frame = record { number = number; frame = frame }
 
--- The seat looked once, and claimed the lowest empty mailbox of that word; all else that it knows of its requests is as before.
+-- The seat looked once, and claimed the lowest empty mailbox of that word; all else that it knows of its requests is as
+-- before.
 pub record IsClaimed (p q : RouteView) (mailbox : ℕ) : Type 0 where
   pub route : q.route ≡ p.route
   pub requested : q.requested ≡ p.requested
@@ -66,7 +68,8 @@ pub record IsRequested (p q : RouteView) (e : Entry) : Type 0 where
   pub looks : q.looks ≡ p.looks + 1
   pub before : q.before ≡ p.seen
 
--- Taken: requested grew by just this request, which was put into the lowest empty mailbox of the first of the two words looked at
+-- Taken: requested grew by just this request, which was put into the lowest empty mailbox of the first of the two words
+-- looked at
 pub record IsTaken (p q : RouteView) (number : ℕ) (frame : FrameValue) (mailbox : ℕ) : Type 0 where
   pub requested : q.requested ≡ p.requested ++ entry number frame ∷ []
   pub last : q.last ≡ slice_set p.last mailbox number
@@ -80,7 +83,8 @@ pub record IsNoRoom (p q : RouteView) : Type 0 where
   pub looks : q.looks ≡ p.looks + 1
   pub full : IsFull q.seen
 
--- Contended: an exchange found this word in the place of the last one looked at; the same mailboxes fill under the route in both
+-- Contended: an exchange found this word in the place of the last one looked at; the same mailboxes fill under the
+-- route in both
 pub record IsContended (p q : RouteView) (word : ℕ) : Type 0 where
   pub requested : q.requested ≡ p.requested
   pub last : q.last ≡ p.last
@@ -119,8 +123,8 @@ HearsUnclaimed may_have_heard (Taken mailbox) old new = ⊥
 HearsUnclaimed may_have_heard NoRoom old new = Passes may_have_heard (Look ∷ []) old new
 HearsUnclaimed may_have_heard (Contended word) old new = Passes may_have_heard to_claim old new
 
--- what the gate heard of a request with this answer: an exchange that is lost is the claim, at the first look, or the request, at
--- the second, and then the claim is given back
+-- what the gate heard of a request with this answer: an exchange that is lost is the claim, at the first look, or the
+-- request, at the second, and then the claim is given back
 abbrev pub Hears : {G : Type 0} → (G → List Point → Type 0) → RouteView → RouteView → RequestAnswer → G → G → Type 0
 Hears may_have_heard p q (Taken mailbox) old new = Passes may_have_heard to_request old new
 Hears may_have_heard p q NoRoom old new = Passes may_have_heard (Look ∷ []) old new
@@ -132,7 +136,8 @@ pub record RoutePlace : Type 0 where
   pub table : TableId
   pub part : RouteView
 
--- the bus's seat: the mailboxes, their priority (true is TXFP set), what it knows, and the places that no route's seat has
+-- the bus's seat: the mailboxes, their priority (true is TXFP set), what it knows, and the places that no route's seat
+-- has
 pub record BusPlace : Type 0 where
   pub table : TableId
   pub txfp : Bool
@@ -152,7 +157,8 @@ openings (suc n) = opening (7 - n) ∷ openings n
 
 -- these are new seats at one table, of the first routes in order
 abbrev pub AreDealt : TableId → List RoutePlace → Type 0
-AreDealt table seats = (route : ℕ) (s : RoutePlace) → slice_get seats route ≡ Some s → (s.table ≡ table) × (s.part ≡ opening route)
+AreDealt table seats = (route : ℕ) (s : RoutePlace) → slice_get seats route ≡ Some s → (s.table ≡ table)
+    × (s.part ≡ opening route)
 
 -- a new bus's seat for so many routes
 pub record IsNewBus (txfp : Bool) (routes : ℕ) (b : BusPlace) : Type 0 where

@@ -1,6 +1,7 @@
--- What the seven words of a controller's mailboxes and the views of their seats show: a state of the mailbox core (RM0008, bxCAN,
--- "Transmission handling").
-use Rattle.std.specs.Prelude.{Ok, ◌≡◌, ℕ, ◌+◌, ◌*◌, ◌/◌, ◌^◌, ◌<◌, ◌≤◌, Some, None, List, [], ◌∷◌, Bool, true, false, map, length, slice_index}
+-- What the seven words of a controller's mailboxes and the views of their seats show: a state of the mailbox core
+-- (RM0008, bxCAN, "Transmission handling").
+use Rattle.std.specs.Prelude.{Ok, ◌≡◌, ℕ, ◌+◌, ◌*◌, ◌/◌, ◌^◌, ◌<◌, ◌≤◌, Some, None}
+use Rattle.std.specs.Prelude.{List, [], ◌∷◌, Bool, true, false, map, length, slice_index}
 use Rattle.std.specs.List.{slice_index_or}
 use mathlib.Core.Option.{some}
 use lib.ListN.{get_elem?}
@@ -29,13 +30,16 @@ AreOrdered word (w ∷ ws) = Each (λ x. IsOlder word w.mailbox x.mailbox) ws ×
 
 -- the payload words of its mailbox are the request's
 abbrev pub IsPaid : List ℕ → Waiting → Type 0
-IsPaid words w = ArePacked w.frame w.number (slice_index words (1 + 2 * w.mailbox)) (slice_index words (2 + 2 * w.mailbox))
+IsPaid words w = ArePacked w.frame w.number (slice_index words (1 + 2 * w.mailbox))
+    (slice_index words (2 + 2 * w.mailbox))
 
--- the words show the mailboxes of the core: claims and requests by their lanes, the order of requests by the order bits, whether
--- requests are counted and how many by the bits above, and frames and numbers by the payload words; each head is that of some frame
+-- the words show the mailboxes of the core: claims and requests by their lanes, the order of requests by the order
+-- bits, whether requests are counted and how many by the bits above, and frames and numbers by the payload words; each
+-- head is that of some frame
 pub record Shows (words : List ℕ) (s : State) : Type 0 where
   pub seven : length words ≡ 7
-  pub lanes : (mailbox : ℕ) → mailbox < 3 → lane_of (slice_index words 0) mailbox ≡ claim_lane (claim_of s mailbox) + waiting_lane s.queue mailbox
+  pub lanes : (mailbox : ℕ) → mailbox < 3 →
+      lane_of (slice_index words 0) mailbox ≡ claim_lane (claim_of s mailbox) + waiting_lane s.queue mailbox
   pub order : AreOrdered (slice_index words 0) s.queue
   pub rest : rest_of (slice_index words 0) ≡ rest_by s.txfp (count_requests s.routes)
   pub payload : Each (IsPaid words) s.queue
@@ -47,10 +51,11 @@ pub record Fills (words : List ℕ) (s : State) (v : RouteView) : Type 0 where
   pub head : 0 < v.stored → slice_index words (1 + 2 * v.mailbox) ≡ v.head
   pub bytes : 1 < v.stored → slice_index words (2 + 2 * v.mailbox) ≡ v.bytes
 
--- a request of the route that waits has the number that was last requested in its mailbox; where its abort was asked the route
--- asked it; and it is none of those that ended
+-- a request of the route that waits has the number that was last requested in its mailbox; where its abort was asked
+-- the route asked it; and it is none of those that ended
 abbrev pub IsKnown : RouteView → Waiting → Type 0
-IsKnown v w = w.route ≡ v.route → (slice_index v.last w.mailbox ≡ w.number) × (w.abort_asked ≡ true → Has v.asked w.number) × Each (λ n. ¬ (n ≡ w.number)) v.ended
+IsKnown v w = w.route ≡ v.route → (slice_index v.last w.mailbox ≡ w.number)
+    × (w.abort_asked ≡ true → Has v.asked w.number) × Each (λ n. ¬ (n ≡ w.number)) v.ended
 
 -- what a route's seat knows is so
 pub record Fits (words : List ℕ) (s : State) (v : RouteView) : Type 0 where
@@ -84,7 +89,9 @@ count_in word = word / 2 ^ 28
 -- where nothing was requested since the last look, the heads that were read since are those of the requests that wait
 pub record AreHeads (s : State) (b : BusView) : Type 0 where
   pub before : count_in b.seen ≤ count_requests s.routes
-  pub heads : count_in b.seen ≡ count_requests s.routes → Each (λ w. (head : ℕ) → slice_index_or b.heads w.mailbox None ≡ Some head → IsHeadOf w.frame w.number head) s.queue
+  pub heads : count_in b.seen ≡ count_requests s.routes →
+      Each (λ w. (head : ℕ) → slice_index_or b.heads w.mailbox None ≡ Some head → IsHeadOf w.frame w.number head)
+      s.queue
 
 -- what the bus's seat knows is so
 pub record FitsBus (s : State) (b : BusView) : Type 0 where
@@ -102,17 +109,18 @@ abbrev pub AreDistinct : List ℕ → Type 0
 AreDistinct [] = Unit {0}
 AreDistinct (x ∷ xs) = Each (λ y. ¬ (y ≡ x)) xs × AreDistinct xs
 
--- A seat's places are those that stand at it, each as it is. `at` and `bus_at` say at which seat each place stands, `part` and
--- `bus` what is known there.
-pub record Holds (queue : List Waiting) (at : ℕ → ℕ) (part : ℕ → RouteView) (bus_at : ℕ) (bus : BusView) (seat : ℕ) (v : View) : Type 0 where
+-- A seat's places are those that stand at it, each as it is. `at` and `bus_at` say at which seat each place stands,
+-- `part` and `bus` what is known there.
+pub record Holds (queue : List Waiting) (at : ℕ → ℕ) (part : ℕ → RouteView) (bus_at : ℕ) (bus : BusView) (seat : ℕ)
+    (v : View) : Type 0 where
   pub routes : Each (λ p. (at p.route ≡ seat) × (part p.route ≡ p)) v.routes
   pub buses : Each (λ b. (bus_at ≡ seat) × (bus ≡ b)) v.buses
   pub once : AreDistinct (map (λ p. p.route) v.routes)
   -- a seat that sealed the mailboxes holds every place, and knows what waits
   pub seal : (es : List Waiting) → v.sealed ≡ Some es → (queue ≡ es) × (bus_at ≡ seat) × ((r : ℕ) → r < 8 → at r ≡ seat)
 
--- The rule of the words, for mailboxes of this priority: some state of the core to which accepted events led is shown by the words
--- and known to the seats, each place of which stands at one of them.
+-- The rule of the words, for mailboxes of this priority: some state of the core to which accepted events led is shown
+-- by the words and known to the seats, each place of which stands at one of them.
 pub record IsKept (txfp : Bool) (t : Table Said View) : Type 0 where
   pub core : State
   pub reached : Reached core

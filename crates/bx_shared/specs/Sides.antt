@@ -45,16 +45,22 @@ abbrev pub RequestsAs : RouteView → RouteView → ℕ → FrameValue → Sent 
 RequestsAs p q number frame Yes = (mailbox : ℕ) × IsTaken p q number frame mailbox
 RequestsAs p q number frame SentNotNow = IsNoRoom p q ⊎ IsContended p q q.found
 
--- the gate of a request that was taken hears of its mailbox, which is the lowest empty one of the first of the two words looked at
+-- the gate of a request that was taken hears of its mailbox, which is the lowest empty one of the first of the two
+-- words looked at
 abbrev pub HearsWhere : {G : Type 0} → (G → List Point → Type 0) → RouteView → Sent → G → G → Type 0
-HearsWhere may_have_heard q Yes old new = (mailbox : ℕ) → IsLowest q.before mailbox → Passes may_have_heard (to_request ++ WasAnswered (In mailbox) ∷ []) old new
+HearsWhere may_have_heard q Yes old new = (mailbox : ℕ) → IsLowest q.before mailbox →
+    Passes may_have_heard (to_request ++ WasAnswered (In mailbox) ∷ []) old new
 HearsWhere may_have_heard q SentNotNow old new = Unit {0}
 
 pub same_mailboxes-self : (a : BusPlace) → SameMailboxes a a
 same_mailboxes-self a = record { table = refl; priority = refl; routes = refl }
 
 pub same_mailboxes-on : (a b c : BusPlace) → SameMailboxes a b → SameMailboxes b c → SameMailboxes a c
-same_mailboxes-on a b c f g = record { table = g.table ∙ f.table; priority = g.priority ∙ f.priority; routes = g.routes ∙ f.routes }
+same_mailboxes-on a b c f g = record {
+  table = g.table ∙ f.table;
+  priority = g.priority ∙ f.priority;
+  routes = g.routes ∙ f.routes;
+}
 
 pub same_route-self : (a : RoutePlace) → SameRoute a a
 same_route-self a = record { table = refl; route = refl }
@@ -62,5 +68,6 @@ same_route-self a = record { table = refl; route = refl }
 pub same_route-on : (a b c : RoutePlace) → SameRoute a b → SameRoute b c → SameRoute a c
 same_route-on a b c f g = record { table = g.table ∙ f.table; route = g.route ∙ f.route }
 
-pub last-is : (s : RoutePlace) (past : RoutePast) → RouteAfter s past → last_number s.part.requested ≡ last_number past.requested
+pub last-is : (s : RoutePlace) (past : RoutePast) → RouteAfter s past →
+    last_number s.part.requested ≡ last_number past.requested
 last-is s past h = ap last_number (sym h.requested)

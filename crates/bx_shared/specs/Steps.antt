@@ -1,5 +1,6 @@
 -- What each atomic step tells the seat that makes it, and what a seat then knows.
-use Rattle.std.specs.Prelude.{◌≡◌, ℕ, ◌+◌, ◌^◌, ◌<◌, ◌≤◌, None, List, [], ◌∷◌, ◌++◌, Bool, true, false, length, slice_index, slice_set}
+use Rattle.std.specs.Prelude.{◌≡◌, ℕ, ◌+◌, ◌^◌, ◌<◌, ◌≤◌, None, List, [], ◌∷◌}
+use Rattle.std.specs.Prelude.{◌++◌, Bool, true, false, length, slice_index, slice_set}
 use mathlib.Core.Option.{Option as Maybe, none, some}
 use Rattle.atomic_table.specs.Table.{Me, Step}
 use Rattle.can_frame.specs.Frames.{standard, data_bytes}
@@ -62,9 +63,11 @@ opening_bus txfp = record {
 
 -- the seat that has all places at first
 abbrev pub first_view : Bool → View
-first_view txfp = view (opening_bus txfp ∷ []) (opening 0 ∷ opening 1 ∷ opening 2 ∷ opening 3 ∷ opening 4 ∷ opening 5 ∷ opening 6 ∷ opening 7 ∷ [])
+first_view txfp = view (opening_bus txfp ∷ [])
+    (opening 0 ∷ opening 1 ∷ opening 2 ∷ opening 3 ∷ opening 4 ∷ opening 5 ∷ opening 6 ∷ opening 7 ∷ [])
 
--- the words as they begin: all mailboxes are empty, and where the priority is by identifier bit 27 says that requests are counted
+-- the words as they begin: all mailboxes are empty, and where the priority is by identifier bit 27 says that requests
+-- are counted
 abbrev pub first_word : Bool → ℕ
 first_word true = 0
 first_word false = 2 ^ 27
@@ -105,9 +108,15 @@ entry_said none = no_entry
 entry_said (some (Mailbox mailbox)) = no_entry
 entry_said (some (Request entry)) = entry
 
--- What a look at this word leaves known: it is one look more, and the numbers that are in no mailbox are those that it shows so.
+-- What a look at this word leaves known: it is one look more, and the numbers that are in no mailbox are those that it
+-- shows so.
 abbrev pub looked : RouteView → ℕ → RouteView
-looked p word = record p { looks = p.looks + 1; before = p.seen; seen = word; ended = ended_of p.last p.route word (up_to (last_number p.requested)) }
+looked p word = record p {
+  looks = p.looks + 1;
+  before = p.seen;
+  seen = word;
+  ended = ended_of p.last p.route word (up_to (last_number p.requested));
+}
 
 -- an exchange that found this word, and not the one that it was to find
 abbrev pub missed : RouteView → ℕ → RouteView
@@ -125,7 +134,11 @@ bytes_stored p word = record p { stored = 2; bytes = word }
 
 -- what it filled the mailbox with is requested
 abbrev pub requested : RouteView → Entry → RouteView
-requested p entry = record p { requested = p.requested ++ entry ∷ []; claims = false; last = slice_set p.last p.mailbox entry.number }
+requested p entry = record p {
+  requested = p.requested ++ entry ∷ [];
+  claims = false;
+  last = slice_set p.last p.mailbox entry.number;
+}
 
 -- its claim is given back
 abbrev pub withdrawn : RouteView → RouteView
@@ -138,11 +151,13 @@ aborted_at p mailbox = record p { aborted = p.aborted ++ slice_index p.last mail
 abbrev pub asked_at : RouteView → ℕ → RouteView
 asked_at p mailbox = record p { asked = p.asked ++ slice_index p.last mailbox ∷ [] }
 
--- What a word tells a route's seat: the lanes that fill under its route are those of its claim, a requested lane has one of the
--- five marks, there is room for one request more in the count, and at most as many requests were aborted as there are numbers.
+-- What a word tells a route's seat: the lanes that fill under its route are those of its claim, a requested lane has
+-- one of the five marks, there is room for one request more in the count, and at most as many requests were aborted as
+-- there are numbers.
 pub record IsOwn (p : RouteView) (word : ℕ) : Type 0 where
   pub own : p.claims ≡ true → lane_of word p.mailbox ≡ filling p.route
-  pub only : (mailbox : ℕ) → mailbox < 3 → lane_of word mailbox ≡ filling p.route → (p.claims ≡ true) × (p.mailbox ≡ mailbox)
+  pub only : (mailbox : ℕ) → mailbox < 3 → lane_of word mailbox ≡ filling p.route → (p.claims ≡ true)
+      × (p.mailbox ≡ mailbox)
   pub marks : (mailbox : ℕ) → mailbox < 3 → IsRequested word mailbox → IsMark (mark_of word mailbox)
   pub count : HasCount word
   pub few : length p.aborted ≤ greatest_number

@@ -1,11 +1,13 @@
 //! One try of a route's seat to request a frame.
-ghost use Rattle.std.specs.Prelude.{◌≡◌, ◌<◌, ◌^◌, true, false, MatchOption, IfSome, IfNone, IfOk, IfErr, OnOk, OnSome, [], ◌∷◌};
+ghost use Rattle.std.specs.Prelude.{◌≡◌, ◌<◌, ◌^◌, true, false, MatchOption};
+ghost use Rattle.std.specs.Prelude.{IfSome, IfNone, IfOk, IfErr, OnOk, OnSome, [], ◌∷◌};
 ghost use Rattle.bx_core.specs.declared.point.Point.TheVariants.{Look, Fill, Request, Withdraw};
 ghost use Rattle.bx_core.specs.Gate.{Passes};
 ghost use Rattle.bx_core.specs.Steps.{last_number};
 ghost use Rattle.bx_words.specs.Payloads.{IsHead, ArePacked};
 ghost use Rattle.bx_shared.specs.Steps.{seat_of, part_of, head_stored, bytes_stored};
-ghost use Rattle.bx_shared.specs.Seats.{IsAt, IsFull, IsLowest, IsClaimed, IsUnclaimed, IsRequested, IsLost, Answers, HearsUnclaimed, Hears, to_claim};
+ghost use Rattle.bx_shared.specs.Seats.{IsAt, IsFull, IsLowest, IsClaimed, IsUnclaimed};
+ghost use Rattle.bx_shared.specs.Seats.{IsRequested, IsLost, Answers, HearsUnclaimed, Hears, to_claim};
 
 use crate::request_answer::RequestAnswer;
 use crate::route_steps::{Seat, Words, claim, look, request, store_bytes, store_head, withdraw};
@@ -36,7 +38,8 @@ fn claim_lowest<G: Gate>(
     gate: &mut G,
 ) -> Result<u8, RequestAnswer>
     requires table { IsAt words.now.shared.table_id seat.old.table_id }
-    requires route { (seat.old.me ≡ seat_of (part_of seat.old.me)) × ((part_of seat.old.me).route ≡ route) × (route < 8) }
+    requires route { (seat.old.me ≡ seat_of (part_of seat.old.me)) × ((part_of seat.old.me).route ≡ route)
+        × (route < 8) }
     requires idle { (part_of seat.old.me).claims ≡ false }
     ensures table { seat.new.table_id ≡ seat.old.table_id }
     ensures route { seat.new.me ≡ seat_of (part_of seat.new.me) }
@@ -85,7 +88,8 @@ fn request_filled<G: Gate>(
     gate: &mut G,
 ) -> Option<u64>
     requires table { IsAt words.now.shared.table_id seat.old.table_id }
-    requires route { (seat.old.me ≡ seat_of (part_of seat.old.me)) × ((part_of seat.old.me).route ≡ route) × (route < 8) }
+    requires route { (seat.old.me ≡ seat_of (part_of seat.old.me)) × ((part_of seat.old.me).route ≡ route)
+        × (route < 8) }
     requires fills { (mailbox < 3) × ((part_of seat.old.me).claims ≡ true) × ((part_of seat.old.me).mailbox ≡ mailbox) }
     requires stored { (part_of seat.old.me).stored ≡ 2 }
     requires packed { ArePacked entry.frame entry.number (part_of seat.old.me).head (part_of seat.old.me).bytes }
@@ -119,7 +123,8 @@ pub(crate) fn attempt<G: Gate>(
     gate: &mut G,
 ) -> RequestAnswer
     requires table { IsAt words.now.shared.table_id seat.old.table_id }
-    requires route { (seat.old.me ≡ seat_of (part_of seat.old.me)) × ((part_of seat.old.me).route ≡ route) × (route < 8) }
+    requires route { (seat.old.me ≡ seat_of (part_of seat.old.me)) × ((part_of seat.old.me).route ≡ route)
+        × (route < 8) }
     requires idle { (part_of seat.old.me).claims ≡ false }
     requires above { last_number (part_of seat.old.me).requested < entry.number }
     requires small { entry.number < 2 ^ 24 }

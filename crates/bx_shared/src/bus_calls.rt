@@ -1,11 +1,13 @@
 //! How the bus's seat gets ready, and starts.
-ghost use Rattle.std.specs.Prelude.{◌≡◌, ℕ, ◌%◌, ◌<◌, None, true, false, length, MatchOption, MatchBool, IfSome, IfNone};
+ghost use Rattle.std.specs.Prelude.{◌≡◌, ℕ, ◌%◌, ◌<◌, None, true, false};
+ghost use Rattle.std.specs.Prelude.{length, MatchOption, MatchBool, IfSome, IfNone};
 ghost use Rattle.bx_words.specs.Lanes.{mark_of, rest_of, IsRequested};
 ghost use Rattle.bx_shared.specs.declared.bus_view.BusView.{BusView};
 ghost use Rattle.bx_shared.specs.Steps.{bus_seat, bus_of};
 ghost use Rattle.bx_shared.specs.BusSteps.{HasKey, GoesNext};
 ghost use Rattle.bx_shared.specs.Seats.{IsAt};
-ghost use Rattle.bx_shared.specs.Calls.{IsScheduled, NoneScheduled, MayBeScheduled, NoneToSchedule, HasReadHeads, Readied, Began, NotBegan};
+ghost use Rattle.bx_shared.specs.Calls.{IsScheduled, NoneScheduled, MayBeScheduled};
+ghost use Rattle.bx_shared.specs.Calls.{NoneToSchedule, HasReadHeads, Readied, Began, NotBegan};
 
 use crate::bus_steps::{look, read_bytes, read_head, schedule, start};
 use crate::route_steps::{Seat, Words};
@@ -36,7 +38,8 @@ fn scheduled(word: u64) -> Option<u8>
 /// Whether a mailbox holds a request that is scheduled or transmitting.
 fn is_busy(word: u64, mailbox: u8) -> bool
     requires { mailbox < 3 }
-    ensures { MatchBool result (IsRequested word mailbox × ¬ (mark_of word mailbox ≡ 3)) (IsRequested word mailbox → mark_of word mailbox ≡ 3) }
+    ensures { MatchBool result (IsRequested word mailbox × ¬ (mark_of word mailbox ≡ 3))
+        (IsRequested word mailbox → mark_of word mailbox ≡ 3) }
 {
     lane(word, mailbox) % 32 > PENDING
 }
@@ -64,7 +67,8 @@ fn read_key(words: &Words, seat: &mut Seat, word: u64, mailbox: u8) -> u32
     ensures bus { seat.new.me ≡ bus_seat (bus_of seat.new.me) seat.old.me.0.routes }
     ensures read { HasReadHeads (bus_of seat.old.me) (bus_of seat.new.me) }
     ensures key { IsRequested word mailbox → HasKey (bus_of seat.new.me) mailbox result }
-    ensures others { (j key : ℕ) → ¬ (j ≡ mailbox) → HasKey (bus_of seat.old.me) j key → HasKey (bus_of seat.new.me) j key }
+    ensures others { (j key : ℕ) → ¬ (j ≡ mailbox) → HasKey (bus_of seat.old.me) j key
+        → HasKey (bus_of seat.new.me) j key }
 {
     if lane(word, mailbox) % 32 < PENDING {
         return 0;

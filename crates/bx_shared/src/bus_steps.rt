@@ -3,7 +3,8 @@ ghost use Rattle.std.specs.Prelude.{◌≡◌, ◌≢◌, ℕ, ◌+◌, ◌-◌,
 ghost use Rattle.bx_words.specs.Lanes.{lane_of, mark_of, IsTransmitting, LaneSet};
 ghost use Rattle.bx_words.specs.Payloads.{IsHead};
 ghost use Rattle.bx_shared.specs.Steps.{bus_seat, bus_of};
-ghost use Rattle.bx_shared.specs.BusSteps.{bus_looked, bus_tried, head_read, bus_completed, bus_failed, bus_reaped, GoesNext, IsStarted, IsHeadSent, AreBytesSent, AreFew};
+ghost use Rattle.bx_shared.specs.BusSteps.{bus_looked, bus_tried, head_read, bus_completed, bus_failed};
+ghost use Rattle.bx_shared.specs.BusSteps.{bus_reaped, GoesNext, IsStarted, IsHeadSent, AreBytesSent, AreFew};
 ghost use Rattle.bx_shared.specs.Seats.{IsAt};
 
 use crate::plays::{BusLook, Complete, Fail, ReadBytes, ReadHead, Reap, Schedule, Start};
@@ -103,7 +104,8 @@ pub(crate) fn fail(words: &Words, seat: &mut Seat, mask: u64) -> u64
     requires bus { seat.old.me ≡ bus_seat (bus_of seat.old.me) seat.old.me.0.routes }
     requires sends { IsSome (bus_of seat.old.me).sends }
     requires mask { (word : ℕ) → word < 2 ^ 64 → IsTransmitting word (bus_of seat.old.me).mailbox
-        → LaneSet word (bus_of seat.old.me).mailbox (lane_of word (bus_of seat.old.me).mailbox - 8) (bit_and word mask) }
+        → LaneSet word (bus_of seat.old.me).mailbox (lane_of word (bus_of seat.old.me).mailbox - 8)
+        (bit_and word mask) }
     ensures table { seat.new.table_id ≡ seat.old.table_id }
     ensures failed { seat.new.me ≡ bus_seat (bus_failed (bus_of seat.old.me) result) seat.old.me.0.routes }
     ensures found { IsTransmitting result (bus_of seat.old.me).mailbox }

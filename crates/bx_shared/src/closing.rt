@@ -1,5 +1,6 @@
 //! The end of the mailboxes: all places are taken back, and what waits is told.
-ghost use Rattle.std.specs.Prelude.{◌≡◌, ℕ, ◌/◌, ◌<◌, ◌≤◌, ◌++◌, ◌∷◌, [], List, Some, false, slice_get, map, length, IfOk};
+ghost use Rattle.std.specs.Prelude.{◌≡◌, ℕ, ◌/◌, ◌<◌, ◌≤◌, ◌++◌, ◌∷◌, [], List};
+ghost use Rattle.std.specs.Prelude.{Some, false, slice_get, map, length, IfOk};
 ghost use Rattle.bx_core.specs.Lists.{Each, Has};
 ghost use Rattle.bx_core.specs.Ties.{AreSides, AllTied, NothingBeyond, as_left};
 ghost use Rattle.bx_core.specs.declared.waiting.Waiting.{Waiting};
@@ -7,7 +8,8 @@ ghost use Rattle.bx_words.specs.Lanes.{lane_of};
 ghost use Rattle.bx_shared.specs.Steps.{bus_seat, bus_of};
 ghost use Rattle.bx_shared.specs.Seats.{IsAt, RoutePlace};
 ghost use Rattle.bx_shared.specs.Sides.{BusAfter, RouteAfter};
-ghost use Rattle.bx_shared.specs.Closing.{AreAllIdle, Ends, IsLast, IsInMailbox, Remains, IsSideOf, AreCounted, routes_of, sealed_seat, waiting_in};
+ghost use Rattle.bx_shared.specs.Closing.{AreAllIdle, Ends, IsLast, IsInMailbox, Remains};
+ghost use Rattle.bx_shared.specs.Closing.{IsSideOf, AreCounted, routes_of, sealed_seat, waiting_in};
 
 use crate::bus_seat::BusSeat;
 use crate::closed::RouteCounts;
@@ -45,7 +47,8 @@ fn join_all(words: &Words, seat: &mut Seat, sides: Vec<RouteSeat>)
     requires bus { seat.old.me ≡ bus_seat (bus_of seat.old.me) seat.old.me.0.routes }
     requires sides { (k : ℕ) (s : RoutePlace) → slice_get sides.items k ≡ Some s → s.table ≡ seat.old.table_id }
     ensures table { seat.new.table_id ≡ seat.old.table_id }
-    ensures joined { seat.new.me ≡ bus_seat (bus_of seat.old.me) (seat.old.me.0.routes ++ map (λ (s : RoutePlace). s.part) sides.items) }
+    ensures joined { seat.new.me ≡ bus_seat (bus_of seat.old.me)
+        (seat.old.me.0.routes ++ map (λ (s : RoutePlace). s.part) sides.items) }
     ensures idle { Each (λ (s : RoutePlace). s.part.claims ≡ false) sides.items }
 {
     for side in sides {
@@ -85,7 +88,8 @@ fn told(words: &Words, seat: &mut Seat, word: u64, mailbox: u8) -> Left
     requires waits { IsInMailbox (waiting_in seat.old.me) word mailbox }
     ensures table { seat.new.table_id ≡ seat.old.table_id }
     ensures same { seat.new.me ≡ seat.old.me }
-    ensures told { (w : Waiting) → Has (waiting_in seat.old.me) w → w.mailbox ≡ mailbox → lane_of word mailbox / 32 ≡ w.route → result ≡ as_left w }
+    ensures told { (w : Waiting) → Has (waiting_in seat.old.me) w → w.mailbox ≡ mailbox → lane_of word mailbox / 32
+        ≡ w.route → result ≡ as_left w }
 {
     let head = read_last(words, seat, 2 * usize::from(mailbox) + 1);
     let bytes = read_last(words, seat, 2 * usize::from(mailbox) + 2);

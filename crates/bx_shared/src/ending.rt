@@ -14,7 +14,8 @@ use crate::route_steps::{Seat, Words, abort, ask, look};
 use bx_core::{Gate, Point};
 use bx_words::{lane, lane_mask, with_abort};
 
-/// The mark of a request that is transmitting; with its abort asked it is greater, and so is that of one that failed then.
+/// The mark of a request that is transmitting; with its abort asked it is greater, and so is that of one that failed
+/// then.
 const TRANSMITTING: u64 = 15;
 
 /// Whether a mailbox holds this number of the route, which last requested `tops` there.
@@ -111,7 +112,8 @@ pub(crate) fn end<G: Gate>(
     gate: &mut G,
 ) -> AbortOutcome
     requires table { IsAt words.now.shared.table_id seat.old.table_id }
-    requires route { (seat.old.me ≡ seat_of (part_of seat.old.me)) × ((part_of seat.old.me).route ≡ route) × (route < 8) }
+    requires route { (seat.old.me ≡ seat_of (part_of seat.old.me)) × ((part_of seat.old.me).route ≡ route)
+        × (route < 8) }
     requires idle { (part_of seat.old.me).claims ≡ false }
     requires tops { (part_of seat.old.me).last ≡ tops.now }
     requires number { (1 ≤ number) × (number ≤ last_number (part_of seat.old.me).requested) }

@@ -48,9 +48,9 @@ impl Mail {
         Ok(deal(alloc, routes, txfp)?)
     }
 
-    /// Ends the mailboxes, given the bus's seat and the seats of all their routes, in order: how many requests each route
-    /// made, and how many ended how, and what waits, the oldest first. `Memory` where a growth was refused: then the
-    /// seats are gone.
+    /// Ends the mailboxes, given the bus's seat and the seats of all their routes, in order: how many requests each
+    /// route made, and how many ended how, and what waits, the oldest first. `Memory` where a growth was refused: then
+    /// the seats are gone.
     pub fn close(alloc: Global, bus: BusSeat, routes: Vec<RouteSeat>) -> Result<Closed, Memory>
         requires all { length routes.items ≡ routes_of bus }
         requires sides { AreSides IsSideOf bus routes.items }

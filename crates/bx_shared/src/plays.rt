@@ -1,6 +1,7 @@
 //! The rule of the seven words, and the names of the steps on them.
 ghost use Rattle.bx_shared.specs.Shown.{IsKept};
-ghost use Rattle.bx_shared.specs.Steps.{Looks, Claims, StoresHead, StoresBytes, Requests, Withdraws, Aborts, Asks, first_view, left_of, right_of, both_of, spent};
+ghost use Rattle.bx_shared.specs.Steps.{Looks, Claims, StoresHead, StoresBytes, Requests, Withdraws};
+ghost use Rattle.bx_shared.specs.Steps.{Aborts, Asks, first_view, left_of, right_of, both_of, spent};
 ghost use Rattle.bx_shared.specs.Closing.{Seals, ReadsLast};
 ghost use Rattle.bx_shared.specs.BusSteps.{BusLooks, Schedules, Starts, ReadsHead, ReadsBytes, Completes, Fails, Reaps};
 

@@ -70,7 +70,8 @@ impl RouteSeat {
         ensures unchanged { OnErr result (self.new ≡ self.old) }
         ensures unheard { OnErr result (gate.new ≡ gate.old) }
         ensures answer { IfOk result (Answers self.old.part self.new.part number frame) }
-        ensures hears { IfOk result (λ answer. Hears G.may_have_heard self.old.part self.new.part answer gate.old gate.new) }
+        ensures hears { IfOk result (λ answer. Hears G.may_have_heard self.old.part self.new.part answer gate.old
+            gate.new) }
     {
         if number > 16_777_215 {
             return Err(NumberTooLarge);
@@ -86,10 +87,10 @@ impl RouteSeat {
     }
 
     /// One try to abort a request under a number of this route's, 1 to its last one (RM0008, bxCAN, "Abort"): a look,
-    /// and at most one exchange. `Aborted` where it was pending or scheduled, and its mailbox is empty now. `Asked` where
-    /// it is transmitting, or was asked to end before: it ends sent, or without another try. `Gone` where the number is in no
-    /// mailbox: it was sent, aborted or reaped, or never requested. `Contended` where the exchange found another word
-    /// than the one looked at: nothing changed. No other request is touched. Takes no memory.
+    /// and at most one exchange. `Aborted` where it was pending or scheduled, and its mailbox is empty now. `Asked`
+    /// where it is transmitting, or was asked to end before: it ends sent, or without another try. `Gone` where the
+    /// number is in no mailbox: it was sent, aborted or reaped, or never requested. `Contended` where the exchange
+    /// found another word than the one looked at: nothing changed. No other request is touched. Takes no memory.
     pub fn abort<G: Gate>(&mut self, number: u32, gate: &mut G) -> AbortOutcome
         requires some { 1 ≤ number }
         requires most { number ≤ last_number self.old.part.requested }

@@ -41,7 +41,8 @@ impl<R> RouteTx<R> for RouteSeat {
         gate: &mut G,
     ) -> Result<Sent, NumberTooLarge>
         requires { last_number self.old.part.requested < number }
-        ensures past { (past : RoutePast) → RouteAfter self.old past → RouteAfter self.new (after_request past number frame result) }
+        ensures past { (past : RoutePast) → RouteAfter self.old past
+            → RouteAfter self.new (after_request past number frame result) }
         ensures limit { IsErr result ↔ (greatest_number < number) }
         ensures unchanged { OnErr result (self.new ≡ self.old) }
         ensures unheard { OnErr result (gate.new ≡ gate.old) }

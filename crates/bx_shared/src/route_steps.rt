@@ -3,7 +3,8 @@ ghost use Rattle.std.specs.Prelude.{◌≡◌, ◌≢◌, ◌⊎◌, ℕ, ◌+�
 ghost use Rattle.bx_core.specs.Steps.{last_number};
 ghost use Rattle.bx_words.specs.Lanes.{lane_of, mark_of, filling, LaneSet, LaneRequested};
 ghost use Rattle.bx_words.specs.Payloads.{IsHead, ArePacked};
-ghost use Rattle.bx_shared.specs.Steps.{seat_of, part_of, looked, missed, claimed, head_stored, bytes_stored, requested, withdrawn, aborted_at, asked_at, IsOwn};
+ghost use Rattle.bx_shared.specs.Steps.{seat_of, part_of, looked, missed, claimed, head_stored};
+ghost use Rattle.bx_shared.specs.Steps.{bytes_stored, requested, withdrawn, aborted_at, asked_at, IsOwn};
 ghost use Rattle.bx_shared.specs.Seats.{IsAt};
 
 use crate::plays::{Abort, Ask, Claim, Look, Request, ShowsCore, StoreBytes, StoreHead, Withdraw};
@@ -41,7 +42,8 @@ pub(crate) fn claim(words: &Words, seat: &mut Seat, mailbox: u8, old: u64, new: 
     requires claim { LaneSet old mailbox (filling (part_of seat.old.me).route) new }
     ensures table { seat.new.table_id ≡ seat.old.table_id }
     ensures claimed { result ≡ old → seat.new.me ≡ seat_of (claimed (part_of seat.old.me) mailbox) }
-    ensures missed { result ≢ old → (seat.new.me ≡ seat_of (missed (part_of seat.old.me) result)) × IsOwn (part_of seat.old.me) result }
+    ensures missed { result ≢ old → (seat.new.me ≡ seat_of (missed (part_of seat.old.me) result))
+        × IsOwn (part_of seat.old.me) result }
 {
     words
         .shared
@@ -86,7 +88,8 @@ pub(crate) fn request(words: &Words, seat: &mut Seat, entry: Entry, old: u64, ne
     requires request { LaneRequested old (part_of seat.old.me).mailbox (filling (part_of seat.old.me).route + 2) new }
     ensures table { seat.new.table_id ≡ seat.old.table_id }
     ensures requested { result ≡ old → seat.new.me ≡ seat_of (requested (part_of seat.old.me) entry) }
-    ensures missed { result ≢ old → (seat.new.me ≡ seat_of (missed (part_of seat.old.me) result)) × IsOwn (part_of seat.old.me) result }
+    ensures missed { result ≢ old → (seat.new.me ≡ seat_of (missed (part_of seat.old.me) result))
+        × IsOwn (part_of seat.old.me) result }
 {
     words
         .shared
@@ -105,7 +108,8 @@ pub(crate) fn withdraw(words: &Words, seat: &mut Seat, mask: u64)
     words.shared.fetch_and::<Withdraw>(seat, 0, mask);
 }
 
-/// One try to take a request out that isn't transmitting. Gives the word found: the mailbox is empty where that is `old`.
+/// One try to take a request out that isn't transmitting. Gives the word found: the mailbox is empty where that is
+/// `old`.
 pub(crate) fn abort(words: &Words, seat: &mut Seat, mailbox: u8, old: u64, new: u64) -> u64
     requires table { IsAt words.now.shared.table_id seat.old.table_id }
     requires route { seat.old.me ≡ seat_of (part_of seat.old.me) }
@@ -117,7 +121,8 @@ pub(crate) fn abort(words: &Words, seat: &mut Seat, mailbox: u8, old: u64, new: 
     requires abort { LaneSet old mailbox 0 new }
     ensures table { seat.new.table_id ≡ seat.old.table_id }
     ensures aborted { result ≡ old → seat.new.me ≡ seat_of (aborted_at (part_of seat.old.me) mailbox) }
-    ensures missed { result ≢ old → (seat.new.me ≡ seat_of (missed (part_of seat.old.me) result)) × IsOwn (part_of seat.old.me) result }
+    ensures missed { result ≢ old → (seat.new.me ≡ seat_of (missed (part_of seat.old.me) result))
+        × IsOwn (part_of seat.old.me) result }
 {
     words
         .shared
@@ -136,7 +141,8 @@ pub(crate) fn ask(words: &Words, seat: &mut Seat, mailbox: u8, old: u64, new: u6
     requires ask { LaneSet old mailbox (lane_of old mailbox + 16) new }
     ensures table { seat.new.table_id ≡ seat.old.table_id }
     ensures asked { result ≡ old → seat.new.me ≡ seat_of (asked_at (part_of seat.old.me) mailbox) }
-    ensures missed { result ≢ old → (seat.new.me ≡ seat_of (missed (part_of seat.old.me) result)) × IsOwn (part_of seat.old.me) result }
+    ensures missed { result ≢ old → (seat.new.me ≡ seat_of (missed (part_of seat.old.me) result))
+        × IsOwn (part_of seat.old.me) result }
 {
     words
         .shared

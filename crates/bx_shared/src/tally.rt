@@ -28,7 +28,8 @@ impl Tally {
     pub(crate) fn add_done(&mut self, item: (u8, u32, Frame))
         requires route { item.0 < 8 }
         requires few { slice_index self.old.done item.0 ≤ greatest_number }
-        ensures { (done : List Item) (reaped : List (ℕ × ℕ)) → IsTally done reaped self.old → IsTally (done ++ item ∷ []) reaped self.new }
+        ensures { (done : List Item) (reaped : List (ℕ × ℕ)) → IsTally done reaped self.old
+            → IsTally (done ++ item ∷ []) reaped self.new }
     {
         self.done[usize::from(item.0)] += 1;
     }
@@ -37,7 +38,8 @@ impl Tally {
     pub(crate) fn add_reaped(&mut self, label: (u8, u32))
         requires route { label.0 < 8 }
         requires few { slice_index self.old.reaped label.0 ≤ greatest_number }
-        ensures { (done : List Item) (reaped : List (ℕ × ℕ)) → IsTally done reaped self.old → IsTally done (reaped ++ label ∷ []) self.new }
+        ensures { (done : List Item) (reaped : List (ℕ × ℕ)) → IsTally done reaped self.old
+            → IsTally done (reaped ++ label ∷ []) self.new }
     {
         self.reaped[usize::from(label.0)] += 1;
     }

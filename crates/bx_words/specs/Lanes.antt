@@ -1,6 +1,7 @@
 -- The control word of a controller's three transmit mailboxes (RM0008, bxCAN, Transmission handling; the layout is this
--- project's). Lane m is bits 8m to 8m + 7: bit 0 claimed, 1 requested, 2 scheduled, 3 transmitting, 4 abort asked, and in bits 5
--- to 7 the route that owns it. Bits 24 to 26 order the mailboxes in pairs. Where bit 27 is set, bits 28 to 63 count requests.
+-- project's). Lane m is bits 8m to 8m + 7: bit 0 claimed, 1 requested, 2 scheduled, 3 transmitting, 4 abort asked, and
+-- in bits 5 to 7 the route that owns it. Bits 24 to 26 order the mailboxes in pairs. Where bit 27 is set, bits 28 to 63
+-- count requests.
 use Rattle.std.specs.Prelude.{◌≡◌, ℕ, ◌+◌, ◌*◌, ◌/◌, ◌%◌, ◌^◌, ◌<◌, ◌≤◌, ◌⊎◌, ◌==◌, if◌then◌else◌, nat_lt}
 
 -- n bits of a word, from bit k on

@@ -1,6 +1,6 @@
--- The two payload words of a mailbox (this project's layout). Head: the identifier in bits 0 to 28, bit 29 for the extended
--- format, bit 30 for a remote frame, the data length code in bits 31 to 34, the request's number in bits 35 to 58. Bytes: byte i in
--- bits 8i to 8i + 7. All other bits are 0.
+-- The two payload words of a mailbox (this project's layout). Head: the identifier in bits 0 to 28, bit 29 for the
+-- extended format, bit 30 for a remote frame, the data length code in bits 31 to 34, the request's number in bits 35 to
+-- 58. Bytes: byte i in bits 8i to 8i + 7. All other bits are 0.
 use Rattle.std.specs.Prelude.{◌≡◌, ℕ, ◌+◌, ◌-◌, ◌*◌, ◌^◌, ◌<◌, Bool, if◌then◌else◌, List, ◌++◌, length, replicate}
 use Rattle.std.specs.Int.{from_le_bytes, w64}
 use Rattle.can_frame.specs.Frames.{FrameValue, IsFrameValue, number_of, is_extended_id}

@@ -1,7 +1,8 @@
 //! The control word's lanes, one a mailbox.
 
 ghost use Rattle.std.specs.Prelude.{◌≡◌, ℕ, ◌+◌, ◌-◌, ◌<◌, ◌^◌, bit_and};
-ghost use Rattle.bx_words.specs.Lanes.{lane_of, mark_of, filling, IsTransmitting, HasCount, IsCounted, LaneSet, LaneYoungest, LaneRequested};
+ghost use Rattle.bx_words.specs.Lanes.{lane_of, mark_of, filling, IsTransmitting};
+ghost use Rattle.bx_words.specs.Lanes.{HasCount, IsCounted, LaneSet, LaneYoungest, LaneRequested};
 
 /// One request, in the count above bit 27.
 const ONE_REQUEST: u64 = 1 << 28;
@@ -24,8 +25,8 @@ pub fn with_claim(word: u64, mailbox: u8, route: u8) -> u64
     word | ((u64::from(route) << 5 | 1) << (8 * mailbox))
 }
 
-/// The word with the frame requested that the route filled into a mailbox. The request is the youngest of all, and it is
-/// counted where bit 27 says that requests are.
+/// The word with the frame requested that the route filled into a mailbox. The request is the youngest of all, and it
+/// is counted where bit 27 says that requests are.
 pub fn with_request(word: u64, mailbox: u8, route: u8) -> u64
     requires mailbox { mailbox < 3 }
     requires route { route < 8 }

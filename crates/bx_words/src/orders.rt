@@ -1,6 +1,7 @@
 //! Which request goes first.
 
-ghost use Rattle.std.specs.Prelude.{◌≡◌, ℕ, ◌<◌, ◌≤◌, ◌⊎◌, true, false, IfSome, IfNone, IsSomeAnd, MatchOption, MatchBool};
+ghost use Rattle.std.specs.Prelude.{◌≡◌, ℕ, ◌<◌, ◌≤◌, ◌⊎◌, true, false, IfSome};
+ghost use Rattle.std.specs.Prelude.{IfNone, IsSomeAnd, MatchOption, MatchBool};
 ghost use Rattle.bx_words.specs.Lanes.{IsRequested, IsOlder};
 ghost use Rattle.bx_words.specs.Orders.{IsOldest, HasNoOldest, GoesBefore, IsLeastOf, NoneRequested};
 
@@ -63,8 +64,9 @@ pub fn oldest(word: u64) -> Option<u8>
     None
 }
 
-/// The mailbox, 0 to 2, of the request with the least (key, mailbox), where `keys` are the arbitration keys of the three
-/// mailboxes' frames; what a mailbox without a request has for a key doesn't matter. `None` where there is no request.
+/// The mailbox, 0 to 2, of the request with the least (key, mailbox), where `keys` are the arbitration keys of the
+/// three mailboxes' frames; what a mailbox without a request has for a key doesn't matter. `None` where there is no
+/// request.
 pub fn least(word: u64, keys: [u32; 3]) -> Option<u8>
     ensures some { IfSome result (IsLeastOf 3 word keys) }
     ensures none { IfNone result (NoneRequested 3 word) }

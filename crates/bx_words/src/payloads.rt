@@ -92,8 +92,8 @@ fn data_frame(id: Id, code: u8, bytes: u64) -> Result<Frame, FrameError>
     Frame::with_bytes(id, &cells[..usize::from(code)])
 }
 
-/// The arbitration key of the frame whose head word this is, as `Frame::arbitration_key` gives it: of two frames that start
-/// at once, that of the lower key wins.
+/// The arbitration key of the frame whose head word this is, as `Frame::arbitration_key` gives it: of two frames that
+/// start at once, that of the lower key wins.
 pub fn key(head: u64) -> u32
     requires { IsHead head }
     ensures { (f : FrameValue) (n : ℕ) → IsHeadOf f n head → result ≡ key_of f }

@@ -5,7 +5,9 @@ use Rattle.std.specs.Prelude.{ℕ, ◌+◌, ◌-◌, ◌||◌, min, nat_lt, nat_
 use Rattle.can_confinement.specs.declared.confinement.Role.{Role}
 use Rattle.can_confinement.specs.declared.confinement.Role.TheVariants.{Sender, Receiver}
 use Rattle.can_confinement.specs.declared.confinement.ErrorEvent.{ErrorEvent}
-use Rattle.can_confinement.specs.declared.confinement.ErrorEvent.TheVariants.{ReceiverError, ReceiverDominant, SenderError, FlagBit, DominantRun, Sent, Received, Recovered}
+use Rattle.can_confinement.specs.declared.confinement.ErrorEvent.TheVariants.{ReceiverError, ReceiverDominant}
+use Rattle.can_confinement.specs.declared.confinement.ErrorEvent.TheVariants.{SenderError, FlagBit, DominantRun}
+use Rattle.can_confinement.specs.declared.confinement.ErrorEvent.TheVariants.{Sent, Received, Recovered}
 use Rattle.can_confinement.specs.declared.confinement.ErrorState.{ErrorState}
 use Rattle.can_confinement.specs.declared.confinement.ErrorState.TheVariants.{Active, Passive, Off}
 

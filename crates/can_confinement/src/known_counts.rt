@@ -18,8 +18,8 @@ pub enum KnownCounts {
 }
 
 impl KnownCounts {
-    /// What is known of these counters, as much as there is to be known: that both counts are 0 where they are (Bosch CAN
-    /// Specification 2.0, part B, 8 FAULT CONFINEMENT).
+    /// What is known of these counters, as much as there is to be known: that both counts are 0 where they are (Bosch
+    /// CAN Specification 2.0, part B, 8 FAULT CONFINEMENT).
     pub fn of(counters: Counters) -> KnownCounts
         ensures known { Knows result counters }
         ensures most { result ≡ known_of (counts_of counters) }

@@ -62,8 +62,10 @@ pub record IsBehindBody (w : List Bool) : Type 0 where
 -- Where each fault comes. Stuff: a sixth equal level in the stuffed region. Form: no rough front goes on with
 -- the level, and it is not in the place of a stuff bit. Ack and Crc: as above.
 abbrev pub FaultAnswers : FaultKind → List Bool → Bool → Type 0
-FaultAnswers Stuff text level = BeginsRegion text × (five_equal (reverse text) ≡ true) × (level ≡ newest (reverse text)) × (BeginsRough (text ++ level ∷ []) → ⊥)
-FaultAnswers Form text level = (BeginsRough (text ++ level ∷ []) → ⊥) × (BeginsRegion text → five_equal (reverse text) ≡ true → ⊥)
+FaultAnswers Stuff text level = BeginsRegion text × (five_equal (reverse text) ≡ true)
+    × (level ≡ newest (reverse text)) × (BeginsRough (text ++ level ∷ []) → ⊥)
+FaultAnswers Form text level = (BeginsRough (text ++ level ∷ []) → ⊥)
+    × (BeginsRegion text → five_equal (reverse text) ≡ true → ⊥)
 FaultAnswers Ack text level = IsAckFault (text ++ level ∷ [])
 FaultAnswers Crc text level = IsCrcFault (text ++ level ∷ [])
 

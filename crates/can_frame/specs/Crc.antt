@@ -16,7 +16,8 @@ add (x ∷ xs) (y ∷ ys) = add_level x y ∷ add xs ys
 -- the generator polynomial, x^15 + x^14 + x^10 + x^8 + x^7 + x^4 + x^3 + 1
 abbrev pub generator : List Bool
 generator =
-    true ∷ true ∷ false ∷ false ∷ false ∷ true ∷ false ∷ true ∷ true ∷ false ∷ false ∷ true ∷ true ∷ false ∷ false ∷ true ∷ []
+    true ∷ true ∷ false ∷ false ∷ false ∷ true ∷ false ∷ true ∷ true ∷ false ∷ false ∷ true ∷ true ∷ false ∷ false
+    ∷ true ∷ []
 
 -- the copies of the generator that begin where `places` has a 1, added up
 unfoldable pub copies : List Bool → List Bool
@@ -27,4 +28,5 @@ copies (true ∷ places) = add generator (false ∷ copies places)
 -- `check` is the CRC sequence of `text`: fifteen levels such that the text followed by them is a sum of
 -- shifted copies of the generator, so that a division by it leaves nothing.
 abbrev pub IsCrc : List Bool → List Bool → Type 0
-IsCrc text check = (length check ≡ 15) × (places : List Bool) × (length places ≡ length text) × (copies places ≡ text ++ check)
+IsCrc text check = (length check ≡ 15) × (places : List Bool) × (length places ≡ length text)
+    × (copies places ≡ text ++ check)

@@ -1,5 +1,6 @@
 -- Fields of a text by their places. Private clauses cite it.
-use Rattle.std.specs.Prelude.{ℕ, zero, suc, ◌+◌, ◌*◌, ◌^◌, Bool, true, false, List, [], ◌∷◌, get_or, if◌then◌else◌, nat_le}
+use Rattle.std.specs.Prelude.{ℕ, zero, suc, ◌+◌, ◌*◌, ◌^◌, Bool, true}
+use Rattle.std.specs.Prelude.{false, List, [], ◌∷◌, get_or, if◌then◌else◌, nat_le}
 use Rattle.can_frame.specs.Frames.{Identifier, standard, extended, content_of, FrameValue}
 
 -- a level as a digit
@@ -54,7 +55,8 @@ length_by b u = base_at b + 8 * bytes_length (rtr_at b u) (at_most_eight (code_a
 abbrev pub frame_by : Bool → List Bool → FrameValue
 frame_by b u = record {
   id = id_at b u;
-  content = content_of (rtr_at b u) (at_most_eight (code_at b u)) (bytes_at u (base_at b) (at_most_eight (code_at b u)));
+  content = content_of (rtr_at b u) (at_most_eight (code_at b u))
+      (bytes_at u (base_at b) (at_most_eight (code_at b u)));
 }
 
 -- how long the fields of a text are that begins so

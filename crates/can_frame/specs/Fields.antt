@@ -41,8 +41,10 @@ code_field over code = if code == 8 then 8 + over else code
 -- bits of the identifier, SRR, IDE, its lower 18, RTR, r1, r0.
 abbrev pub head_levels : Identifier → Bool → Unchecked → List Bool
 head_levels (standard n) remote x = levels 11 n ++ (remote ∷ false ∷ x.r0 ∷ [])
-head_levels (extended n) remote x = levels 11 (n / 2 ^ 18) ++ (x.srr ∷ true ∷ []) ++ levels 18 n ++ (remote ∷ x.r1 ∷ x.r0 ∷ [])
+head_levels (extended n) remote x = levels 11 (n / 2 ^ 18) ++ (x.srr ∷ true ∷ []) ++ levels 18 n
+    ++ (remote ∷ x.r1 ∷ x.r0 ∷ [])
 
 -- SOF, identifier and control bits, the four bits of the data length code, and the bytes
 abbrev pub fields : FrameValue → Unchecked → List Bool
-fields f x = (false ∷ []) ++ head_levels f.id (is_remote f.content) x ++ levels 4 (code_field x.over (length_code f.content)) ++ flat_map (levels 8) (bytes_of f.content)
+fields f x = (false ∷ []) ++ head_levels f.id (is_remote f.content) x
+    ++ levels 4 (code_field x.over (length_code f.content)) ++ flat_map (levels 8) (bytes_of f.content)

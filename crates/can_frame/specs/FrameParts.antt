@@ -24,7 +24,12 @@ remote_of (data_bytes bytes) = false
 remote_of (remote_code code) = true
 
 abbrev pub frame_parts : FrameValue → Inside
-frame_parts f = record { id = f.id; is_remote = remote_of f.content; dlc = dlc_of f.content; bytes = cells_of f.content }
+frame_parts f = record {
+  id = f.id;
+  is_remote = remote_of f.content;
+  dlc = dlc_of f.content;
+  bytes = cells_of f.content;
+}
 
 pub record IsFrame (a : Inside) : Type 0 where
   pub few : a.dlc ≤ 8

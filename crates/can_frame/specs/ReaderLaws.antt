@@ -15,11 +15,13 @@ OneAnswer = (a b : Step) (text : List Bool) (level : Bool) → Answers a text le
 
 -- a reader that is still reading stands after no front and no fault
 abbrev pub ReadingIsUndecided : Type 0
-ReadingIsUndecided = (reader : Reader) (text : List Bool) → StandsAfter reader text → IsReading reader → IsUndecided text
+ReadingIsUndecided = (reader : Reader) (text : List Bool) → StandsAfter reader text → IsReading reader →
+    IsUndecided text
 
 -- a reader that stands after a front has taken its frame
 abbrev pub FrontsAreTaken : Type 0
-FrontsAreTaken = (reader : Reader) (text : List Bool) (f : FrameValue) → StandsAfter reader text → IsFront f text → HasTaken reader f
+FrontsAreTaken = (reader : Reader) (text : List Bool) (f : FrameValue) → StandsAfter reader text → IsFront f text →
+    HasTaken reader f
 
 -- one that has taken a frame stands after a front of it and what came since
 abbrev pub TakenAreFronts : Type 0
@@ -28,10 +30,14 @@ TakenAreFronts = (reader : Reader) (text : List Bool) (f : FrameValue) → Stand
 
 -- a reader that stands after the first fault of a text has answered with a fault that fits there
 abbrev pub FirstFaultsAreAnswered : Type 0
-FirstFaultsAreAnswered = (reader : Reader) (before : List Bool) (level : Bool) (more : List Bool) → StandsAfter reader ((before ++ level ∷ []) ++ more) →
-    IsUndecided before → IsFaulty (before ++ level ∷ []) → (kind : FaultKind) × FaultAnswers kind before level × HasAnswered reader (Fault kind)
+FirstFaultsAreAnswered = (reader : Reader) (before : List Bool) (level : Bool) (more : List Bool) →
+    StandsAfter reader ((before ++ level ∷ []) ++ more) →
+    IsUndecided before → IsFaulty (before ++ level ∷ []) → (kind : FaultKind) × FaultAnswers kind before level
+    × HasAnswered reader (Fault kind)
 
 -- one that has answered with a fault stands after the first fault and what came since
 abbrev pub AnsweredFaultsAreFirst : Type 0
-AnsweredFaultsAreFirst = (reader : Reader) (text : List Bool) (kind : FaultKind) → StandsAfter reader text → HasAnswered reader (Fault kind) →
-    (before : List Bool) × (level : Bool) × (more : List Bool) × (text ≡ (before ++ level ∷ []) ++ more) × IsUndecided before × FaultAnswers kind before level
+AnsweredFaultsAreFirst = (reader : Reader) (text : List Bool) (kind : FaultKind) → StandsAfter reader text →
+    HasAnswered reader (Fault kind) →
+    (before : List Bool) × (level : Bool) × (more : List Bool) × (text ≡ (before ++ level ∷ []) ++ more)
+    × IsUndecided before × FaultAnswers kind before level

@@ -1,6 +1,7 @@
 -- What a reader holds after a text, and what a push does. Contracts cite `StandsAfter`, `IsReading`,
 -- `HasAnswered` and `IsPush`; the rest is how a reader keeps them.
-use Rattle.std.specs.Prelude.{◌≡◌, ◌⊎◌, ℕ, ◌+◌, ◌≤◌, ◌<◌, Bool, true, false, List, [], ◌∷◌, ◌++◌, length, reverse, take, drop, get_or}
+use Rattle.std.specs.Prelude.{◌≡◌, ◌⊎◌, ℕ, ◌+◌, ◌≤◌, ◌<◌, Bool, true, false, List}
+use Rattle.std.specs.Prelude.{[], ◌∷◌, ◌++◌, length, reverse, take, drop, get_or}
 use Rattle.can_frame.specs.Frames.{FrameValue}
 use Rattle.can_frame.specs.Fields.{Unchecked, fields}
 use Rattle.can_frame.specs.Crc.{IsCrc}
@@ -21,7 +22,8 @@ pub record Inside (w u : List Bool) : Type 0 where
   pub stuffed : IsStuffed (reverse w)
   pub stands : unstuffed (reverse w) ≡ reverse u
   pub start : get_or u 0 false ≡ false
-  pub unfinished : (length u < fields_length u + 15) ⊎ ((length u ≡ fields_length u + 15) × (five_equal (reverse w) ≡ true))
+  pub unfinished : (length u < fields_length u + 15)
+      ⊎ ((length u ≡ fields_length u + 15) × (five_equal (reverse w) ≡ true))
 
 -- within the stuffed region: the text ends in this run, and `levels` are what it stands for
 pub record InRegion (run : LevelRun) (levels text : List Bool) : Type 0 where
@@ -125,7 +127,8 @@ TailGoes (Taken frame) f right seen text = Unit {0}
 TailGoes (Fault kind) f right seen text = Unit {0}
 
 -- an answer behind the region fits, and where it leaves the reader
-pub record TailNext (step : Step) (f : FrameValue) (right : Bool) (seen : ℕ) (text : List Bool) (level : Bool) : Type 0 where
+pub record TailNext (step : Step) (f : FrameValue) (right : Bool) (seen : ℕ) (text : List Bool)
+    (level : Bool) : Type 0 where
   pub answer : Answers step text level
   pub goes : TailGoes step f right seen (text ++ level ∷ [])
 

@@ -11,7 +11,8 @@ use Rattle.can_frame.specs.declared.reader.Reader.{Reader}
 -- the levels of the text are pushed in turn, each with the answer at its place
 abbrev pub IsRun : Reader → List Bool → List Step → Reader → Type 0
 IsRun old [] [] new = old ≡ new
-IsRun old (level ∷ text) (step ∷ steps) new = (between : Reader) × IsPush old level step between × IsRun between text steps new
+IsRun old (level ∷ text) (step ∷ steps) new = (between : Reader) × IsPush old level step between
+    × IsRun between text steps new
 IsRun old [] (step ∷ steps) new = ⊥
 IsRun old (level ∷ text) [] new = ⊥
 
@@ -27,6 +28,7 @@ LeadsTo f (Fault kind) = ⊥
 -- The way back: a new reader that is pushed a spelling of a frame, its ACK slot dominant, takes that
 -- frame at the last but one level, and the last one changes nothing.
 abbrev pub SpellingsAreTaken : Type 0
-SpellingsAreTaken = (old new : Reader) (f : FrameValue) (x : Unchecked) (w : List Bool) (steps : List Step) → StandsAfter old [] → IsReading old →
+SpellingsAreTaken = (old new : Reader) (f : FrameValue) (x : Unchecked) (w : List Bool) (steps : List Step) →
+    StandsAfter old [] → IsReading old →
     IsFrameValue f → x.over ≤ 7 → Spells f x false w → IsRun old w steps new →
     (before : List Step) × All (LeadsTo f) before × (steps ≡ before ++ Taken f ∷ Taken f ∷ []) × HasTaken new f

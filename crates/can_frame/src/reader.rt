@@ -241,7 +241,8 @@ impl Reader {
 
     /// So where it stands behind this frame.
     fn reads_behind(&mut self, frame: Frame, right: bool, seen: u8, level: bool) -> bool
-        ensures on { result ≡ true → self.old.place ≡ Place.AfterBody frame right seen → IsPush self.old level Step.Tail self.new }
+        ensures on { result ≡ true → self.old.place ≡ Place.AfterBody frame right seen
+            → IsPush self.old level Step.Tail self.new }
         ensures other { result ≡ false → self.new ≡ self.old }
     {
         if seen >= 8 {

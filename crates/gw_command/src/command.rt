@@ -1,10 +1,14 @@
 //! The command line.
 
-ghost use Rattle.std.specs.Prelude.{◌≡◌, ◌∷◌, [], List, ℕ, Some, None, codes, map, true, false, option_map, IfOk, IfErr, IfSome};
+ghost use Rattle.std.specs.Prelude.{◌≡◌, ◌∷◌, [], List, ℕ, Some, None, codes, map};
+ghost use Rattle.std.specs.Prelude.{true, false, option_map, IfOk, IfErr, IfSome};
 ghost use Rattle.std.specs.Fmt.{decimal};
-ghost use Rattle.clap.specs.Words.{app_of, kind_of, first_of, found_of, one_of, rows_of, rule_of, subcommand_name_of, subcommand_rows_of, HasMatchesOf, Row, Text, takes};
+ghost use Rattle.clap.specs.Words.{app_of, kind_of, first_of, found_of, one_of, rows_of, rule_of};
+ghost use Rattle.clap.specs.Words.{subcommand_name_of, subcommand_rows_of, HasMatchesOf, Row, Text, takes};
 ghost use Rattle.clap.specs.declared.builder.command.Command.TheViews.{out-Command};
-ghost use Rattle.gw_command.specs.Words.{bxgate_app, core_app, turns_app, threads_app, slack_app, run_app, file_rule, number_rule, file_named, name_of, IsTurn, IsThreads, IsSlack, HasRanges, IsRunTask, IsFileName, IsTakenAs, asked_of};
+ghost use Rattle.gw_command.specs.Words.{bxgate_app, core_app, turns_app, threads_app, slack_app};
+ghost use Rattle.gw_command.specs.Words.{run_app, file_rule, number_rule, file_named, name_of, IsTurn};
+ghost use Rattle.gw_command.specs.Words.{IsThreads, IsSlack, HasRanges, IsRunTask, IsFileName, IsTakenAs, asked_of};
 
 use crate::order::Order;
 use crate::task::Task;
@@ -106,7 +110,8 @@ fn run_command<'a>(alloc: Global) -> Result<Command<'a>, AllocError>
 /// The matches of the words, the program's name first.
 fn matches_of<'a, S: AsStr>(alloc: Global, words: &'a [S]) -> Result<ArgMatches<'a>, Error>
     ensures matches { IfOk result (HasMatchesOf bxgate_app (map S.text words.entry.now)) }
-    ensures fails { IfErr result (λ e. takes bxgate_app (map S.text words.entry.now) ≡ true → kind_of e ≡ ErrorKind.OutOfMemory) }
+    ensures fails { IfErr result (λ e. takes bxgate_app (map S.text words.entry.now) ≡ true → kind_of e
+        ≡ ErrorKind.OutOfMemory) }
 {
     let core = core_command(alloc)?;
     let run = run_command(alloc)?;
@@ -131,7 +136,8 @@ fn inline_of(turn: Option<u32>) -> Option<Task>
 
 /// A run in threads with so many threads for the routes and so much slack, if these may be.
 fn threaded_of(threads: u32, slack: Option<u32>) -> Option<Task>
-    ensures asked { (n : ℕ) → slack ≡ Some n → IsSlack n → IsThreads threads → result ≡ Some (Task.RunThreads threads n) }
+    ensures asked { (n : ℕ) → slack ≡ Some n → IsSlack n → IsThreads threads → result
+        ≡ Some (Task.RunThreads threads n) }
     ensures run { IfSome result IsRunTask }
 {
     if threads == 0 || threads > MOST_THREADS {
@@ -149,7 +155,8 @@ fn threaded_of(threads: u32, slack: Option<u32>) -> Option<Task>
 /// A run in threads where their number is given; else in one thread.
 fn run_of(turn: Option<u32>, threads: Option<u32>, slack: Option<u32>) -> Option<Task>
     ensures asked { (n : ℕ) → turn ≡ Some n → IsTurn n → threads ≡ None → result ≡ Some (Task.Run n) }
-    ensures threads { (n m : ℕ) → threads ≡ Some n → IsThreads n → slack ≡ Some m → IsSlack m → result ≡ Some (Task.RunThreads n m) }
+    ensures threads { (n m : ℕ) → threads ≡ Some n → IsThreads n → slack ≡ Some m → IsSlack m → result
+        ≡ Some (Task.RunThreads n m) }
     ensures run { IfSome result IsRunTask }
 {
     match threads {
@@ -162,8 +169,10 @@ fn run_of(turn: Option<u32>, threads: Option<u32>, slack: Option<u32>) -> Option
 fn options_of(options: &ArgMatches<'_>) -> Option<Task>
     ensures asked { (n : ℕ) → IsTurn n → one_of (codes "turn") (rows_of (found_of options.now)) ≡ Some (decimal n)
         → one_of (codes "threads") (rows_of (found_of options.now)) ≡ None → result ≡ Some (Task.Run n) }
-    ensures threads { (n m : ℕ) → IsThreads n → one_of (codes "threads") (rows_of (found_of options.now)) ≡ Some (decimal n)
-        → IsSlack m → one_of (codes "slack") (rows_of (found_of options.now)) ≡ Some (decimal m) → result ≡ Some (Task.RunThreads n m) }
+    ensures threads { (n m : ℕ) → IsThreads n → one_of (codes "threads") (rows_of (found_of options.now))
+        ≡ Some (decimal n)
+        → IsSlack m → one_of (codes "slack") (rows_of (found_of options.now)) ≡ Some (decimal m) → result
+        ≡ Some (Task.RunThreads n m) }
     ensures run { IfSome result IsRunTask }
 {
     let turn = options.get_one::<u32>("turn");
@@ -176,9 +185,12 @@ fn options_of(options: &ArgMatches<'_>) -> Option<Task>
 fn asked_by(matches: &ArgMatches<'_>) -> Option<Task>
     ensures core { subcommand_name_of matches.now ≡ Some (codes "core") → result ≡ Some Task.Core }
     ensures run { (rows : List Row) (n : ℕ) → subcommand_rows_of matches.now ≡ Some (codes "run", rows) → IsTurn n
-        → one_of (codes "turn") rows ≡ Some (decimal n) → one_of (codes "threads") rows ≡ None → result ≡ Some (Task.Run n) }
-    ensures threads { (rows : List Row) (n m : ℕ) → subcommand_rows_of matches.now ≡ Some (codes "run", rows) → IsThreads n
-        → one_of (codes "threads") rows ≡ Some (decimal n) → IsSlack m → one_of (codes "slack") rows ≡ Some (decimal m) → result ≡ Some (Task.RunThreads n m) }
+        → one_of (codes "turn") rows ≡ Some (decimal n) → one_of (codes "threads") rows ≡ None → result
+        ≡ Some (Task.Run n) }
+    ensures threads { (rows : List Row) (n m : ℕ) → subcommand_rows_of matches.now ≡ Some (codes "run", rows)
+        → IsThreads n
+        → one_of (codes "threads") rows ≡ Some (decimal n) → IsSlack m → one_of (codes "slack") rows
+        ≡ Some (decimal m) → result ≡ Some (Task.RunThreads n m) }
     ensures turn { IfSome result HasRanges }
     ensures nothing { subcommand_name_of matches.now ≡ None → result ≡ None }
     ensures name { IfSome result (λ task. subcommand_name_of matches.now ≡ Some (name_of task)) }
@@ -210,7 +222,8 @@ fn order_of<'a>(matches: &ArgMatches<'a>) -> Option<Order<'a>>
     ensures run { (rows : List Row) (n : ℕ) → subcommand_rows_of matches.now ≡ Some (codes "run", rows) → IsTurn n
         → one_of (codes "turn") rows ≡ Some (decimal n) → one_of (codes "threads") rows ≡ None
         → option_map asked_of result ≡ Some (Task.Run n, file_named (first_of (codes "file") rows)) }
-    ensures threads { (rows : List Row) (n m : ℕ) → subcommand_rows_of matches.now ≡ Some (codes "run", rows) → IsThreads n
+    ensures threads { (rows : List Row) (n m : ℕ) → subcommand_rows_of matches.now ≡ Some (codes "run", rows)
+        → IsThreads n
         → one_of (codes "threads") rows ≡ Some (decimal n) → IsSlack m → one_of (codes "slack") rows ≡ Some (decimal m)
         → option_map asked_of result ≡ Some (Task.RunThreads n m, file_named (first_of (codes "file") rows)) }
     ensures turn { IfSome result (λ order. HasRanges order.task) }
@@ -221,25 +234,32 @@ fn order_of<'a>(matches: &ArgMatches<'a>) -> Option<Order<'a>>
     Some(Order { task, file })
 }
 
-/// What the words ask for, the program's name first: `None` where they name no command. The words `core`, `run`,
-/// `run --turn N`, with N from 1 to 1,000,000, and `run --threads N`, with N from 1 to 16 and a slack of 64 bits, are
-/// taken, unless memory runs out, and so are `core FILE` and `run FILE`, with a FILE that doesn't begin with a hyphen or is `-`.
+/// What the words ask for, the program's name first: `None` where they name no command. The words `core`, `run`, `run
+/// --turn N`, with N from 1 to 1,000,000, and `run --threads N`, with N from 1 to 16 and a slack of 64 bits, are taken,
+/// unless memory runs out, and so are `core FILE` and `run FILE`, with a FILE that doesn't begin with a hyphen or is
+/// `-`.
 pub fn task_of<'a, S: AsStr>(alloc: Global, words: &'a [S]) -> Result<Option<Order<'a>>, Error>
-    ensures core { (name : List ℕ) → map S.text words.entry.now ≡ name ∷ codes "core" ∷ [] → IsTakenAs (Some (Task.Core, None)) result }
-    ensures run { (name : List ℕ) → map S.text words.entry.now ≡ name ∷ codes "run" ∷ [] → IsTakenAs (Some (Task.Run 1, None)) result }
+    ensures core { (name : List ℕ) → map S.text words.entry.now ≡ name ∷ codes "core" ∷ []
+        → IsTakenAs (Some (Task.Core, None)) result }
+    ensures run { (name : List ℕ) → map S.text words.entry.now ≡ name ∷ codes "run" ∷ []
+        → IsTakenAs (Some (Task.Run 1, None)) result }
     ensures turns { (name : List ℕ) (n : ℕ) → IsTurn n
-        → map S.text words.entry.now ≡ name ∷ codes "run" ∷ codes "--turn" ∷ decimal n ∷ [] → IsTakenAs (Some (Task.Run n, None)) result }
+        → map S.text words.entry.now ≡ name ∷ codes "run" ∷ codes "--turn" ∷ decimal n ∷ []
+        → IsTakenAs (Some (Task.Run n, None)) result }
     ensures threads { (name : List ℕ) (n : ℕ) → IsThreads n
-        → map S.text words.entry.now ≡ name ∷ codes "run" ∷ codes "--threads" ∷ decimal n ∷ [] → IsTakenAs (Some (Task.RunThreads n 64, None)) result }
+        → map S.text words.entry.now ≡ name ∷ codes "run" ∷ codes "--threads" ∷ decimal n ∷ []
+        → IsTakenAs (Some (Task.RunThreads n 64, None)) result }
     ensures nothing { (name : List ℕ) → map S.text words.entry.now ≡ name ∷ [] → IsTakenAs None result }
     ensures turn { IfOk result (λ order. IfSome order (λ o. HasRanges o.task)) }
     ensures core_hyphen { (name : List ℕ) → map S.text words.entry.now ≡ name ∷ codes "core" ∷ codes "-" ∷ []
         → IsTakenAs (Some (Task.Core, None)) result }
     ensures run_hyphen { (name : List ℕ) → map S.text words.entry.now ≡ name ∷ codes "run" ∷ codes "-" ∷ []
         → IsTakenAs (Some (Task.Run 1, None)) result }
-    ensures core_file { (name file : List ℕ) → IsFileName file → map S.text words.entry.now ≡ name ∷ codes "core" ∷ file ∷ []
+    ensures core_file { (name file : List ℕ) → IsFileName file → map S.text words.entry.now ≡ name ∷ codes "core"
+        ∷ file ∷ []
         → IsTakenAs (Some (Task.Core, Some file)) result }
-    ensures run_file { (name file : List ℕ) → IsFileName file → map S.text words.entry.now ≡ name ∷ codes "run" ∷ file ∷ []
+    ensures run_file { (name file : List ℕ) → IsFileName file → map S.text words.entry.now ≡ name ∷ codes "run" ∷ file
+        ∷ []
         → IsTakenAs (Some (Task.Run 1, Some file)) result }
 {
     match matches_of(alloc, words) {

@@ -17,7 +17,8 @@ use Rattle.gw_fields.specs.Fields.{◌>>=◌, object_of, natural, whole, truth, 
 
 -- 16 or 32
 abbrev pub scale_with : ℕ → Result Scale Fault
-scale_with bits = if bits == 16 then Ok Bits16 else (if bits == 32 then Ok Bits32 else Err (out_of_range (codes "scale")))
+scale_with bits = if bits == 16 then Ok Bits16
+    else (if bits == 32 then Ok Bits32 else Err (out_of_range (codes "scale")))
 
 unfoldable pub scale_of : Json → Result Scale Fault
 scale_of from = do
@@ -26,7 +27,8 @@ scale_of from = do
 
 -- `mask` or `list`
 abbrev pub mode_with : List ℕ → Result Mode Fault
-mode_with word = if bytes_eq word (codes "mask") then Ok mode.Mask else (if bytes_eq word (codes "list") then Ok mode.List else Err (out_of_range (codes "mode")))
+mode_with word = if bytes_eq word (codes "mask") then Ok mode.Mask
+    else (if bytes_eq word (codes "list") then Ok mode.List else Err (out_of_range (codes "mode")))
 
 unfoldable pub mode_of : Json → Result Mode Fault
 mode_of from = do

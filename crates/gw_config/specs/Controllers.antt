@@ -1,5 +1,6 @@
 -- A controller: a node that routes send and receive through.
-use Rattle.std.specs.Prelude.{ℕ, ◌-◌, ◌+◌, ◌==◌, nat_lt, Bool, true, List, [], ◌++◌, length, map, filter, count_by, codes, Option, Some, None, slice_get, Result, Ok, Err, if◌then◌else◌}
+use Rattle.std.specs.Prelude.{ℕ, ◌-◌, ◌+◌, ◌==◌, nat_lt, Bool, true, List, [], ◌++◌, length, map, filter}
+use Rattle.std.specs.Prelude.{count_by, codes, Option, Some, None, slice_get, Result, Ok, Err, if◌then◌else◌}
 use Rattle.json.specs.Json.{Json}
 use Rattle.bx_rx.specs.Bank.{BankValue}
 use Rattle.gw_config.specs.declared.version.Version.{Version}
@@ -28,20 +29,24 @@ controllers_on place controllers = filter (λ (c : ControllerValue). c.segment =
 
 -- The names of a segment's nodes, in node order: its talkers, then the controllers on it.
 abbrev pub node_names : List ControllerValue → ℕ → SegmentValue → List (List ℕ)
-node_names controllers place segment = talker_names segment.talkers ++ controller_names (controllers_on place controllers)
+node_names controllers place segment = talker_names segment.talkers
+    ++ controller_names (controllers_on place controllers)
 
 -- how many nodes the segment at this place has
 abbrev pub node_count : List ControllerValue → ℕ → Option SegmentValue → ℕ
 node_count controllers place None = 0
-node_count controllers place (Some segment) = length segment.talkers + count_by (λ (c : ControllerValue). c.segment == place) controllers
+node_count controllers place (Some segment) =
+    length segment.talkers + count_by (λ (c : ControllerValue). c.segment == place) controllers
 
 -- a controller for which its segment has room
 abbrev pub with_room : List SegmentValue → List ControllerValue → ControllerValue → Result ControllerValue Fault
 with_room segments front c =
-    if nat_lt (node_count front c.segment (slice_get segments c.segment)) most_nodes then Ok c else Err (too_many (codes "controllers"))
+    if nat_lt (node_count front c.segment (slice_get segments c.segment)) most_nodes then Ok c
+    else Err (too_many (codes "controllers"))
 
 -- `on`, `txfp` and `banks` of a controller with this name and segment, and the room for it
-unfoldable pub controller_with : Version → ℕ → List SegmentValue → List ControllerValue → List ℕ → ℕ → Json → Result ControllerValue Fault
+unfoldable pub controller_with : Version → ℕ → List SegmentValue → List ControllerValue → List ℕ → ℕ → Json →
+    Result ControllerValue Fault
 controller_with version bits segments front name segment from = do
   on ← whole (codes "on") 0 (bits - 1) from
   txfp ← optional_truth (codes "txfp") true from
@@ -49,7 +54,8 @@ controller_with version bits segments front name segment from = do
   with_room segments front (record { name = name; segment = segment; on = on; txfp = txfp; banks = banks })
 
 -- A controller in a run of so many bits, behind those in front of it. Its name is none of a talker either.
-unfoldable pub controller_of : Version → ℕ → List SegmentValue → List ControllerValue → Json → Result ControllerValue Fault
+unfoldable pub controller_of : Version → ℕ → List SegmentValue → List ControllerValue → Json →
+    Result ControllerValue Fault
 controller_of version bits segments front value = do
   from ← object_of (codes "controllers") value
   name ← new_name (codes "controllers") (all_talker_names segments ++ controller_names front) from

@@ -22,7 +22,8 @@ or_later place None later = later
 abbrev pub node_from : List ControllerValue → List ℕ → ℕ → List SegmentValue → Option NodePlace
 node_from controllers name place [] = None
 node_from controllers name place (s ∷ ss) =
-    or_later place (position_from (bytes_eq name) 0 (node_names controllers place s)) (node_from controllers name (place + 1) ss)
+    or_later place (position_from (bytes_eq name) 0 (node_names controllers place s))
+    (node_from controllers name (place + 1) ss)
 
 unfoldable pub node_fault : ℕ → List SegmentValue → List ControllerValue → Json → Json → Result PlannedFault Fault
 node_fault bits segments controllers value from = do
@@ -49,7 +50,8 @@ planned_fault_of bits segments controllers value = do
   fault_with bits segments controllers from (get (codes "node") from)
 
 -- at most 10,000 of them, and none where the field is not there
-unfoldable pub planned_faults_of : ℕ → List SegmentValue → List ControllerValue → Json → Result (List PlannedFault) Fault
+unfoldable pub planned_faults_of : ℕ → List SegmentValue → List ControllerValue → Json →
+    Result (List PlannedFault) Fault
 planned_faults_of bits segments controllers from = do
   items ← optional_list (codes "faults") 10000 from
   each (planned_fault_of bits segments controllers) items

@@ -4,4 +4,10 @@ use Rattle.gw_config.specs.Routes.{RouteValue}
 use Rattle.gw_config.specs.declared.route.Route.TheInside.{Inside}
 
 abbrev pub route_view : Inside → RouteValue
-route_view r = record { name = string_bytes r.name; source = r.source; fifo = r.fifo; target = r.target; rewrites = r.rewrites.items }
+route_view r = record {
+  name = string_bytes r.name;
+  source = r.source;
+  fifo = r.fifo;
+  target = r.target;
+  rewrites = r.rewrites.items;
+}

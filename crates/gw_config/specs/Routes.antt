@@ -1,5 +1,6 @@
 -- A route: from a FIFO of one controller into a mailbox of another, or of the same.
-use Rattle.std.specs.Prelude.{ℕ, ◌&&◌, ◌==◌, nat_lt, Bool, List, [], length, map, count_by, codes, Result, Ok, Err, if◌then◌else◌}
+use Rattle.std.specs.Prelude.{ℕ, ◌&&◌, ◌==◌, nat_lt, Bool, List, [], length}
+use Rattle.std.specs.Prelude.{map, count_by, codes, Result, Ok, Err, if◌then◌else◌}
 use Rattle.std.specs.List.{list_any}
 use Rattle.json.specs.Json.{Json}
 use Rattle.can_frame.specs.declared.rewrite.Rewrite.{Rewrite}
@@ -10,7 +11,8 @@ use Rattle.gw_fields.specs.Names.{new_name, place_named}
 use Rattle.gw_config.specs.Controllers.{ControllerValue, controller_names}
 use Rattle.gw_config.specs.Rewrites.{rewrites_of}
 
--- its name, the places of its controllers, the FIFO that it takes from, and the new identifiers under which it sends frames on
+-- its name, the places of its controllers, the FIFO that it takes from, and the new identifiers under which it sends
+-- frames on
 pub record RouteValue : Type 0 where
   pub name : List ℕ
   pub source : ℕ
@@ -29,7 +31,8 @@ takes_from source fifo r = (r.source == source) && (r.fifo == fifo)
 abbrev pub routes_into : ℕ → List RouteValue → ℕ
 routes_into target routes = count_by (λ (r : RouteValue). r.target == target) routes
 
--- Whether there is place for a route behind those in front of it: none takes from its FIFO, and fewer than eight lead into its target.
+-- Whether there is place for a route behind those in front of it: none takes from its FIFO, and fewer than eight lead
+-- into its target.
 abbrev pub placed : List RouteValue → RouteValue → Result RouteValue Fault
 placed front r =
     if list_any (takes_from r.source r.fifo) front then Err (fifo_twice (length front))

@@ -30,7 +30,15 @@ lists_of version bits from = do
   routes ← routes_of version controllers from
   faults ← planned_faults_of bits segments controllers from
   aborts ← planned_aborts_of routes from
-  Ok (record { bits = bits; segments = segments; controllers = controllers; routes = routes; faults = faults; aborts = aborts })
+  Ok (record {
+    bits = bits;
+    segments = segments;
+    controllers = controllers;
+    routes = routes;
+    faults = faults;
+    aborts =
+        aborts;
+  })
 
 -- the script that a JSON value describes, or its first fault
 unfoldable pub script_of : Json → Result ScriptValue Fault

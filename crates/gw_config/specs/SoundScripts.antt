@@ -1,4 +1,5 @@
--- What holds of every script that is read: its ranges, that each place which it names is there, and that names and FIFOs are not used twice.
+-- What holds of every script that is read: its ranges, that each place which it names is there, and that names and
+-- FIFOs are not used twice.
 use Rattle.std.specs.Prelude.{◌≡◌, ◌≢◌, ℕ, ◌<◌, ◌≤◌, List, ◌++◌, length, AllPairs}
 use Rattle.bx_core.specs.Lists.{Each}
 use Rattle.gw_config.specs.declared.planned_fault.PlannedFault.{PlannedFault}
@@ -33,7 +34,8 @@ IsFaultIn bits segments (OnLine segment bit level) = (segment < length segments)
 
 -- its route is there, and numbers and turns are counted from 1
 abbrev pub IsAbortIn : List RouteValue → PlannedAbort → Type 0
-IsAbortIn routes a = (a.route < length routes) × (1 ≤ a.number) × (a.number ≤ 16777215) × (1 ≤ a.turn) × (a.turn ≤ 1000000)
+IsAbortIn routes a = (a.route < length routes) × (1 ≤ a.number) × (a.number ≤ 16777215) × (1 ≤ a.turn)
+    × (a.turn ≤ 1000000)
 
 -- it sends at most 10,000 frames
 abbrev pub HasFewFrames : TalkerValue → Type 0

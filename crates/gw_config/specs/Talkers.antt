@@ -26,7 +26,8 @@ listed_frame value = do
   from ← object_of (codes "frames") value
   frame_of from
 
--- A talker in a run of so many bits, behind those in front of it in its segment. `taken` are the names of the talkers of the segments before.
+-- A talker in a run of so many bits, behind those in front of it in its segment. `taken` are the names of the talkers
+-- of the segments before.
 unfoldable pub talker_of : ℕ → List (List ℕ) → List TalkerValue → Json → Result TalkerValue Fault
 talker_of bits taken front value = do
   from ← object_of (codes "talkers") value
@@ -34,4 +35,5 @@ talker_of bits taken front value = do
   on ← whole (codes "on") 0 (bits - 1) from
   items ← list (codes "frames") 10000 from
   frames ← each listed_frame items
-  if nat_lt (length front) most_nodes then Ok (record { name = name; on = on; frames = frames }) else Err (too_many (codes "talkers"))
+  if nat_lt (length front) most_nodes then Ok (record { name = name; on = on; frames = frames })
+      else Err (too_many (codes "talkers"))

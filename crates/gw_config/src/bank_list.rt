@@ -6,7 +6,8 @@ ghost use Rattle.json.specs.Value.{value_view as view, items_view};
 ghost use Rattle.bx_rx.specs.Bank.{unlisted};
 ghost use Rattle.bx_rx.specs.Banks.{bank_count};
 ghost use Rattle.gw_fields.specs.Faults.{Reads, ReadsUnlessMemory};
-ghost use Rattle.gw_config.specs.BankLists.{scale_with, scale_of, mode_with, mode_of, settings_of, number_of, set_all, banks_with, banks_of};
+ghost use Rattle.gw_config.specs.BankLists.{scale_with, scale_of, mode_with, mode_of};
+ghost use Rattle.gw_config.specs.BankLists.{settings_of, number_of, set_all, banks_with, banks_of};
 
 use crate::version::Version;
 use bx_rx::{Bank, Banks, Mode, Scale};

@@ -28,11 +28,15 @@ pub record TellsFifo (r : RouteReport) (offered : List FrameValue) : Type 0 wher
 -- the report of a route, whose parts were these, where these requests of it wait
 pub record IsEndOf (r : RouteReport) (intake : Intake) (h : HandValue) (waiting : List Entry) : Type 0 where
   -- whatever the two sides of its mailboxes did, if that is tied together, and if the hand matches it
-  pub linked : (room : ℕ) (txfp : Bool) (number : ℕ) (did : BusPast) (past : RoutePast) → length waiting ≤ room → RouteTied txfp number did past waiting →
-      LogMatches h past → r.completed.items ≡ entries_of number did.done → RouteLinked room txfp h.rewrites r (entries_of number did.started)
+  pub linked : (room : ℕ) (txfp : Bool) (number : ℕ) (did : BusPast) (past : RoutePast) → length waiting ≤ room →
+      RouteTied txfp number did past waiting →
+      LogMatches h past → r.completed.items ≡ entries_of number did.done →
+      RouteLinked room txfp h.rewrites r (entries_of number did.started)
   -- and each request that was reaped counts as aborted
-  pub reaped_too : (txfp : Bool) (number : ℕ) (did : BusPast) (past : RoutePast) → RouteTied txfp number did past waiting →
-      LogMatches h past → r.completed.items ≡ entries_of number did.done → Each (Has r.aborted.items) (numbers_of number did.reaped)
+  pub reaped_too : (txfp : Bool) (number : ℕ) (did : BusPast) (past : RoutePast) →
+      RouteTied txfp number did past waiting →
+      LogMatches h past → r.completed.items ≡ entries_of number did.done →
+      Each (Has r.aborted.items) (numbers_of number did.reaped)
   pub released_is : r.released.items ≡ h.released
   -- it was aborted where the log has it and it neither was sent nor waits
   pub aborted_is : r.aborted.items ≡ settled (numbers r.completed.items ++ numbers waiting) h.aborted

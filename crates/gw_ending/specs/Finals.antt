@@ -29,8 +29,8 @@ use Rattle.gw_opening.specs.declared.place.Place.{Place}
 use Rattle.gw_ending.specs.Ends.{IsEndOf}
 use Rattle.gw_ending.specs.Ports.{Port, Site}
 
--- the port of a controller, of which this is told over so many bits: its banks are the script's, its FIFOs were offered what it
--- took, it began nothing that was over, and nothing is told or left of a number that no route has there
+-- the port of a controller, of which this is told over so many bits: its banks are the script's, its FIFOs were offered
+-- what it took, it began nothing that was over, and nothing is told or left of a number that no route has there
 pub record IsDonePort (s : ScriptValue) (controller : ℕ) (tells : List Told) (bits : ℕ) (port : Port) : Type 0 where
   pub value : ControllerValue
   pub value_is : slice_get s.controllers controller ≡ Some value
@@ -38,7 +38,8 @@ pub record IsDonePort (s : ScriptValue) (controller : ℕ) (tells : List Told) (
   pub taken : SinkStands port (all_in taken_in tells)
   pub once : StartsUndone no_bus_past tells
   pub few : length (all_in taken_in tells) ≤ bits
-  pub unasked : (n : ℕ) → length (route_places s controller) ≤ n → NothingOf n (grown no_bus_past tells) port.mail.left.items
+  pub unasked : (n : ℕ) → length (route_places s controller) ≤ n →
+      NothingOf n (grown no_bus_past tells) port.mail.left.items
 
 -- what is told of the controller at a place of a segment
 abbrev pub told_at : Site → ℕ → List Told
@@ -48,13 +49,14 @@ told_at site k = told_of (length site.segment.plan.talkers.items + k) site.segme
 pub record IsDoneSite (s : ScriptValue) (segment : ℕ) (site : Site) : Type 0 where
   pub plan_is : IsPlanOf s segment site.segment.plan
   pub made : length site.segment.levels ≡ s.bits
-  pub ports : Pairs (λ k controller. IsDonePort s controller (told_at site k) (length site.segment.levels)) (controller_places s segment) site.ports.items
+  pub ports : Pairs (λ k controller. IsDonePort s controller (told_at site k) (length site.segment.levels))
+      (controller_places s segment) site.ports.items
 
 abbrev pub AreDoneSites : ScriptValue → List Site → Type 0
 AreDoneSites s sites = Pairs (λ i segment. IsDoneSite s i) s.segments sites
 
--- What a route did of the mailboxes that it leads into: its hand matches it, and it is tied to what is told of their controller
--- and to what is left in them.
+-- What a route did of the mailboxes that it leads into: its hand matches it, and it is tied to what is told of their
+-- controller and to what is left in them.
 pub record ClosesInto (s : ScriptValue) (sites : List Site) (route : RouteValue) (lane : Lane) : Type 0 where
   pub to : Port
   pub to_is : IsAt sites lane.target to
@@ -62,7 +64,8 @@ pub record ClosesInto (s : ScriptValue) (sites : List Site) (route : RouteValue)
   pub value_is : slice_get s.controllers route.target ≡ Some value
   pub past : RoutePast
   pub matches : LogMatches (hand_value lane.hand) past
-  pub tied : RouteTied (priority_of value) lane.number (grown no_bus_past (told_at to_is.site lane.target.port)) past (left_of lane.number to.mail.left.items)
+  pub tied : RouteTied (priority_of value) lane.number (grown no_bus_past (told_at to_is.site lane.target.port)) past
+      (left_of lane.number to.mail.left.items)
 
 -- a route at the end
 pub record IsDoneLane (s : ScriptValue) (sites : List Site) (k : ℕ) (route : RouteValue) (lane : Lane) : Type 0 where
@@ -82,7 +85,8 @@ WaitAtMost room sites = (place : Place) (port : Port) → IsAt sites place port 
 
 -- in front of the controllers on the segment of a place there are so many talkers
 abbrev pub HasTalkers : List Site → Place → ℕ → Type 0
-HasTalkers sites place talkers = (site : Site) → slice_get sites place.site ≡ Some site → length site.segment.plan.talkers.items ≡ talkers
+HasTalkers sites place talkers = (site : Site) → slice_get sites place.site ≡ Some site →
+    length site.segment.plan.talkers.items ≡ talkers
 
 -- the lines of all segments
 abbrev pub lines_at : List Site → List (List Event)
@@ -90,15 +94,18 @@ lines_at sites = map (λ (site : Site). site.segment.events) sites
 
 -- the FIFO that a route takes from was offered some frames
 abbrev pub WasOffered : List Site → Lane → Type 0
-WasOffered sites lane = (port : Port) (intake : Intake) → IsAt sites lane.source port → slot_of port lane.fifo ≡ Some intake → (offered : _) × IntakeStands intake offered
+WasOffered sites lane = (port : Port) (intake : Intake) → IsAt sites lane.source port →
+    slot_of port lane.fifo ≡ Some intake → (offered : _) × IntakeStands intake offered
 
 -- what a route left behind
 pub record EndsLane (sites : List Site) (lane : Lane) (r : RouteReport) : Type 0 where
   pub from : Port
   pub from_is : IsAt sites lane.source from
   pub takes : TakesFrom lane from
-  pub end_is : (to : Port) → IsAt sites lane.target to → IsEndOf r takes.intake (hand_value lane.hand) (left_of lane.number to.mail.left.items)
-  pub completed_is : (to : Port) → (to_is : IsAt sites lane.target to) → r.completed.items ≡ entries_of lane.number (all_in sent_in (told_at to_is.site lane.target.port))
+  pub end_is : (to : Port) → IsAt sites lane.target to →
+      IsEndOf r takes.intake (hand_value lane.hand) (left_of lane.number to.mail.left.items)
+  pub completed_is : (to : Port) → (to_is : IsAt sites lane.target to) →
+      r.completed.items ≡ entries_of lane.number (all_in sent_in (told_at to_is.site lane.target.port))
 
 -- the record of a segment
 pub record IsRecordAt (site : Site) (record_of : Record) : Type 0 where

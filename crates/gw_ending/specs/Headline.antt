@@ -12,7 +12,8 @@ use Rattle.gw_script.specs.declared.route_report.RouteReport.{RouteReport}
 abbrev pub is_among : List ℕ → ℕ → Bool
 is_among numbers n = list_any (λ x. x == n) numbers
 
--- the frames released from the source FIFO, with their numbers, and under the new identifiers that the route gives to them
+-- the frames released from the source FIFO, with their numbers, and under the new identifiers that the route gives to
+-- them
 abbrev pub released : List Rewrite → RouteReport → List Entry
 released rewrites r = numbered 1 (map (rewritten rewrites) r.released.items)
 
@@ -45,9 +46,10 @@ NotRefilled rewrites r started = Each (Has (released rewrites r)) started
 abbrev pub Balances : RouteReport → Type 0
 Balances r = r.accepted ≡ length r.completed.items + length r.aborted.items + r.overrun + r.held
 
--- all of it, for a route with these new identifiers into a controller of this priority; and no more is held than the FIFO,
--- the hand and the mailboxes, which have room for so many, can hold
-pub record Headline (room : ℕ) (txfp : Bool) (rewrites : List Rewrite) (r : RouteReport) (started : List Entry) : Type 0 where
+-- all of it, for a route with these new identifiers into a controller of this priority; and no more is held than the
+-- FIFO, the hand and the mailboxes, which have room for so many, can hold
+pub record Headline (room : ℕ) (txfp : Bool) (rewrites : List Rewrite) (r : RouteReport)
+    (started : List Entry) : Type 0 where
   pub order : OrderBy txfp rewrites r
   pub no_refill : NotRefilled rewrites r started
   pub sum : Balances r

@@ -17,9 +17,10 @@ settle ended so_far n = if is_among ended n then so_far else if is_among so_far 
 abbrev pub settled : List ℕ → List ℕ → List ℕ
 settled ended logged = fold (settle ended) [] logged
 
--- under the room of the mailboxes that it leads into, their priority and the route's new identifiers: a route's report, the
--- starts of its frames, and the links between FIFO, hand and mailboxes
-pub record RouteLinked (room : ℕ) (txfp : Bool) (rewrites : List Rewrite) (r : RouteReport) (started : List Entry) : Type 0 where
+-- under the room of the mailboxes that it leads into, their priority and the route's new identifiers: a route's report,
+-- the starts of its frames, and the links between FIFO, hand and mailboxes
+pub record RouteLinked (room : ℕ) (txfp : Bool) (rewrites : List Rewrite) (r : RouteReport)
+    (started : List Entry) : Type 0 where
   -- what the mailboxes keep of the route: its lists, and the numbers that wait
   pub lists : RouteLists
   pub waiting : List ℕ

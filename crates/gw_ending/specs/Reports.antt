@@ -38,7 +38,8 @@ NeverAgain plan events = (k : ℕ) → k < length plan.controllers.items →
 -- of two attempts of one request of a controller the earlier one failed, and the request did not end by it
 abbrev pub TriesFailures : SegmentPlan → Record → Type 0
 TriesFailures plan record_of =
-    (trace : List Bit) → Run plan trace record_of.levels.items record_of.events.items → (k : ℕ) → k < length plan.controllers.items →
+    (trace : List Bit) → Run plan trace record_of.levels.items record_of.events.items → (k : ℕ) →
+    k < length plan.controllers.items →
     RequestsTryFailures plan trace (length plan.talkers.items + k)
 
 -- the record of a segment is that of a run of it over all the script's bits, whatever its faults are
@@ -73,9 +74,10 @@ pub record AreToldOf (s : ScriptValue) (lines : List (List Event)) (controller :
 abbrev pub aborted_in : ScriptValue → ℕ → List ℕ
 aborted_in s route = numbers_in (aborts_of s route)
 
--- What became of the frames of a route, by what the lines of the segments tell of its two controllers, whose mailboxes have
--- room for so many requests.
-pub record IsRouteRun (room : ℕ) (s : ScriptValue) (lines : List (List Event)) (place : ℕ) (route : RouteValue) (r : RouteReport) : Type 0 where
+-- What became of the frames of a route, by what the lines of the segments tell of its two controllers, whose mailboxes
+-- have room for so many requests.
+pub record IsRouteRun (room : ℕ) (s : ScriptValue) (lines : List (List Event)) (place : ℕ) (route : RouteValue)
+    (r : RouteReport) : Type 0 where
   -- what is told of the controller that it takes from, and of the one that it leads into
   pub from : List Told
   pub from_is : AreToldOf s lines route.source from
@@ -92,8 +94,8 @@ pub record IsRouteRun (room : ℕ) (s : ScriptValue) (lines : List (List Event))
   pub completed_is : r.completed.items ≡ entries_of number (all_in sent_in to)
   -- the claims, given what its target started of its requests
   pub claims : Headline room (priority_of to_is.value) route.rewrites r (entries_of number (all_in start_in to))
-  -- the aborted numbers differ; aborts of the script name them, in this order; each is one of the released frames; and each
-  -- request that a line calls reaped is among them
+  -- the aborted numbers differ; aborts of the script name them, in this order; each is one of the released frames; and
+  -- each request that a line calls reaped is among them
   pub apart : AllPairs (λ number later. number ≢ later) r.aborted.items
   pub named : IsSublist r.aborted.items (aborted_in s place)
   pub released_too : Each (Has (numbers (released route.rewrites r))) r.aborted.items
@@ -111,7 +113,8 @@ AreOrdered s report = Pairs (λ place route. OrderInto s route) s.routes report.
 
 -- what became of the frames of each route
 abbrev pub RunsRoutes : ℕ → ScriptValue → Report → Type 0
-RunsRoutes room s report = Pairs (λ place route. IsRouteRun room s (lines_of report) place route) s.routes report.routes.items
+RunsRoutes room s report = Pairs (λ place route. IsRouteRun room s (lines_of report) place route) s.routes
+    report.routes.items
 
 -- what was started of a route's requests, as the lines of its target show it
 pub record AreStartsOf (s : ScriptValue) (lines : List (List Event)) (place : ℕ) (started : List Entry) : Type 0 where

@@ -14,7 +14,8 @@ ghost use Rattle.gw_opening.specs.Places.{IsAt, PortChanges};
 ghost use Rattle.gw_opening.specs.Openings.{Takes};
 ghost use Rattle.gw_opening.specs.Slots.{SetsSlot};
 ghost use Rattle.gw_ending.specs.Ends.{IsEndOf};
-ghost use Rattle.gw_ending.specs.Finals.{AreDoneSites, IsOver, IsRecordAt, EndsLane, WasOffered, WaitAtMost, HasTalkers, lines_at, told_at};
+ghost use Rattle.gw_ending.specs.Finals.{AreDoneSites, IsOver, IsRecordAt, EndsLane};
+ghost use Rattle.gw_ending.specs.Finals.{WasOffered, WaitAtMost, HasTalkers, lines_at, told_at};
 ghost use Rattle.gw_ending.specs.Ports.{Port as AnyClosed};
 ghost use Rattle.gw_ending.specs.Reports.{IsRouteRun};
 
@@ -43,7 +44,8 @@ fn sent_at(
     requires there { (port : AnyClosed) × IsAt sites.now place port }
     requires talkers { HasTalkers sites.now place talkers }
     requires few { talkers + place.port < 4294967296 }
-    ensures { IfOk result (λ all. (port : AnyClosed) → (at : IsAt sites.now place port) → all.items ≡ entries_of number (all_in sent_in (told_at at.site place.port))) }
+    ensures { IfOk result (λ all. (port : AnyClosed) → (at : IsAt sites.now place port) → all.items
+        ≡ entries_of number (all_in sent_in (told_at at.site place.port))) }
 {
     let node = (talkers + place.port) as u32;
     let record = sites[place.site].segment.record();
@@ -76,7 +78,8 @@ fn end_hand<R: Wait>(
     requires talkers { HasTalkers sites.now target talkers }
     requires few { talkers + target.port < 4294967296 }
     requires room { WaitAtMost 12 sites.now }
-    ensures ends { IfOk result (λ r. (to : AnyClosed) → IsAt sites.now target to → IsEndOf r intake (hand_value hand) (left_of number to.mail.left.items)) }
+    ensures ends { IfOk result (λ r. (to : AnyClosed) → IsAt sites.now target to
+        → IsEndOf r intake (hand_value hand) (left_of number to.mail.left.items)) }
     ensures completed { IfOk result (λ r. (to : AnyClosed) → (to_is : IsAt sites.now target to)
         → r.completed.items ≡ entries_of number (all_in sent_in (told_at to_is.site target.port))) }
 {

@@ -27,7 +27,8 @@ pub fn end_run<R: Wait>(
     requires over { IsOver script.now sites.items lanes.items }
     requires few { WaitAtMost 12 sites.items }
     ensures segments { IfOk result (RunsSegments script.now) }
-    ensures routes { IfOk result (λ report. (room : ℕ) → WaitAtMost room sites.items → RunsRoutes room script.now report) }
+    ensures routes { IfOk result (λ report. (room : ℕ) → WaitAtMost room sites.items
+        → RunsRoutes room script.now report) }
     ensures names { IfOk result (Names script.now) }
 {
     let mut sites = sites;

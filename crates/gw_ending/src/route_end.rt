@@ -43,7 +43,8 @@ pub(crate) fn report_of<R: Wait>(
     requires intake { (offered : List FrameValue) × IntakeStands intake offered }
     requires few { length waiting.now ≤ 12 }
     ensures completed { IfOk result (λ r. r.completed.items ≡ completed.items) }
-    ensures ends { IfOk result (λ r. (left : List Entry) → numbers left ≡ waiting.now → IsEndOf r intake (hand_value hand) left) }
+    ensures ends { IfOk result (λ r. (left : List Entry) → numbers left ≡ waiting.now
+        → IsEndOf r intake (hand_value hand) left) }
 {
     let RouteHand {
         out,

@@ -1,5 +1,6 @@
 -- What a field of a JSON object says, or its first fault: missing, of a wrong kind, out of its range.
-use Rattle.std.specs.Prelude.{ℕ, suc, ◌^◌, ◌&&◌, nat_le, nat_lt, Bool, List, [], ◌∷◌, ◌++◌, length, Option, Some, None, option_and_then, Result, Ok, Err, if◌then◌else◌}
+use Rattle.std.specs.Prelude.{ℕ, suc, ◌^◌, ◌&&◌, nat_le, nat_lt, Bool, List, [], ◌∷◌, ◌++◌, length}
+use Rattle.std.specs.Prelude.{Option, Some, None, option_and_then, Result, Ok, Err, if◌then◌else◌}
 use Rattle.std.specs.Str.{all_ascii_digits}
 use Rattle.std.specs.Str.Parse.{without_leading_plus, digits_value}
 use Rattle.json.specs.Json.{Json, Items, no_items, item}
@@ -31,7 +32,8 @@ abbrev pub is_numeral : List ℕ → Bool
 is_numeral text = nat_lt 0 (length text) && all_ascii_digits text
 
 abbrev pub numeral_below : ℕ → List ℕ → Option ℕ
-numeral_below limit text = if is_numeral text && nat_lt (digits_value 10 text) limit then Some (digits_value 10 text) else None
+numeral_below limit text = if is_numeral text && nat_lt (digits_value 10 text) limit then Some (digits_value 10 text)
+    else None
 
 -- What std's `parse` reads as 64 bits without a sign. It takes a plus in front, which no number of JSON has.
 abbrev pub whole_number : List ℕ → Option ℕ

@@ -1,13 +1,16 @@
 -- The JSON value that tokens begin with, in which each number is finite.
-use Rattle.std.specs.Prelude.{◌≡◌, ℕ, ◌&&◌, List, length, Bool, true, false, Option, Some, None, option_map, unwrap_or, if◌then◌else◌}
+use Rattle.std.specs.Prelude.{◌≡◌, ℕ, ◌&&◌, List, length, Bool, true, false}
+use Rattle.std.specs.Prelude.{Option, Some, None, option_map, unwrap_or, if◌then◌else◌}
 use Rattle.std.specs.Float.{binary64, float_is_finite}
 use Rattle.std.specs.Float.Parse.{parse_float}
 use Rattle.json.specs.Token.{Token}
-use Rattle.json.specs.Json.{Json, null, boolean, number, string, array, object, Items, no_items, item, Members, no_members, member, items, members, value}
+use Rattle.json.specs.Json.{Json, null, boolean, number, string, array, object, Items}
+use Rattle.json.specs.Json.{no_items, item, Members, no_members, member, items, members, value}
 use Rattle.gw_fields.specs.declared.script_fault.ScriptFault.{ScriptFault}
 use Rattle.gw_fields.specs.Faults.{UnlessMemory, not_json}
 
--- The number's nearest floating-point number of 64 bits is no infinity, so 1e400 is out. JSON sets no range itself (RFC 8259).
+-- The number's nearest floating-point number of 64 bits is no infinity, so 1e400 is out. JSON sets no range itself (RFC
+-- 8259).
 abbrev pub is_finite_number : List ℕ → Bool
 is_finite_number text = unwrap_or (option_map float_is_finite (parse_float binary64 text)) false
 

@@ -4,7 +4,9 @@ ghost use Rattle.std.specs.Prelude.{◌≡◌, ◌≤◌, Bool, [], IfOk, IsOkAn
 ghost use Rattle.json.specs.Value.{value_view as view, items_view};
 ghost use Rattle.json.specs.Find.{as_array, as_object};
 ghost use Rattle.gw_fields.specs.Faults.{Reads};
-ghost use Rattle.gw_fields.specs.Fields.{object_of, field, natural_of, whole_of, natural, whole, truth, optional_truth, text_of, text, list_of, list, some_list, filled_list, optional_list};
+ghost use Rattle.gw_fields.specs.Fields.{object_of, field, natural_of, whole_of, natural, whole, truth};
+ghost use Rattle.gw_fields.specs.Fields.{optional_truth, text_of, text, list_of, list, some_list, filled_list};
+ghost use Rattle.gw_fields.specs.Fields.{optional_list};
 
 use crate::script_fault::ScriptFault;
 use json::Value;

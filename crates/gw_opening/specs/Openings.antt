@@ -87,9 +87,11 @@ pub record Opens {B : Type 0} (s : ScriptValue) (sites : List (Site (Port B))) (
 
 -- at each place the mailboxes are what they were
 abbrev pub SameMails : {B : Type 0} → List (Site (Port B)) → List (Site (Port B)) → Type 0
-SameMails {B} old new = (place : Place) (late : Port B) → IsAt new place late → (port : Port B) × IsAt old place port × (late.mail ≡ port.mail)
+SameMails {B} old new = (place : Place) (late : Port B) → IsAt new place late → (port : Port B) × IsAt old place port
+    × (late.mail ≡ port.mail)
 
 -- at the place of each controller there are mailboxes of its priority, for the routes into it, of which this holds
 abbrev pub HaveMails : {B : Type 0} → (Bool → ℕ → B → Type 0) → ScriptValue → List (Site (Port B)) → Type 0
-HaveMails {B} NewMail s sites = (place : Place) (port : Port B) (controller : ℕ) (value : ControllerValue) → IsAt sites place port → IsPlaceOf s controller place →
+HaveMails {B} NewMail s sites = (place : Place) (port : Port B) (controller : ℕ) (value : ControllerValue) →
+    IsAt sites place port → IsPlaceOf s controller place →
     slice_get s.controllers controller ≡ Some value → NewMail (priority_of value) (routes_at s controller) port.mail

@@ -23,7 +23,8 @@ pub record TakesFrom {B : Type 0} (lane : Lane) (port : Port B) : Type 0 where
   pub queue_is : intake.rxin.queue ≡ lane.hand.out.queue
 
 -- the port at this place changes so, and nothing else
-pub record PortChanges {B : Type 0} (Change : Port B → Port B → Type 0) (old new : List (Site (Port B))) (place : Place) : Type 0 where
+pub record PortChanges {B : Type 0} (Change : Port B → Port B → Type 0) (old new : List (Site (Port B)))
+    (place : Place) : Type 0 where
   pub site : Site (Port B)
   pub late_site : Site (Port B)
   pub port : Port B

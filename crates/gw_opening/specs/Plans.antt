@@ -22,13 +22,15 @@ IsSmall (OnLine place bit level) = Unit {0}
 
 -- a fault at a node of this segment
 abbrev pub node_fault_in : ℕ → PlannedFault → Option NodeFault
-node_fault_in segment (AtNode node bit) = if node.segment == segment then Some (record { node = node.place; bit = bit }) else None
+node_fault_in segment (AtNode node bit) =
+    if node.segment == segment then Some (record { node = node.place; bit = bit }) else None
 node_fault_in segment (OnLine place bit level) = None
 
 -- a fault on the line of this segment
 abbrev pub line_fault_in : ℕ → PlannedFault → Option LineFault
 line_fault_in segment (AtNode node bit) = None
-line_fault_in segment (OnLine place bit level) = if place == segment then Some (record { bit = bit; level = level }) else None
+line_fault_in segment (OnLine place bit level) = if place == segment then Some (record { bit = bit; level = level })
+    else None
 
 -- a talker is switched on and sends as the script says
 pub record IsTalkerOf (said : TalkerValue) (talker : Talker) : Type 0 where
@@ -39,8 +41,8 @@ pub record IsTalkerOf (said : TalkerValue) (talker : Talker) : Type 0 where
 abbrev pub IsControllerOf : ControllerValue → Controller → Type 0
 IsControllerOf said controller = controller.on ≡ said.on
 
--- the plan of the segment at this place: all the script's bits, its talkers, the controllers on it, and its faults, each
--- in the order of the script
+-- the plan of the segment at this place: all the script's bits, its talkers, the controllers on it, and its faults,
+-- each in the order of the script
 pub record IsPlanOf (s : ScriptValue) (segment : ℕ) (plan : SegmentPlan) : Type 0 where
   pub bits_is : plan.bits ≡ s.bits
   pub talkers : Pairs (λ k. IsTalkerOf) (talkers_on (slice_get s.segments segment)) plan.talkers.items

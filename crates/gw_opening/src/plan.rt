@@ -37,7 +37,8 @@ fn controllers_of(
     script: &Script,
     segment: usize,
 ) -> Result<Vec<Controller>, AllocError>
-    ensures { IfOk result (λ controllers. Pairs (λ k. IsControllerOf) (controllers_on segment script.now.controllers) controllers.items) }
+    ensures { IfOk result (λ controllers. Pairs (λ k. IsControllerOf) (controllers_on segment script.now.controllers)
+        controllers.items) }
 {
     let mut controllers = Vec::new(alloc);
     for nth in 0..controller_count(script, segment) {

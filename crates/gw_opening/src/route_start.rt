@@ -105,7 +105,8 @@ fn start_lane<B>(
     ensures lane { IfOk result (λ lane. (value : RouteValue) → slice_get script.now.routes route ≡ Some value
         → IsNewLane script.now route value lane) }
     ensures takes { IfOk result (Takes sites.new) }
-    ensures others { IfOk result (λ lane. (other : Lane) → TakesApart other lane → Takes sites.old other → Takes sites.new other) }
+    ensures others { IfOk result (λ lane. (other : Lane) → TakesApart other lane → Takes sites.old other
+        → Takes sites.new other) }
 {
     let (intake, out) = match fifo_of(alloc) {
         Ok(sides) => sides,

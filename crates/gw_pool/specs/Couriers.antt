@@ -15,8 +15,10 @@ pub record CourierHolds {S : Type 0} (after : S → RoutePast → Type 0) (hand 
 abbrev pub IsReadyCourier : {S G : Type 0} (after : S → RoutePast → Type 0) → Courier S G → Type 0
 IsReadyCourier after courier = CourierHolds after courier.hand courier.side
 
--- It still does, after turns; and these leave its FIFO, its new identifiers, the plan of its aborts, and which side it is.
-pub record CourierMoves {S : Type 0} (after : S → RoutePast → Type 0) (stays : S → S → Type 0) (old new : RouteHand) (from to : S) : Type 0 where
+-- It still does, after turns; and these leave its FIFO, its new identifiers, the plan of its aborts, and which side it
+-- is.
+pub record CourierMoves {S : Type 0} (after : S → RoutePast → Type 0) (stays : S → S → Type 0) (old new : RouteHand)
+    (from to : S) : Type 0 where
   pub holds : CourierHolds after new to
   pub stays_on : stays from to
   pub queue_is : new.out.queue ≡ old.out.queue
@@ -24,5 +26,6 @@ pub record CourierMoves {S : Type 0} (after : S → RoutePast → Type 0) (stays
   pub plan : (planned : List RouteAbort) → FromPlan planned (hand_value old) → FromPlan planned (hand_value new)
 
 -- the courier at the end, beside the one at the start
-abbrev pub CourierRuns : {S G : Type 0} (after : S → RoutePast → Type 0) (stays : S → S → Type 0) → Courier S G → Courier S G → Type 0
+abbrev pub CourierRuns : {S G : Type 0} (after : S → RoutePast → Type 0) (stays : S → S → Type 0) → Courier S G →
+    Courier S G → Type 0
 CourierRuns after stays old new = CourierMoves after stays old.hand new.hand old.side new.side

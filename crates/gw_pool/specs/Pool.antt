@@ -20,7 +20,8 @@ total f (v ∷ vs) = f v + total f vs
 
 -- a seat with no part has put and taken nothing
 abbrev pub IdleIsEmpty : List Account → Type 0
-IdleIsEmpty views = (seat : ℕ) (v : Account) → get_elem? views seat ≡ some v → v.parts ≡ 0 → (v.put ≡ []) × (v.taken ≡ [])
+IdleIsEmpty views = (seat : ℕ) (v : Account) → get_elem? views seat ≡ some v → v.parts ≡ 0 → (v.put ≡ [])
+    × (v.taken ≡ [])
 
 -- what was put is what was taken and what the queue holds, however the places are weighed: so each place as often
 abbrev pub Balanced : {X : Type 0} → (X → ℕ) → List X → List Account → Type 0

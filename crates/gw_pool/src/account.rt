@@ -1,8 +1,8 @@
 //! What a seat at a pool did.
 use std::collections::LinkedList;
 
-/// What a seat at a pool put and took, and its parts of the right to know the whole. Contracts alone see it: no value of
-/// it is made.
+/// What a seat at a pool put and took, and its parts of the right to know the whole. Contracts alone see it: no value
+/// of it is made.
 pub struct Account {
     /// Its parts.
     pub parts: u64,

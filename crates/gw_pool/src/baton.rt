@@ -86,7 +86,8 @@ impl<R, S: RouteTx<R>, G, J: Dealing<S, G>> Baton<R, S, G, J> {
 
     /// The route is taken out: it is the one that was dealt at its place, after turns.
     pub fn end(self) -> Courier<S, G>
-        ensures { (start : Courier S G) → slice_get J.dealt self ≡ Some start → CourierRuns S.route_after S.stays start result }
+        ensures { (start : Courier S G) → slice_get J.dealt self ≡ Some start
+            → CourierRuns S.route_after S.stays start result }
     {
         let Baton {
             place: _,

@@ -18,8 +18,8 @@ pub trait Placed {
     ghost place: { Self → ℕ };
 }
 
-/// A seat at a pool, a queue of sixteen batons, which may be in a thread of its own. Contracts see which queue it is at,
-/// and what it put and took there.
+/// A seat at a pool, a queue of sixteen batons, which may be in a thread of its own. Contracts see which queue it is
+/// at, and what it put and took there.
 #[derive(Drop)]
 pub struct PoolSeat<X: Placed> {
     queue: Arc<Batons<X>, Global>,
@@ -53,7 +53,8 @@ impl<X: Placed + Drop> PoolSeat<X> {
     pub fn recruit(&mut self) -> Result<PoolSeat<X>, AllocError>
         requires { 1 < self.old.account.parts }
         ensures queue { self.new.queue ≡ self.old.queue }
-        ensures rest { OnOk result (self.new.account ≡ account (self.old.account.parts - 1) self.old.account.put self.old.account.taken) }
+        ensures rest { OnOk result (self.new.account ≡ account (self.old.account.parts - 1) self.old.account.put
+            self.old.account.taken) }
         ensures same { OnErr result (self.new ≡ self.old) }
         ensures theirs { IfOk result (λ seat. seat.queue ≡ self.old.queue) }
         ensures new { IfOk result (λ seat. seat.account ≡ account 1 [] []) }
@@ -79,7 +80,8 @@ impl<X: Placed + Drop> PoolSeat<X> {
     pub fn put<R: Wait>(&mut self, rt: &R, baton: X)
         requires { 0 < self.old.account.parts }
         ensures queue { self.new.queue ≡ self.old.queue }
-        ensures put { self.new.account ≡ account self.old.account.parts (self.old.account.put ++ X.place baton ∷ []) self.old.account.taken }
+        ensures put { self.new.account ≡ account self.old.account.parts (self.old.account.put ++ X.place baton ∷ [])
+            self.old.account.taken }
     {
         let mut next = baton;
         for _try in rt.forever() {
@@ -96,18 +98,20 @@ impl<X: Placed + Drop> PoolSeat<X> {
     pub fn take(&mut self) -> Option<X>
         requires { 0 < self.old.account.parts }
         ensures queue { self.new.queue ≡ self.old.queue }
-        ensures taken { IfSome result (λ x. self.new.account ≡ account self.old.account.parts self.old.account.put (self.old.account.taken ++ X.place x ∷ [])) }
+        ensures taken { IfSome result (λ x. self.new.account
+            ≡ account self.old.account.parts self.old.account.put (self.old.account.taken ++ X.place x ∷ [])) }
         ensures none { IfNone result (self.new ≡ self.old) }
     {
         self.queue.try_pop_as::<Takes>(&mut self.pass)
     }
 
-    /// Takes the next baton that is left, by the seat that has all parts. `None` only where each baton was taken as often
-    /// as it was put.
+    /// Takes the next baton that is left, by the seat that has all parts. `None` only where each baton was taken as
+    /// often as it was put.
     pub fn collect<R: Wait>(&mut self, rt: &R) -> Option<X>
         requires { self.old.account.parts ≡ 1024 }
         ensures queue { self.new.queue ≡ self.old.queue }
-        ensures taken { IfSome result (λ x. self.new.account ≡ account 1024 self.old.account.put (self.old.account.taken ++ X.place x ∷ [])) }
+        ensures taken { IfSome result (λ x. self.new.account
+            ≡ account 1024 self.old.account.put (self.old.account.taken ++ X.place x ∷ [])) }
         ensures none { IfNone result (self.new ≡ self.old) }
         ensures all { IfNone result ((h : ℕ → ℕ) → weigh h self.old.account.put ≡ weigh h self.old.account.taken) }
     {

@@ -1,5 +1,6 @@
 -- The report on an event list: a line for each refused event, then for each route what was done and a line of counts.
-use Rattle.std.specs.Prelude.{◌≡◌, ℕ, zero, suc, ◌+◌, Bool, true, false, List, [], ◌∷◌, ◌++◌, map, length, codes, Result, Ok, Err}
+use Rattle.std.specs.Prelude.{◌≡◌, ℕ, zero, suc, ◌+◌, Bool, true, false, List}
+use Rattle.std.specs.Prelude.{[], ◌∷◌, ◌++◌, map, length, codes, Result, Ok, Err}
 use Rattle.std.specs.Fmt.{decimal}
 use Rattle.can_frame.specs.Frames.{FrameValue}
 use Rattle.can_frame.specs.Fields.{senders_choice}
@@ -7,7 +8,8 @@ use Rattle.can_frame.specs.Spelling.{Spells}
 use Rattle.bx_core.specs.declared.entry.Entry.{Entry}
 use Rattle.bx_core.specs.declared.event.Event.{Event}
 use Rattle.bx_core.specs.declared.refused.Refused.{Refused}
-use Rattle.bx_core.specs.declared.refused.Refused.TheVariants.{NotEmpty, NotOwner, NotOldest, WrongState, NumberOrder, Memory}
+use Rattle.bx_core.specs.declared.refused.Refused.TheVariants.{NotEmpty, NotOwner, NotOldest}
+use Rattle.bx_core.specs.declared.refused.Refused.TheVariants.{WrongState, NumberOrder, Memory}
 use Rattle.bx_core.specs.States.{State, RouteLists, opening_by, lists_of, waits_of}
 use Rattle.bx_core.specs.Steps.{after}
 use Rattle.bx_core.specs.Law.{left_by, run}
@@ -31,7 +33,8 @@ refused_line place (Err why) = line (codes "event " ∷ decimal place ∷ codes 
 -- the lines of the refused events, the first event at this place
 unfoldable pub refused_lines : State → ℕ → List Event → List ℕ
 refused_lines s place [] = []
-refused_lines s place (event ∷ events) = refused_line place (after s event) ++ refused_lines (left_by s (after s event)) (place + 1) events
+refused_lines s place (event ∷ events) = refused_line place (after s event)
+    ++ refused_lines (left_by s (after s event)) (place + 1) events
 
 abbrev pub digit : Bool → ℕ
 digit false = 48
@@ -44,7 +47,8 @@ AppendsWire old new f = (w : List Bool) × Spells f senders_choice true w × (ne
 -- by the line of a frame that was sent
 abbrev pub AppendsDone : ℕ → List ℕ → List ℕ → Entry → Type 0
 AppendsDone route old new e = (w : List Bool) × Spells e.frame senders_choice true w
-    × (new ≡ old ++ line (codes "done " ∷ decimal route ∷ codes " " ∷ decimal e.number ∷ codes " " ∷ frame_text e.frame ∷ codes " " ∷ map digit w ∷ []))
+    × (new ≡ old ++ line (codes "done " ∷ decimal route ∷ codes " " ∷ decimal e.number ∷ codes " "
+    ∷ frame_text e.frame ∷ codes " " ∷ map digit w ∷ []))
 
 -- by these lines, in order
 abbrev pub AppendsDones : ℕ → List ℕ → List ℕ → List Entry → Type 0
@@ -70,4 +74,5 @@ AppendsRoutes s (suc count) old new = (next : List ℕ) × AppendsRoutes s count
 -- the text is the whole report
 abbrev pub IsReport : EventListValue → List ℕ → Type 0
 IsReport l text =
-    AppendsRoutes (run (opening_by l.txfp l.routes) l.events) l.routes (refused_lines (opening_by l.txfp l.routes) 0 l.events) text
+    AppendsRoutes (run (opening_by l.txfp l.routes) l.events) l.routes
+    (refused_lines (opening_by l.txfp l.routes) 0 l.events) text

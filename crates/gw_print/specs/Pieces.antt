@@ -10,7 +10,8 @@ abbrev pub IsPiece : {Z : Type 0} → ScriptValue → ℕ → Record → Result 
 IsPiece s segment of piece = IfOk piece (λ bytes. bytes.items ≡ segment_text s segment of)
 
 -- there is one for each of these records, in their order
-pub record ArePieces {Z : Type 0} (s : ScriptValue) (records : List Record) (pieces : List (Result (Vec ℕ Z) Memory)) : Type 0 where
+pub record ArePieces {Z : Type 0} (s : ScriptValue) (records : List Record)
+    (pieces : List (Result (Vec ℕ Z) Memory)) : Type 0 where
   pub count : length pieces ≡ length records
   pub each : (segment : ℕ) (of : Record) (d : Result (Vec ℕ Z) Memory) → slice_get records segment ≡ Some of
       → IsPiece s segment of (slice_index_or pieces segment d)

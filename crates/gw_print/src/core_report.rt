@@ -6,7 +6,8 @@ ghost use Rattle.bx_core.specs.States.{opening_by, lists_of, waits_of};
 ghost use Rattle.bx_core.specs.Steps.{InRoutes, InRange, after};
 ghost use Rattle.bx_core.specs.Law.{run, left_by};
 ghost use Rattle.gw_script.specs.EventLists.{list_view};
-ghost use Rattle.gw_print.specs.CoreReports.{code_of, digit, AppendsWire, AppendsDone, AppendsDones, AppendsRoute, AppendsRoutes, refused_line, refused_lines, IsReport};
+ghost use Rattle.gw_print.specs.CoreReports.{code_of, digit, AppendsWire, AppendsDone, AppendsDones};
+ghost use Rattle.gw_print.specs.CoreReports.{AppendsRoute, AppendsRoutes, refused_line, refused_lines, IsReport};
 
 use bx_core::{Core, Entry, Event, Refused};
 use can_frame::{Frame, wire};

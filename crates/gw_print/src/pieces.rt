@@ -23,7 +23,8 @@ fn piece_of(
 ) -> Result<Vec<u8>, Memory>
     requires names { Names script.now report.now }
     requires segment { segment < length report.now.segments.items }
-    ensures { (of : Record) → slice_get report.now.segments.items segment ≡ Some of → IsPiece script.now segment of result }
+    ensures { (of : Record) → slice_get report.now.segments.items segment ≡ Some of
+        → IsPiece script.now segment of result }
 {
     print_segment(alloc, script, segment, &report.segments[segment])
 }
@@ -67,7 +68,8 @@ pub(crate) fn segments_of<R: Threads + Sync>(
     report: &Report,
 ) -> Result<Vec<Vec<u8>>, Memory>
     requires { Names script.now report.now }
-    ensures { IfOk result (λ texts. whole_of texts.items ≡ lines_from (segment_text script.now) 0 report.now.segments.items) }
+    ensures { IfOk result (λ texts. whole_of texts.items ≡ lines_from (segment_text script.now) 0
+        report.now.segments.items) }
 {
     let Ok(pieces) = pieces_of(rt, alloc, script, report) else {
         return Err(Memory);

@@ -46,7 +46,17 @@ hand_value h = record {
 -- a hand that made no turn
 abbrev pub new_hand : Outlet → List RouteAbort → List Rewrite → HandValue
 new_hand out aborts rewrites =
-    record { out = out; in_hand = []; tickets = 0; turns = 0; aborts = aborts; released = []; aborted = []; rewrites = rewrites }
+    record {
+      out = out;
+      in_hand = [];
+      tickets = 0;
+      turns = 0;
+      aborts = aborts;
+      released = [];
+      aborted = [];
+      rewrites =
+          rewrites;
+    }
 
 -- the frames among what a FIFO released
 abbrev pub frames_of : List RxFrame → List FrameValue

@@ -1,5 +1,6 @@
 -- One turn of a route: an abort that is due, or else a request of the frame in the hand.
-use Rattle.std.specs.Prelude.{◌≡◌, ℕ, ◌+◌, ◌<◌, ◌≤◌, ◌↔◌, ◌⊎◌, nat_lt, if◌then◌else◌, Bool, List, [], ◌∷◌, ◌++◌, length, remove, slice_get, Option, Some, Result, Ok, Err, IsErr}
+use Rattle.std.specs.Prelude.{◌≡◌, ℕ, ◌+◌, ◌<◌, ◌≤◌, ◌↔◌, ◌⊎◌, nat_lt, if◌then◌else◌, Bool, List, []}
+use Rattle.std.specs.Prelude.{◌∷◌, ◌++◌, length, remove, slice_get, Option, Some, Result, Ok, Err, IsErr}
 use Rattle.can_frame.specs.Frames.{FrameValue}
 use Rattle.can_frame.specs.Rewrites.{rewritten}
 use Rattle.bx_core.specs.declared.entry.Entry.{Entry}
@@ -99,18 +100,21 @@ aborted_answer Asked = AbortDone
 aborted_answer Gone = AbortDone
 aborted_answer Later = Waiting
 
--- What a turn does to the hand and on the route's side, by its answer: one call at most. It is idle only where the FIFO was asked and gave
--- nothing. A request is of the frame in the hand,
--- unchanged and under its number.
+-- What a turn does to the hand and on the route's side, by its answer: one call at most. It is idle only where the FIFO
+-- was asked and gave nothing. A request is of the frame in the hand, unchanged and under its number.
 pub data Turned : HandValue → HandValue → RoutePast → RoutePast → TurnAnswer → Type 0 where
   idle : {h : HandValue} {past : RoutePast} → NoneIsDue h past → h.in_hand ≡ [] → WasEmpty h.out →
       Turned h (none_given h) past past Idle
-  by_request : {h filled : HandValue} {past : RoutePast} (entry : Entry) (answer : Result Sent NumberTooLarge) → NoneIsDue h past →
+  by_request : {h filled : HandValue} {past : RoutePast} (entry : Entry) (answer : Result Sent NumberTooLarge) →
+      NoneIsDue h past →
       Filled h filled entry → IsErr answer ↔ (greatest_number < entry.number) →
-      Turned h (if_requested answer filled) past (after_request past entry.number entry.frame answer) (requested_answer answer)
-  by_abort : {h : HandValue} {past : RoutePast} (abort : RouteAbort) (answer : AbortAnswer) (asks : Bool) → first_abort h ≡ Some abort →
+      Turned h (if_requested answer filled) past (after_request past entry.number entry.frame answer)
+      (requested_answer answer)
+  by_abort : {h : HandValue} {past : RoutePast} (abort : RouteAbort) (answer : AbortAnswer) (asks : Bool) →
+      first_abort h ≡ Some abort →
       IsDue h.turns past.requested abort →
-      Turned h (if_aborted answer abort.number h) past (after_abort past abort.number answer asks) (aborted_answer answer)
+      Turned h (if_aborted answer abort.number h) past (after_abort past abort.number answer asks)
+      (aborted_answer answer)
 
 -- the same for whatever the route's side may have done, where the hand matches that
 abbrev pub Acted : (RoutePast → Type 0) → (RoutePast → Type 0) → HandValue → HandValue → TurnAnswer → Type 0
@@ -123,4 +127,5 @@ TurnMade after after' old new answer = Acted after after' (counted old) new answ
 
 -- after a turn the hand matches what the route's side did, where it did before
 abbrev pub TurnKeeps : HandValue → HandValue → TurnAnswer → Type 0
-TurnKeeps old new answer = (past next : RoutePast) → Turned (counted old) new past next answer → LogMatches old past → LogMatches new next
+TurnKeeps old new answer = (past next : RoutePast) → Turned (counted old) new past next answer → LogMatches old past →
+    LogMatches new next

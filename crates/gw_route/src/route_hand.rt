@@ -1,5 +1,7 @@
 //! A route's hand.
-ghost use Rattle.std.specs.Prelude.{◌≡◌, ℕ, ◌+◌, ◌<◌, ◌≤◌, ◌↔◌, Bool, List, [], ◌∷◌, ◌++◌, Option, Some, None, Result, IfOk, OnOk, OnErr, IfSome, IfNone, IsErr, IsTrue, MatchOption, vec_len, vec_capacity, slice_get};
+ghost use Rattle.std.specs.Prelude.{◌≡◌, ℕ, ◌+◌, ◌<◌, ◌≤◌, ◌↔◌, Bool, List, [], ◌∷◌, ◌++◌, Option, Some, None};
+ghost use Rattle.std.specs.Prelude.{Result, IfOk, OnOk, OnErr, IfSome, IfNone, IsErr, IsTrue, MatchOption, vec_len};
+ghost use Rattle.std.specs.Prelude.{vec_capacity, slice_get};
 ghost use Rattle.bx_core.specs.declared.answer.Sent.{Sent};
 ghost use Rattle.bx_core.specs.declared.answer.AbortAnswer.{AbortAnswer};
 ghost use Rattle.bx_core.specs.declared.answer.NumberTooLarge.{NumberTooLarge};
@@ -10,7 +12,9 @@ ghost use Rattle.gw_route.specs.Heard.{HearsTurn};
 ghost use Rattle.gw_route.specs.Plans.{FromPlan};
 ghost use Rattle.gw_route.specs.declared.route_abort.RouteAbort.{RouteAbort};
 ghost use Rattle.gw_route.specs.RouteHand.{hand_value, new_hand, LogMatches, LogsReleased, IsLinked};
-ghost use Rattle.gw_route.specs.Turn.{counted, next_turn, IsDueByCount, first_abort, taken, none_given, Filled, if_requested, requested_answer, logged, if_aborted, aborted_answer, Acted, TurnMade, TurnKeeps};
+ghost use Rattle.gw_route.specs.Turn.{counted, next_turn, IsDueByCount, first_abort, taken, none_given, Filled};
+ghost use Rattle.gw_route.specs.Turn.{if_requested, requested_answer, logged, if_aborted, aborted_answer, Acted};
+ghost use Rattle.gw_route.specs.Turn.{TurnMade, TurnKeeps};
 
 use crate::log::Log;
 use crate::route_abort::RouteAbort;
@@ -126,7 +130,8 @@ impl RouteHand {
         requires released { vec_len self.old.log.released < vec_capacity self.old.log.released }
         requires aborted { vec_len self.old.log.aborted < vec_capacity self.old.log.aborted }
         requires linked { IsLinked (T.route_after tx.old) (hand_value self.old) }
-        ensures turned { Acted (T.route_after tx.old) (T.route_after tx.new) (hand_value self.old) (hand_value self.new) result }
+        ensures turned { Acted (T.route_after tx.old) (T.route_after tx.new) (hand_value self.old)
+            (hand_value self.new) result }
         ensures heard { HearsTurn G.may_have_heard result gate.old gate.new }
         ensures stays { T.stays tx.old tx.new }
     {

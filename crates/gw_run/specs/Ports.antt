@@ -42,4 +42,5 @@ pub record IsNewMail (txfp : Bool) (routes : ℕ) (mail : PlainMail) : Type 0 wh
 -- the port of a controller before the first bit: it has such mailboxes, for the routes into it
 pub record StartsPort (s : ScriptValue) (controller : ℕ) (port : Port) : Type 0 where
   pub is_new : IsNewPort s controller port
-  pub mail : (value : ControllerValue) → slice_get s.controllers controller ≡ Some value → IsNewMail (priority_of value) (routes_at s controller) port.mail
+  pub mail : (value : ControllerValue) → slice_get s.controllers controller ≡ Some value →
+      IsNewMail (priority_of value) (routes_at s controller) port.mail

@@ -31,7 +31,8 @@ pub(crate) fn turn_on<R: Wait>(
     ensures rewrites { hand.new.rewrites ≡ hand.old.rewrites }
     ensures counted { OnOk result (hand.new.turns ≡ next_turn hand.old.turns) }
     ensures short { OnOk result (short_of port.new.mail ≡ false) }
-    ensures plan { (planned : List RouteAbort) → FromPlan planned (hand_value hand.old) → FromPlan planned (hand_value hand.new) }
+    ensures plan { (planned : List RouteAbort) → FromPlan planned (hand_value hand.old)
+        → FromPlan planned (hand_value hand.new) }
     ensures port { TurnLeaves number port.old port.new }
 {
     let mut side = PlainRoute {

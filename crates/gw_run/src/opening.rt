@@ -32,7 +32,8 @@ fn plain_port(alloc: Global, script: &Script, controller: usize) -> Port
 /// The ports of the controllers on a segment, in the order of the script.
 fn ports_of(alloc: Global, script: &Script, segment: usize) -> Result<Vec<Port>, AllocError>
     requires { IsSound script.now }
-    ensures { IfOk result (λ ports. Pairs (λ k. StartsPort script.now) (controller_places script.now segment) ports.items) }
+    ensures { IfOk result (λ ports. Pairs (λ k. StartsPort script.now) (controller_places script.now segment)
+        ports.items) }
 {
     let mut ports = Vec::new(alloc);
     for nth in 0..controller_count(script, segment) {

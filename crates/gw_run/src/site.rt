@@ -8,9 +8,9 @@ use can_frame::Memory;
 use gw_site::make_bit;
 use std::sync::Wait;
 
-/// A segment with its controllers makes bits until there are so many, of all that it has to make, unless there are already;
-/// and behind them such as need no port, which are the same whenever they are made. `Memory` where the record could not
-/// grow.
+/// A segment with its controllers makes bits until there are so many, of all that it has to make, unless there are
+/// already; and behind them such as need no port, which are the same whenever they are made. `Memory` where the record
+/// could not grow.
 pub(crate) fn bits_of<R: Wait>(rt: &R, site: &mut Site, until: u64, bits: u64) -> Result<(), Memory>
     requires holds { SiteHolds site.old.segment site.old.ports.items }
     requires plan { site.old.segment.plan.bits ≡ bits }

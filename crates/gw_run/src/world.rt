@@ -5,7 +5,8 @@ ghost use Rattle.can_station.specs.Places.{AtPlaces};
 ghost use Rattle.gw_opening.specs.declared.lane.Lane.{Lane};
 ghost use Rattle.gw_run.specs.Ports.{Site};
 ghost use Rattle.gw_run.specs.Sites.{SiteHolds, SiteMoves};
-ghost use Rattle.gw_run.specs.Worlds.{Leads, LaneTurns, LanesKeep, SitesKeep, WorldHolds, SameSegments, HaveMade, HaveMadeUpTo, CountsTurn, HaveTurned, NoneShort};
+ghost use Rattle.gw_run.specs.Worlds.{Leads, LaneTurns, LanesKeep, SitesKeep, WorldHolds};
+ghost use Rattle.gw_run.specs.Worlds.{SameSegments, HaveMade, HaveMadeUpTo, CountsTurn, HaveTurned, NoneShort};
 
 use crate::lane::turn_on;
 use crate::port::Site;
@@ -14,15 +15,16 @@ use can_frame::Memory;
 use gw_opening::Lane;
 use std::sync::Wait;
 
-/// The bits of each segment, in their order, until each has made so many of all that it has to make. Some may be ahead by
-/// bits at which no port is needed, before and behind it.
+/// The bits of each segment, in their order, until each has made so many of all that it has to make. Some may be ahead
+/// by bits at which no port is needed, before and behind it.
 pub(crate) fn make_bits<R: Wait>(
     rt: &R,
     sites: &mut [Site],
     until: u64,
     bits: u64,
 ) -> Result<(), Memory>
-    requires holds { (i : ℕ) (site : Site) → slice_get sites.old i ≡ Some site → SiteHolds site.segment site.ports.items }
+    requires holds { (i : ℕ) (site : Site) → slice_get sites.old i ≡ Some site
+        → SiteHolds site.segment site.ports.items }
     requires before { HaveMadeUpTo bits until sites.old }
     requires until { until ≤ bits }
     ensures made { OnOk result (HaveMade bits until sites.new) }

@@ -19,7 +19,8 @@ label_of _ = None
 
 -- the node is a controller, and the request one of a route into it
 abbrev pub NamesRequest : ScriptValue → ℕ → ℕ → Label → Type 0
-NamesRequest s segment node label = IsSomeAnd (controller_at s segment node) (λ controller. label.route < length (route_places s controller))
+NamesRequest s segment node label = IsSomeAnd (controller_at s segment node)
+    (λ controller. label.route < length (route_places s controller))
 
 -- the node is one of the segment's, and its request, if one is named, stands at it
 pub record NamesEvent (s : ScriptValue) (segment : ℕ) (event : Event) : Type 0 where

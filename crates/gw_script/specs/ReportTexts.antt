@@ -1,5 +1,7 @@
--- The report on a run: of each segment its events, the counters of its nodes and its end, and then a line for each route.
-use Rattle.std.specs.Prelude.{ℕ, List, [], ◌∷◌, ◌++◌, vec_len, codes, slice_get, Option, Some, None, option_and_then, unwrap_or}
+-- The report on a run: of each segment its events, the counters of its nodes and its end, and then a line for each
+-- route.
+use Rattle.std.specs.Prelude.{ℕ, List, [], ◌∷◌, ◌++◌, vec_len, codes}
+use Rattle.std.specs.Prelude.{slice_get, Option, Some, None, option_and_then, unwrap_or}
 use Rattle.std.specs.List.{flat_map}
 use Rattle.std.specs.Fmt.{decimal}
 use Rattle.can_confinement.specs.declared.confinement.ErrorState.{ErrorState}
@@ -61,7 +63,8 @@ told_text (told.Reaped label) = codes "reaped"
 
 -- the route that a request at a node comes from, by its place in the script
 abbrev pub route_of : ScriptValue → ℕ → ℕ → Label → Option ℕ
-route_of s segment node label = option_and_then (λ controller. route_at s controller label.route) (controller_at s segment node)
+route_of s segment node label = option_and_then (λ controller. route_at s controller label.route)
+    (controller_at s segment node)
 
 -- the end of a line that names a request: the name of its route, and its number
 abbrev pub request_text : ScriptValue → Option ℕ → ℕ → List ℕ
@@ -74,13 +77,15 @@ label_text s segment node (Some label) = request_text s (route_of s segment node
 
 -- the line of an event of the segment at this place
 abbrev pub event_line : ScriptValue → ℕ → Event → List ℕ
-event_line s segment e = line (segment_name s segment ∷ codes " " ∷ decimal e.bit ∷ codes " " ∷ node_name s segment e.node ∷ codes " "
+event_line s segment e = line (segment_name s segment ∷ codes " " ∷ decimal e.bit ∷ codes " "
+    ∷ node_name s segment e.node ∷ codes " "
     ∷ told_text e.told ∷ label_text s segment e.node (label_of e.told) ∷ [])
 
 -- the line of a node with these counts
 abbrev pub node_line : ScriptValue → ℕ → ℕ → Counts → List ℕ
 node_line s segment node counts = line (segment_name s segment ∷ codes " node " ∷ node_name s segment node
-    ∷ codes " tec " ∷ decimal counts.tec ∷ codes " rec " ∷ decimal counts.rec ∷ codes " " ∷ state_text (state_of counts) ∷ [])
+    ∷ codes " tec " ∷ decimal counts.tec ∷ codes " rec " ∷ decimal counts.rec ∷ codes " "
+    ∷ state_text (state_of counts) ∷ [])
 
 -- what is told of the segment at this place
 abbrev pub segment_text : ScriptValue → ℕ → Record → List ℕ
@@ -96,4 +101,5 @@ route_line s route r = line (codes "route " ∷ route_name s route
 
 -- the whole text
 abbrev pub report_text : ScriptValue → Report → List ℕ
-report_text s report = lines_from (segment_text s) 0 report.segments.items ++ lines_from (route_line s) 0 report.routes.items
+report_text s report = lines_from (segment_text s) 0 report.segments.items
+    ++ lines_from (route_line s) 0 report.routes.items

@@ -5,7 +5,8 @@ ghost use Rattle.json.specs.Value.{value_view as view};
 ghost use Rattle.bx_core.specs.Lists.{Each};
 ghost use Rattle.bx_core.specs.Steps.{InRoutes};
 ghost use Rattle.gw_fields.specs.Faults.{Reads, ReadsUnlessMemory, UnlessMemory};
-ghost use Rattle.gw_script.specs.EventLists.{list_view, name_of, mailbox_of, route_of, claim_in, request_in, withdraw_in, abort_in, named_event, event_list_of};
+ghost use Rattle.gw_script.specs.EventLists.{list_view, name_of, mailbox_of, route_of, claim_in};
+ghost use Rattle.gw_script.specs.EventLists.{request_in, withdraw_in, abort_in, named_event, event_list_of};
 ghost use Rattle.gw_fields.specs.Documents.{IsTextOf, FirstFault};
 
 use bx_core::Event;

@@ -8,7 +8,8 @@ ghost use Rattle.can_confinement.specs.Counters.{counts_of};
 ghost use Rattle.gw_script.specs.Lines.{line, lines_from};
 ghost use Rattle.gw_config.specs.Nodes.{names_of_nodes};
 ghost use Rattle.gw_script.specs.NamedPlaces.{NamesNodes, Names};
-ghost use Rattle.gw_script.specs.ReportTexts.{segment_name, state_text, node_line, segment_text, route_line, report_text};
+ghost use Rattle.gw_script.specs.ReportTexts.{segment_name, state_text, node_line};
+ghost use Rattle.gw_script.specs.ReportTexts.{segment_text, route_line, report_text};
 
 use crate::digits::push_decimal;
 use crate::event_text::push_events;

@@ -30,7 +30,8 @@ fn close_port<R, B: TxBus<R> + Drop, S: RouteTx<R> + Drop, M: Mailboxes<R, B, S>
     requires there { controller < length script.now.controllers }
     requires seats { HasSeats script.now seats.old }
     requires may_close { MayClose M.routes_of M.side_of script.now seats.old controller port }
-    ensures closes { IfOk result (ClosesPort B.bus_after S.route_after M.txfp_of M.room script.now seats.old controller port) }
+    ensures closes { IfOk result (ClosesPort B.bus_after S.route_after M.txfp_of M.room script.now seats.old
+        controller port) }
     ensures leaves { OnOk result (Leaves script.now controller seats.old seats.new) }
 {
     let count = usize::from(routes_at(script, controller));
@@ -63,8 +64,10 @@ fn close_ports<R, B: TxBus<R> + Drop, S: RouteTx<R> + Drop, M: Mailboxes<R, B, S
 ) -> Result<Vec<ClosedPort>, Memory>
     requires sound { IsSound script.now }
     requires seats { HasSeats script.now seats.old }
-    requires may_close { Pairs (λ k. MayClose M.routes_of M.side_of script.now seats.old) (controller_places script.now segment) ports.items }
-    ensures closes { IfOk result (λ closed. Pairs (ClosesNth B.bus_after S.route_after M.txfp_of M.room script.now seats.old segment) ports.items closed.items) }
+    requires may_close { Pairs (λ k. MayClose M.routes_of M.side_of script.now seats.old)
+        (controller_places script.now segment) ports.items }
+    ensures closes { IfOk result (λ closed. Pairs (ClosesNth B.bus_after S.route_after M.txfp_of M.room script.now
+        seats.old segment) ports.items closed.items) }
     ensures leaves { OnOk result (LeavesOn script.now segment seats.old seats.new) }
 {
     let mut closed = Vec::with_capacity(alloc, ports.len())?;
@@ -89,8 +92,10 @@ fn close_sites<R, B: TxBus<R> + Drop, S: RouteTx<R> + Drop, M: Mailboxes<R, B, S
     requires sound { IsSound script.now }
     requires seats { HasSeats script.now seats.old }
     requires may_close { (i : ℕ) (site : _) → slice_get sites.items i ≡ Some site
-        → Pairs (λ k. MayClose M.routes_of M.side_of script.now seats.old) (controller_places script.now i) site.ports.items }
-    ensures { IfOk result (λ closed. Pairs (ClosesSite B.bus_after S.route_after M.txfp_of M.room script.now seats.old) sites.items closed.items) }
+        → Pairs (λ k. MayClose M.routes_of M.side_of script.now seats.old) (controller_places script.now i)
+        site.ports.items }
+    ensures { IfOk result (λ closed. Pairs (ClosesSite B.bus_after S.route_after M.txfp_of M.room script.now
+        seats.old) sites.items closed.items) }
 {
     let mut closed = Vec::with_capacity(alloc, sites.len())?;
     let mut place = 0usize;
@@ -116,8 +121,10 @@ pub fn close_all<R, B: TxBus<R> + Drop, S: RouteTx<R> + Drop, M: Mailboxes<R, B,
     requires sound { IsSound script.now }
     requires seats { HasSeats script.now seats.items }
     requires may_close { (i : ℕ) (site : _) → slice_get sites.items i ≡ Some site
-        → Pairs (λ k. MayClose M.routes_of M.side_of script.now seats.items) (controller_places script.now i) site.ports.items }
-    ensures { IfOk result (λ closed. Pairs (ClosesSite B.bus_after S.route_after M.txfp_of M.room script.now seats.items) sites.items closed.items) }
+        → Pairs (λ k. MayClose M.routes_of M.side_of script.now seats.items) (controller_places script.now i)
+        site.ports.items }
+    ensures { IfOk result (λ closed. Pairs (ClosesSite B.bus_after S.route_after M.txfp_of M.room script.now
+        seats.items) sites.items closed.items) }
 {
     let mut seats = seats;
     close_sites::<R, B, S, M>(rt, alloc, script, sites, seats.as_mut_slice())

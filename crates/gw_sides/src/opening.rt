@@ -21,7 +21,8 @@ use std::alloc::Global;
 /// Whether a controller sends by order of requests.
 fn priority_at(script: &Script, controller: usize) -> bool
     requires { controller < length script.now.controllers }
-    ensures { (value : ControllerValue) → slice_get script.now.controllers controller ≡ Some value → result ≡ priority_of value }
+    ensures { (value : ControllerValue) → slice_get script.now.controllers controller ≡ Some value → result
+        ≡ priority_of value }
 {
     script.controllers()[controller].txfp()
 }
@@ -63,7 +64,8 @@ fn open_ports<R, B: TxBus<R> + Drop, S: RouteTx<R> + Drop, M: Mailboxes<R, B, S>
     requires sound { IsSound script.now }
     requires priority { AllSendBy M.can_send_by script.now }
     requires seats { HasSeats script.now seats.old }
-    ensures opens { IfOk result (λ ports. Pairs (λ k. OpensPort (IsNewSet B.bus_after B.bus_asked B.transmitting M.routes_of M.txfp_of)
+    ensures opens { IfOk result (λ ports. Pairs (λ k. OpensPort
+        (IsNewSet B.bus_after B.bus_asked B.transmitting M.routes_of M.txfp_of)
         (IsNewSide M.side_of S.route_after) script.now seats.new) (controller_places script.now segment) ports.items) }
     ensures leaves { OnOk result (LeavesOn script.now segment seats.old seats.new) }
 {
@@ -86,7 +88,8 @@ pub fn open_all<R, B: TxBus<R> + Drop, S: RouteTx<R> + Drop, M: Mailboxes<R, B, 
 ) -> Result<(Vec<Site<Port<B>>>, Vec<Option<S>>), Memory>
     requires sound { IsSound script.now }
     requires priority { AllSendBy M.can_send_by script.now }
-    ensures opens { IfOk result (λ made. Pairs (λ i said. OpensSite (IsNewSet B.bus_after B.bus_asked B.transmitting M.routes_of M.txfp_of)
+    ensures opens { IfOk result (λ made. Pairs (λ i said. OpensSite
+        (IsNewSet B.bus_after B.bus_asked B.transmitting M.routes_of M.txfp_of)
         (IsNewSide M.side_of S.route_after) script.now made.1.items i) script.now.segments made.0.items) }
     ensures seats { IfOk result (λ made. HasSeats script.now made.1.items) }
 {
@@ -105,7 +108,8 @@ fn open_sites<R, B: TxBus<R> + Drop, S: RouteTx<R> + Drop, M: Mailboxes<R, B, S>
     requires sound { IsSound script.now }
     requires priority { AllSendBy M.can_send_by script.now }
     requires seats { HasSeats script.now seats.old }
-    ensures opens { IfOk result (λ sites. Pairs (λ i said. OpensSite (IsNewSet B.bus_after B.bus_asked B.transmitting M.routes_of M.txfp_of)
+    ensures opens { IfOk result (λ sites. Pairs (λ i said. OpensSite
+        (IsNewSet B.bus_after B.bus_asked B.transmitting M.routes_of M.txfp_of)
         (IsNewSide M.side_of S.route_after) script.now seats.new i) script.now.segments sites.items) }
     ensures seats { OnOk result (length seats.new ≡ length seats.old) }
 {

@@ -1,5 +1,5 @@
--- A segment of a run and the controllers on it, whatever their ports are: what a port may have done, what is on the bus,
--- what its sink may have been offered, and what no call of a segment changes are given by these words.
+-- A segment of a run and the controllers on it, whatever their ports are: what a port may have done, what is on the
+-- bus, what its sink may have been offered, and what no call of a segment changes are given by these words.
 use Rattle.std.specs.Prelude.{◌≡◌, ℕ, ◌+◌, ◌≤◌, Option, Some, List, [], length, slice_get}
 use Rattle.can_frame.specs.Frames.{FrameValue}
 use Rattle.bx_core.specs.TxBus.{Item, BusPast, no_bus_past}
@@ -8,18 +8,21 @@ use Rattle.can_segment.specs.QuietBits.{MakeQuietBits}
 use Rattle.can_segment.specs.Segments.{SegmentValue, Fit}
 use Rattle.gw_site.specs.declared.site.Site.{Site}
 
--- the controller of this node did what the record tells of it, and was offered what the record tells that it took; it began
--- nothing that was over
-pub record PortHolds {P : Type 0} (after : P → BusPast → Type 0) (sink : P → List FrameValue → Type 0) (node : ℕ) (segment : SegmentValue) (port : P) : Type 0 where
+-- the controller of this node did what the record tells of it, and was offered what the record tells that it took; it
+-- began nothing that was over
+pub record PortHolds {P : Type 0} (after : P → BusPast → Type 0) (sink : P → List FrameValue → Type 0) (node : ℕ)
+    (segment : SegmentValue) (port : P) : Type 0 where
   pub bus : after port (grown no_bus_past (told_of node segment.events))
   pub taken : sink port (all_in taken_in (told_of node segment.events))
   pub once : StartsUndone no_bus_past (told_of node segment.events)
   pub few : length (all_in taken_in (told_of node segment.events)) ≤ length segment.levels
 
 -- so did each controller of the segment
-pub record SiteHolds {P : Type 0} (after : P → BusPast → Type 0) (transmitting : P → Option Item) (sink : P → List FrameValue → Type 0) (segment : SegmentValue) (ports : List P) : Type 0 where
+pub record SiteHolds {P : Type 0} (after : P → BusPast → Type 0) (transmitting : P → Option Item)
+    (sink : P → List FrameValue → Type 0) (segment : SegmentValue) (ports : List P) : Type 0 where
   pub fit : Fit transmitting segment ports
-  pub each : (k : ℕ) (port : P) → slice_get ports k ≡ Some port → PortHolds after sink (length segment.plan.talkers.items + k) segment port
+  pub each : (k : ℕ) (port : P) → slice_get ports k ≡ Some port →
+      PortHolds after sink (length segment.plan.talkers.items + k) segment port
 
 -- of each port there is left what no call of a segment changes
 pub record PortsLeave {P : Type 0} (stays : P → P → Type 0) (old new : List P) : Type 0 where
@@ -33,21 +36,26 @@ pub record MakesOneAndQuiet (old new : SegmentValue) : Type 0 where
   pub quiet : MakeQuietBits behind_one new
 
 -- before the first of so many bits
-pub record IsNewSegment {P : Type 0} (after : P → BusPast → Type 0) (transmitting : P → Option Item) (sink : P → List FrameValue → Type 0) (bits : ℕ) (segment : SegmentValue) (ports : List P) : Type 0 where
+pub record IsNewSegment {P : Type 0} (after : P → BusPast → Type 0) (transmitting : P → Option Item)
+    (sink : P → List FrameValue → Type 0) (bits : ℕ) (segment : SegmentValue) (ports : List P) : Type 0 where
   pub holds : SiteHolds after transmitting sink segment ports
   pub no_levels : segment.levels ≡ []
   pub bits_is : segment.plan.bits ≡ bits
 
-abbrev pub IsNewSite : {P : Type 0} (after : P → BusPast → Type 0) (transmitting : P → Option Item) (sink : P → List FrameValue → Type 0) (bits : ℕ) → Site P → Type 0
+abbrev pub IsNewSite : {P : Type 0} (after : P → BusPast → Type 0) (transmitting : P → Option Item)
+    (sink : P → List FrameValue → Type 0) (bits : ℕ) → Site P → Type 0
 IsNewSite after transmitting sink bits site = IsNewSegment after transmitting sink bits site.segment site.ports.items
 
 -- a segment made all its bits
-pub record SegmentRuns {P : Type 0} (after : P → BusPast → Type 0) (transmitting : P → Option Item) (sink : P → List FrameValue → Type 0) (stays : P → P → Type 0)
+pub record SegmentRuns {P : Type 0} (after : P → BusPast → Type 0) (transmitting : P → Option Item)
+    (sink : P → List FrameValue → Type 0) (stays : P → P → Type 0)
     (old new : SegmentValue) (from to : List P) : Type 0 where
   pub holds : SiteHolds after transmitting sink new to
   pub plan_is : new.plan ≡ old.plan
   pub made : length new.levels ≡ old.plan.bits
   pub ports : PortsLeave stays from to
 
-abbrev pub SiteRuns : {P : Type 0} (after : P → BusPast → Type 0) (transmitting : P → Option Item) (sink : P → List FrameValue → Type 0) (stays : P → P → Type 0) → Site P → Site P → Type 0
-SiteRuns after transmitting sink stays old new = SegmentRuns after transmitting sink stays old.segment new.segment old.ports.items new.ports.items
+abbrev pub SiteRuns : {P : Type 0} (after : P → BusPast → Type 0) (transmitting : P → Option Item)
+    (sink : P → List FrameValue → Type 0) (stays : P → P → Type 0) → Site P → Site P → Type 0
+SiteRuns after transmitting sink stays old new =
+    SegmentRuns after transmitting sink stays old.segment new.segment old.ports.items new.ports.items

@@ -43,7 +43,8 @@ pub fn write_output<W: Write>(output: &mut W, text: &[u8]) -> Result<(), WriteFa
 /// Writes a text whose pieces these are, in turn. Where that fails a front of it was written, and nothing else.
 pub fn write_pieces<W: Write>(output: &mut W, pieces: &[Vec<u8>]) -> Result<(), WriteFault>
     ensures whole { OnOk result (Appends (W.contents output.old) (W.contents output.new) (whole_of pieces.now)) }
-    ensures front { OnErr result ((n : ℕ) × Appends (W.contents output.old) (W.contents output.new) (take n (whole_of pieces.now))) }
+    ensures front { OnErr result ((n : ℕ) × Appends (W.contents output.old) (W.contents output.new)
+        (take n (whole_of pieces.now))) }
 {
     for piece in pieces {
         write_output(output, piece.as_slice())?;

@@ -14,13 +14,15 @@ abbrev pub AreThere : {X : Type 0} → ℕ → List (Option X) → Type 0
 AreThere {X} count slots = (k : ℕ) → k < count → (x : X) × (slice_get slots k ≡ Some (Some x))
 
 -- a route goes to its thread with its hand, and with the side and the gate that stand at its place
-pub record IsCourierOf {S G : Type 0} (seats : List (Option S)) (gates : List (Option G)) (k : ℕ) (lane : Lane) (courier : Courier S G) : Type 0 where
+pub record IsCourierOf {S G : Type 0} (seats : List (Option S)) (gates : List (Option G)) (k : ℕ) (lane : Lane)
+    (courier : Courier S G) : Type 0 where
   pub hand_is : courier.hand ≡ lane.hand
   pub side_there : slice_get seats k ≡ Some (Some courier.side)
   pub gate_there : slice_get gates k ≡ Some (Some courier.gate)
 
 -- each route has parted
-pub record HaveParted {S G : Type 0} (seats : List (Option S)) (gates : List (Option G)) (lanes : List Lane) (leads : List Lead) (couriers : List (Courier S G)) : Type 0 where
+pub record HaveParted {S G : Type 0} (seats : List (Option S)) (gates : List (Option G)) (lanes : List Lane)
+    (leads : List Lead) (couriers : List (Courier S G)) : Type 0 where
   pub leads_are : Pairs (λ k lane lead. lead ≡ lead_of lane) lanes leads
   pub couriers_are : Pairs (IsCourierOf seats gates) lanes couriers
 
@@ -36,5 +38,6 @@ pub record LeavesBehind {X : Type 0} (count : ℕ) (old new : List (Option X)) :
 
 -- the side of each courier stands at its place, and the other places are as they were
 pub record HaveCome {S G : Type 0} (couriers : List (Courier S G)) (old new : List (Option S)) : Type 0 where
-  pub at : (k : ℕ) (courier : Courier S G) → slice_get couriers k ≡ Some courier → slice_get new k ≡ Some (Some courier.side)
+  pub at : (k : ℕ) (courier : Courier S G) → slice_get couriers k ≡ Some courier →
+      slice_get new k ≡ Some (Some courier.side)
   pub leaves : LeavesBehind (length couriers) old new

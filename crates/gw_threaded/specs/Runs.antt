@@ -19,30 +19,39 @@ use Rattle.gw_site.specs.Sites.{SiteHolds}
 use Rattle.gw_site.specs.declared.site.Site.{Site}
 
 -- before the first bit: new mailboxes, whose sides stand at their places, and routes that made no turn
-pub record Starts {B S : Type 0} (NewSet : Bool → ℕ → B → Type 0) (Rel : B → ℕ → S → Type 0) (s : ScriptValue) (sites : List (Site (Port B))) (seats : List (Option S)) (lanes : List Lane) : Type 0 where
+pub record Starts {B S : Type 0} (NewSet : Bool → ℕ → B → Type 0) (Rel : B → ℕ → S → Type 0) (s : ScriptValue)
+    (sites : List (Site (Port B))) (seats : List (Option S)) (lanes : List Lane) : Type 0 where
   pub opens : Opens s sites lanes
   pub each_site : Pairs (λ i said. OpensSite NewSet Rel s seats i) s.segments sites
   pub size : HasSeats s seats
 
--- The port of a controller: its banks are the script's, its mailboxes have its priority and may be closed, and where no route leads
--- into it nothing was asked of them.
-pub record HasRunPort {B S : Type 0} (route_after : S → RoutePast → Type 0) (routes_of : B → ℕ) (txfp_of : B → Bool) (side_of : B → ℕ → S → Type 0) (s : ScriptValue) (seats : List (Option S)) (controller : ℕ) (port : Port B) : Type 0 where
+-- The port of a controller: its banks are the script's, its mailboxes have its priority and may be closed, and where no
+-- route leads into it nothing was asked of them.
+pub record HasRunPort {B S : Type 0} (route_after : S → RoutePast → Type 0) (routes_of : B → ℕ) (txfp_of : B → Bool)
+    (side_of : B → ℕ → S → Type 0) (s : ScriptValue) (seats : List (Option S)) (controller : ℕ)
+    (port : Port B) : Type 0 where
   pub value : ControllerValue
   pub value_is : slice_get s.controllers controller ≡ Some value
   pub banks_is : port.banks ≡ value.banks
   pub priority_is : txfp_of port.mail ≡ priority_of value
   pub may_close : MayClose routes_of side_of s seats controller port
-  pub unasked : (side : S) → length (route_places s controller) ≡ 0 → slice_get seats (seat_of s controller 0) ≡ Some (Some side) → route_after side no_route_past
+  pub unasked : (side : S) → length (route_places s controller) ≡ 0 →
+      slice_get seats (seat_of s controller 0) ≡ Some (Some side) → route_after side no_route_past
 
 -- the segment at a place of the script, which made all its bits
-pub record HasRunSite {B S : Type 0} (bus_after : B → BusPast → Type 0) (transmitting : B → Option Item) (route_after : S → RoutePast → Type 0) (routes_of : B → ℕ) (txfp_of : B → Bool) (side_of : B → ℕ → S → Type 0) (s : ScriptValue) (seats : List (Option S)) (segment : ℕ) (site : Site (Port B)) : Type 0 where
+pub record HasRunSite {B S : Type 0} (bus_after : B → BusPast → Type 0) (transmitting : B → Option Item)
+    (route_after : S → RoutePast → Type 0) (routes_of : B → ℕ) (txfp_of : B → Bool) (side_of : B → ℕ → S → Type 0)
+    (s : ScriptValue) (seats : List (Option S)) (segment : ℕ) (site : Site (Port B)) : Type 0 where
   pub plan_is : IsPlanOf s segment site.segment.plan
   pub made : length site.segment.levels ≡ s.bits
-  pub holds : SiteHolds (λ (p : Port B) past. bus_after p.mail past) (λ (p : Port B). transmitting p.mail) SinkStands site.segment site.ports.items
-  pub ports : Pairs (λ k. HasRunPort route_after routes_of txfp_of side_of s seats) (controller_places s segment) site.ports.items
+  pub holds : SiteHolds (λ (p : Port B) past. bus_after p.mail past) (λ (p : Port B). transmitting p.mail) SinkStands
+      site.segment site.ports.items
+  pub ports : Pairs (λ k. HasRunPort route_after routes_of txfp_of side_of s seats) (controller_places s segment)
+      site.ports.items
 
 -- a route, whose hand matches what its side did, which stands at its place
-pub record HasRunLane {B S : Type 0} (route_after : S → RoutePast → Type 0) (s : ScriptValue) (sites : List (Site (Port B))) (seats : List (Option S)) (k : ℕ) (route : RouteValue) (lane : Lane) : Type 0 where
+pub record HasRunLane {B S : Type 0} (route_after : S → RoutePast → Type 0) (s : ScriptValue)
+    (sites : List (Site (Port B))) (seats : List (Option S)) (k : ℕ) (route : RouteValue) (lane : Lane) : Type 0 where
   pub lane_is : IsLaneOf s k route lane
   pub takes : Takes sites lane
   pub log : LogsReleased (hand_value lane.hand)
@@ -51,7 +60,10 @@ pub record HasRunLane {B S : Type 0} (route_after : S → RoutePast → Type 0) 
   pub linked : IsLinked (route_after side) (hand_value lane.hand)
 
 -- all of them
-pub record HasRun {B S : Type 0} (bus_after : B → BusPast → Type 0) (transmitting : B → Option Item) (route_after : S → RoutePast → Type 0) (routes_of : B → ℕ) (txfp_of : B → Bool) (side_of : B → ℕ → S → Type 0) (s : ScriptValue) (sites : List (Site (Port B))) (seats : List (Option S)) (lanes : List Lane) : Type 0 where
-  pub each_site : Pairs (λ i segment. HasRunSite bus_after transmitting route_after routes_of txfp_of side_of s seats i) s.segments sites
+pub record HasRun {B S : Type 0} (bus_after : B → BusPast → Type 0) (transmitting : B → Option Item)
+    (route_after : S → RoutePast → Type 0) (routes_of : B → ℕ) (txfp_of : B → Bool) (side_of : B → ℕ → S → Type 0)
+    (s : ScriptValue) (sites : List (Site (Port B))) (seats : List (Option S)) (lanes : List Lane) : Type 0 where
+  pub each_site : Pairs (λ i segment. HasRunSite bus_after transmitting route_after routes_of txfp_of side_of s seats
+      i) s.segments sites
   pub each_lane : Pairs (λ k route. HasRunLane route_after s sites seats k route) s.routes lanes
   pub size : HasSeats s seats

@@ -88,10 +88,10 @@ fn report_on<R: Wait, B: TxBus<R> + Drop, S: RouteTx<R> + Drop, M: Mailboxes<R, 
     end_run(rt, alloc, script, closed, lanes)
 }
 
-/// Runs a script over these mailboxes: each segment in a thread of its own, none of them more than `slack` bits ahead of
-/// another, and the routes by so many workers, 1 to 16, each in a thread of its own; one gate a route, in the order of the
-/// script. `Memory` where a growth was refused, `Spawn` where a thread could not be started: either way there is no report,
-/// and all threads that were started have ended.
+/// Runs a script over these mailboxes: each segment in a thread of its own, none of them more than `slack` bits ahead
+/// of another, and the routes by so many workers, 1 to 16, each in a thread of its own; one gate a route, in the order
+/// of the script. `Memory` where a growth was refused, `Spawn` where a thread could not be started: either way there is
+/// no report, and all threads that were started have ended.
 pub fn run_over<
     R: Threads + Wait + Copy + Send + Sync + 'static,
     B: TxBus<R> + Drop + Send + 'static,

@@ -1,5 +1,5 @@
--- The clock table: a word for each segment, the number of bits that it made, and a stop word behind them. No clock passes
--- the run's bits, and none is further ahead of another than the slack.
+-- The clock table: a word for each segment, the number of bits that it made, and a stop word behind them. No clock
+-- passes the run's bits, and none is further ahead of another than the slack.
 use Rattle.std.specs.Prelude.{◌≡◌, ℕ, ◌+◌, ◌*◌, ◌<◌, ◌≤◌, List, [], ◌^◌, length, replicate, slice_index, slice_set}
 use mathlib.Core.Option.{some}
 use lib.ListN.{get_elem?}
@@ -8,8 +8,8 @@ use Rattle.atomic_table.specs.Seated.{TableId}
 use Rattle.gw_threads.specs.declared.views.Pace.{Pace}
 use Rattle.gw_threads.specs.declared.views.Pacer.{Pacer}
 
--- the word of a segment's clock: the seven words behind it lie idle, so that no two clocks share a line of a processor's
--- cache; the stop word stands where the clock of one segment more would
+-- the word of a segment's clock: the seven words behind it lie idle, so that no two clocks share a line of a
+-- processor's cache; the stop word stands where the clock of one segment more would
 abbrev pub word_of : ℕ → ℕ
 word_of segment = 8 * segment
 
@@ -28,7 +28,8 @@ pub record Kept (p : Pace) (s : State (Unit {0}) Pacer) : Type 0 where
   -- which seat ticks a clock
   pub owner : ℕ → ℕ
   pub wide : length s.words ≡ word_of p.segments + 1
-  pub pace : (i j : ℕ) → i < p.segments → j < p.segments → slice_index s.words (word_of i) ≤ slice_index s.words (word_of j) + p.slack
+  pub pace : (i j : ℕ) → i < p.segments → j < p.segments →
+      slice_index s.words (word_of i) ≤ slice_index s.words (word_of j) + p.slack
   pub done : (i : ℕ) → i < p.segments → slice_index s.words (word_of i) ≤ p.bits
   pub short : p.bits < 2 ^ 32
   pub knows : (id : ℕ) (v : Pacer) → get_elem? s.views id ≡ some v → Knows p owner s.words id v

@@ -147,8 +147,8 @@ impl ClockSeat {
         limit
     }
 
-    /// Whether a clock that stands at `made` and may go to `limit` has half of the slack before it, or all bits that are
-    /// left.
+    /// Whether a clock that stands at `made` and may go to `limit` has half of the slack before it, or all bits that
+    /// are left.
     pub(crate) fn is_far_enough(&self, made: u64, limit: u64) -> bool
         ensures { IsTrue result ↔ ((self.now.pace.bits ≤ limit) ⊎ (self.now.pace.slack / 2 < limit - made)) }
     {
@@ -158,7 +158,8 @@ impl ClockSeat {
     /// Whether all clocks were seen at the run's bits.
     pub(crate) fn all_done(&mut self) -> bool
         ensures same { self.new.pace ≡ self.old.pace }
-        ensures done { IsTrue result → (j : ℕ) → j < self.old.pace.segments → self.old.pace.bits ≤ slice_index self.new.view.seen j }
+        ensures done { IsTrue result → (j : ℕ) → j < self.old.pace.segments
+            → self.old.pace.bits ≤ slice_index self.new.view.seen j }
     {
         for segment in 0..self.pace.segments {
             let made = look(&self.clocks, &mut self.seat, segment);

@@ -19,8 +19,8 @@ fn is_rest(answer: TurnAnswer) -> bool
     matches!(answer, TurnAnswer::Idle | TurnAnswer::Waiting)
 }
 
-/// How many tries in a row came to nothing, each begun once all segments had made their bits, where there were so many and
-/// one more comes.
+/// How many tries in a row came to nothing, each begun once all segments had made their bits, where there were so many
+/// and one more comes.
 fn rests_behind(rests: u32, answer: TurnAnswer, over: bool) -> u32
     requires { rests < 32 }
     ensures { result ≡ rests_after rests answer over }

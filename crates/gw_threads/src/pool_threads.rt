@@ -60,7 +60,8 @@ fn hire<
 ) -> Result<WorkerThread<R, S, G, J>, ThreadFault>
     requires { 1 < pool.old.account.parts }
     ensures queue { pool.new.queue ≡ pool.old.queue }
-    ensures rest { OnOk result (pool.new.account ≡ account (pool.old.account.parts - 1) pool.old.account.put pool.old.account.taken) }
+    ensures rest { OnOk result (pool.new.account ≡ account (pool.old.account.parts - 1) pool.old.account.put
+        pool.old.account.taken) }
     ensures theirs { IfOk result (λ thread. IsWorkerSeat pool.old.queue thread.promise.start.value) }
 {
     let seat = clock.lend()?;
@@ -90,8 +91,10 @@ pub(crate) fn start_workers<
     ensures room { vec_len threads.new ≤ count }
     ensures queue { pool.new.queue ≡ pool.old.queue }
     ensures all { OnOk result (length threads.new.items ≡ count) }
-    ensures rest { OnOk result (pool.new.account ≡ account (pool.old.account.parts - count) pool.old.account.put pool.old.account.taken) }
-    ensures started { OnOk result (Each (λ thread. IsWorkerSeat pool.old.queue thread.promise.start.value) threads.new.items) }
+    ensures rest { OnOk result (pool.new.account ≡ account (pool.old.account.parts - count) pool.old.account.put
+        pool.old.account.taken) }
+    ensures started { OnOk result (Each (λ thread. IsWorkerSeat pool.old.queue thread.promise.start.value)
+        threads.new.items) }
 {
     for _worker in 0..count {
         threads.push_reserved(hire(rt, pool, clock)?);

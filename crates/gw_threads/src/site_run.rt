@@ -66,9 +66,9 @@ fn tick_up(clock: &mut ClockSeat, made: u64, now: u64)
     }
 }
 
-/// All bits of a segment with its controllers, each followed by a tick of its clock, unless a stop is called. Bits that need
-/// no port are made one after another, as far as the clock may go, before it ticks for them. The others are looked at only
-/// where it has come as far as it may go.
+/// All bits of a segment with its controllers, each followed by a tick of its clock, unless a stop is called. Bits that
+/// need no port are made one after another, as far as the clock may go, before it ticks for them. The others are looked
+/// at only where it has come as far as it may go.
 fn make_all_bits<R: Wait, P: RxSink<R>>(
     rt: &R,
     segment: &mut Segment,
@@ -78,7 +78,8 @@ fn make_all_bits<R: Wait, P: RxSink<R>>(
 ) -> Result<(), ThreadFault>
     requires new { IsNewSegment P.bus_after P.transmitting P.sink_after bits segment.old ports.old }
     requires clock { TicksAt bits 0 clock.old }
-    ensures runs { OnOk result (SegmentRuns P.bus_after P.transmitting P.sink_after P.port_stays segment.old segment.new ports.old ports.new) }
+    ensures runs { OnOk result (SegmentRuns P.bus_after P.transmitting P.sink_after P.port_stays segment.old
+        segment.new ports.old ports.new) }
     ensures clock { OnOk result (TicksAt bits bits clock.new) }
 {
     let mut made = 0u64;

@@ -59,7 +59,8 @@ pub(crate) fn start_sites<
     requires room { vec_len sites ≤ vec_capacity threads.old }
     requires empty { threads.old.items ≡ [] }
     ensures room { vec_len threads.new ≤ vec_len sites }
-    ensures started { OnOk result (Pairs (λ k site thread. thread.promise.start.value ≡ site) sites.items threads.new.items) }
+    ensures started { OnOk result (Pairs (λ k site thread. thread.promise.start.value ≡ site) sites.items
+        threads.new.items) }
 {
     for site in sites {
         let seat = clock.deal()?;

@@ -50,10 +50,13 @@ fn start_all<
     ensures site_room { vec_len site_threads.new ≤ vec_len sites }
     ensures worker_room { vec_len worker_threads.new ≤ workers }
     ensures queue { pool.new.queue ≡ pool.old.queue }
-    ensures sites { OnOk result (Pairs (λ k site thread. thread.promise.start.value ≡ site) sites.items site_threads.new.items) }
+    ensures sites { OnOk result (Pairs (λ k site thread. thread.promise.start.value ≡ site) sites.items
+        site_threads.new.items) }
     ensures all { OnOk result (length worker_threads.new.items ≡ workers) }
-    ensures rest { OnOk result (pool.new.account ≡ account (pool.old.account.parts - workers) pool.old.account.put pool.old.account.taken) }
-    ensures workers { OnOk result (Each (λ thread. IsWorkerSeat pool.old.queue thread.promise.start.value) worker_threads.new.items) }
+    ensures rest { OnOk result (pool.new.account ≡ account (pool.old.account.parts - workers) pool.old.account.put
+        pool.old.account.taken) }
+    ensures workers { OnOk result (Each (λ thread. IsWorkerSeat pool.old.queue thread.promise.start.value)
+        worker_threads.new.items) }
 {
     start_sites(rt, sites, bits, clock, site_threads)?;
     start_workers(rt, workers, pool, clock, worker_threads)
@@ -70,7 +73,8 @@ fn room_for<T: Drop>(alloc: Global, count: usize) -> Result<Vec<T>, ThreadFault>
     }
 }
 
-/// The clocks of so many segments, in a run of so many bits, of which none may be further ahead of another than the slack.
+/// The clocks of so many segments, in a run of so many bits, of which none may be further ahead of another than the
+/// slack.
 fn clocks_of(
     alloc: Global,
     segments: usize,
@@ -130,8 +134,10 @@ fn run_dealt<
     requires few_workers { workers ≤ 16 }
     requires sites { Each (IsNewSite P.bus_after P.transmitting P.sink_after bits) sites.items }
     requires ready { Each (IsReadyCourier S.route_after) couriers.items }
-    ensures sites { IfOk result (λ made. Pairs (λ k. SiteRuns P.bus_after P.transmitting P.sink_after P.port_stays) sites.items made.0.items) }
-    ensures couriers { IfOk result (λ made. Pairs (λ k. CourierRuns S.route_after S.stays) couriers.items made.1.items) }
+    ensures sites { IfOk result (λ made. Pairs (λ k. SiteRuns P.bus_after P.transmitting P.sink_after P.port_stays)
+        sites.items made.0.items) }
+    ensures couriers { IfOk result (λ made. Pairs (λ k. CourierRuns S.route_after S.stays) couriers.items
+        made.1.items) }
 {
     let workers = workers as usize;
     let mut clock = clocks_of(alloc, sites.len(), bits, slack)?;
@@ -167,9 +173,9 @@ fn run_dealt<
 
 /// Runs each segment in a thread of its own, and the routes by so many workers, 1 to 16, each in a thread of its own: a
 /// worker takes a route's baton, makes one turn of it, and passes it on. Each segment makes all its bits, none of them
-/// further ahead of another than `slack` bits, 1 or more; and a worker ends after 32 tries in a row, each begun once all
-/// segments had made their bits, that came to nothing or found no baton. Each thread that was started is joined before this
-/// returns, whatever the others came to. The segments and the routes come back in their order.
+/// further ahead of another than `slack` bits, 1 or more; and a worker ends after 32 tries in a row, each begun once
+/// all segments had made their bits, that came to nothing or found no baton. Each thread that was started is joined
+/// before this returns, whatever the others came to. The segments and the routes come back in their order.
 ///
 /// `Memory` comes where a growth was refused, in any thread; `Spawn` where a thread could not be started, for want of
 /// memory too. Either way the other threads are told to stop.
@@ -192,8 +198,10 @@ pub fn run_in_threads<
     requires few_workers { workers ≤ 16 }
     requires sites { Each (IsNewSite P.bus_after P.transmitting P.sink_after bits) sites.items }
     requires ready { Each (IsReadyCourier S.route_after) couriers.items }
-    ensures sites { IfOk result (λ made. Pairs (λ k. SiteRuns P.bus_after P.transmitting P.sink_after P.port_stays) sites.items made.0.items) }
-    ensures couriers { IfOk result (λ made. Pairs (λ k. CourierRuns S.route_after S.stays) couriers.items made.1.items) }
+    ensures sites { IfOk result (λ made. Pairs (λ k. SiteRuns P.bus_after P.transmitting P.sink_after P.port_stays)
+        sites.items made.0.items) }
+    ensures couriers { IfOk result (λ made. Pairs (λ k. CourierRuns S.route_after S.stays) couriers.items
+        made.1.items) }
 {
     run_dealt::<R, P, S, G, Brand>(rt, alloc, sites, couriers, bits, workers, slack)
 }

@@ -42,8 +42,9 @@ pub record IsRunOf (s : ScriptValue) (report : Report) : Type 0 where
   pub segments : RunsSegments s report
   -- of each route it has what these records tell of its two controllers
   pub routes : RunsRoutes 3 s report
-  -- of each route into a controller that sends by order of requests, the completed frames are, in order and each once, a
-  -- prefix of the released ones, the aborted ones left out; into one that sends by identifier, they are each once among these
+  -- of each route into a controller that sends by order of requests, the completed frames are, in order and each once,
+  -- a prefix of the released ones, the aborted ones left out; into one that sends by identifier, they are each once
+  -- among these
   pub order : AreOrdered s report
   -- no mailbox was refilled while its bus held it
   pub no_refill : (place : ℕ) (r : RouteReport) (started : List Entry) → slice_get report.routes.items place ≡ Some r
@@ -98,12 +99,14 @@ Answers t input old new = IfSome input (λ bytes. (text : List ℕ) × IsAnswer 
 
 -- the output grows by a front of an answer to the input
 abbrev pub Begins : Task → Option (List ℕ) → Option (List ℕ) → Option (List ℕ) → Type 0
-Begins t input old new = IfSome input (λ bytes. (text : List ℕ) × IsAnswer t bytes text × ((n : ℕ) × Appends old new (take n text)))
+Begins t input old new = IfSome input (λ bytes. (text : List ℕ) × IsAnswer t bytes text
+    × ((n : ℕ) × Appends old new (take n text)))
 
 -- by what the code answers
 abbrev pub Ends : Task → Option (List ℕ) → Option (List ℕ) → Option (List ℕ) → Result (Unit {0}) Failure → Type 0
 Ends t input old new (Ok done) = Answers t input old new
-Ends t input old new (Err (failure.Script e)) = IfSome input (λ bytes. UnlessMemory e (IsRefusal t bytes)) × Keeps old new
+Ends t input old new (Err (failure.Script e)) = IfSome input (λ bytes. UnlessMemory e (IsRefusal t bytes))
+    × Keeps old new
 Ends t input old new (Err (failure.Run e)) = IsWant t e × Keeps old new
 Ends t input old new (Err failure.Read) = Keeps old new
 Ends t input old new (Err failure.Write) = Begins t input old new

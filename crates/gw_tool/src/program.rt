@@ -128,7 +128,8 @@ fn status_after<
     faults: &mut E,
 ) -> u8
     requires { HasRanges order.task }
-    ensures { EndsWith order.entry.task (input_of (F.contents files.now) (R.remaining input.old) (asked_of order.entry).1)
+    ensures { EndsWith order.entry.task (input_of (F.contents files.now) (R.remaining input.old)
+        (asked_of order.entry).1)
         (W.contents output.old) (W.contents output.new) result }
 {
     match fulfil(rt, alloc, order, files, input, output) {
@@ -161,7 +162,8 @@ pub fn tool<
         → EndsWith (Task.Run n) (R.remaining input.old) (W.contents output.old) (W.contents output.new) result }
     ensures threads { (name : List ℕ) (n : ℕ) → IsThreads n
         → map S.text words.now ≡ name ∷ codes "run" ∷ codes "--threads" ∷ decimal n ∷ []
-        → EndsWith (Task.RunThreads n 64) (R.remaining input.old) (W.contents output.old) (W.contents output.new) result }
+        → EndsWith (Task.RunThreads n 64) (R.remaining input.old) (W.contents output.old) (W.contents output.new)
+        result }
     ensures nothing { (name : List ℕ) → map S.text words.now ≡ name ∷ []
         → ((result ≡ 64) ⊎ (result ≡ 3)) × Keeps (W.contents output.old) (W.contents output.new) }
     ensures usage { result ≡ 64 → Keeps (W.contents output.old) (W.contents output.new) }
@@ -200,7 +202,8 @@ pub fn tool_with_files<
         → EndsWith (Task.Run n) (R.remaining input.old) (W.contents output.old) (W.contents output.new) result }
     ensures threads { (name : List ℕ) (n : ℕ) → IsThreads n
         → map S.text words.now ≡ name ∷ codes "run" ∷ codes "--threads" ∷ decimal n ∷ []
-        → EndsWith (Task.RunThreads n 64) (R.remaining input.old) (W.contents output.old) (W.contents output.new) result }
+        → EndsWith (Task.RunThreads n 64) (R.remaining input.old) (W.contents output.old) (W.contents output.new)
+        result }
     ensures nothing { (name : List ℕ) → map S.text words.now ≡ name ∷ []
         → ((result ≡ 64) ⊎ (result ≡ 3)) × Keeps (W.contents output.old) (W.contents output.new) }
     ensures usage { result ≡ 64 → Keeps (W.contents output.old) (W.contents output.new) }
@@ -251,7 +254,8 @@ fn refused_words<W: Write, E: Write>(error: &clap::Error, output: &mut W, faults
     ensures memory { kind_of error.now ≡ ErrorKind.OutOfMemory
         → (result ≡ 3) × Keeps (W.contents output.old) (W.contents output.new) }
     ensures refused { kind_of error.now ≢ ErrorKind.OutOfMemory → kind_of error.now ≢ ErrorKind.DisplayHelp
-        → kind_of error.now ≢ ErrorKind.DisplayVersion → (result ≡ 64) × Keeps (W.contents output.old) (W.contents output.new) }
+        → kind_of error.now ≢ ErrorKind.DisplayVersion → (result ≡ 64)
+        × Keeps (W.contents output.old) (W.contents output.new) }
     ensures help { kind_of error.now ≡ ErrorKind.DisplayHelp → result ≡ 0 }
     ensures version { kind_of error.now ≡ ErrorKind.DisplayVersion → result ≡ 0 }
     ensures usage { result ≡ 64 → Keeps (W.contents output.old) (W.contents output.new) }

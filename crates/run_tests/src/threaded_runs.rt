@@ -1,5 +1,5 @@
-//! Worked runs of gateways in threads. Which turns fall between which bits is left to the machine: no value here depends
-//! on that, but that of many long runs one sends all frames.
+//! Worked runs of gateways in threads. Which turns fall between which bits is left to the machine: no value here
+//! depends on that, but that of many long runs one sends all frames.
 
 use crate::runs::THREE_FRAMES;
 use bx_core::{Gate, Heard, NoGate, Point};
@@ -104,9 +104,9 @@ fn three_frames_are_sent_while_segments_run(rt: HostRuntime) -> Result<(), Fail>
     Ok(())
 }
 
-/// What the gates of two routes tell each other: whether the first has come to its first request, and whether the second
-/// heard that its own stands in mailbox 1. And what is told of them: whether one of them waited in vain, and what the first
-/// heard of its first try and of a later one.
+/// What the gates of two routes tell each other: whether the first has come to its first request, and whether the
+/// second heard that its own stands in mailbox 1. And what is told of them: whether one of them waited in vain, and
+/// what the first heard of its first try and of a later one.
 #[derive(Drop)]
 struct Meeting {
     came: AtomicBool,
@@ -218,8 +218,9 @@ fn make_meeting(alloc: Global) -> Result<Arc<Meeting, Global>, AllocError> {
     )?)
 }
 
-/// Two routes share the mailboxes without a lock, each served by a worker: the second's request is taken while the first is
-/// held in the middle of its own. The first is late then, and a later try of it is taken in the mailbox that it gave back.
+/// Two routes share the mailboxes without a lock, each served by a worker: the second's request is taken while the
+/// first is held in the middle of its own. The first is late then, and a later try of it is taken in the mailbox that
+/// it gave back.
 #[test]
 fn a_route_that_is_held_keeps_no_other(rt: HostRuntime) -> Result<(), Fail> {
     for workers in [2u32, 3] {
