@@ -6,18 +6,8 @@ ghost use Rattle.can_node.specs.Histories.{Past, no_past, IsHistory};
 ghost use Rattle.can_node.specs.Listener.{SendsTo, StandsWith, caught_up, listener_of, listens_in};
 ghost use Rattle.can_confinement.specs.KnownCounts.{Knows, known_of};
 ghost use Rattle.can_node.specs.PlainBits.{GoesOn, MayGoOn};
-ghost use Rattle.can_node.specs.Node.{
-  StandsAfter,
-  IsSample,
-  IsWanting,
-  IsSending,
-  bit_of,
-  counters_in,
-  driven_by,
-  may_begin,
-  sends_from,
-  with_begin,
-};
+ghost use Rattle.can_node.specs.Node.{StandsAfter, IsSample, IsWanting, IsSending, bit_of, counters_in};
+ghost use Rattle.can_node.specs.Node.{driven_by, may_begin, sends_from, with_begin};
 
 use crate::listener::Listener;
 use crate::machine::{advance, begin, is_in_region, level_in, listens, may_start, sof_of};
