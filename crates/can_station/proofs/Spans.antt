@@ -174,27 +174,3 @@ pass_all test span members i all h rests below = sym (all_pass test members (λ 
   | inl less ↦ below k m less e
   | inr more ↦ rests m (h.outside k m e (inr (omega (arith, all, more))))
 ]))
-
--- those rest that stand between these places
-abbrev pub RestBetween : List Member → ℕ → ℕ → Type 0
-RestBetween members first last = (k : ℕ) (m : Member) → slice_get members k ≡ Some m → first < k → k < last → m.rests ≡ true
-
-pub between_step : (members : List Member) (first i : ℕ) (m : Member) → slice_get members i ≡ Some m → m.rests ≡ true → RestBetween members first i → RestBetween members first (i + 1)
-between_step members first i m here is below k x e after before = elim (cases_lt k i) [
-  | inl less ↦ below k x e after less
-  | inr more ↦ (let at : k ≡ i = omega (arith, more, before) in subst (λ y. y.rests ≡ true) (same_some m x (sym here ∙ ap (slice_get members) (sym at) ∙ e)) is)
-]
-
--- so two talkers alone are awake
-pub pair_within : (span : Span) (members : List Member) (first last : ℕ) → first ≡ span.from → span.to ≡ last + 1 → AwakeWithin span members → RestBetween members first last → (k : ℕ) (m : Member) → slice_get members k ≡ Some m → k ≢ first → k ≢ last →
-    m.rests ≡ true
-pair_within span members first last from_is to_is h between k m e not nor = elim (cases_lt k first) [
-  | inl less ↦ h.outside k m e (inl (omega (arith, less, from_is)))
-  | inr more ↦ elim (cases_lt k last) [
-    | inl less ↦ between k m e (omega (arith, more, not)) less
-    | inr behind ↦ h.outside k m e (inr (omega (arith, behind, nor, to_is)))
-  ]
-]
-
-pub empty_within : (span : Span) (members : List Member) → span.to ≤ span.from → AwakeWithin span members → (k : ℕ) (m : Member) → slice_get members k ≡ Some m → m.rests ≡ true
-empty_within span members none h k m e = elim (cases_lt k span.from) [ inl less ↦ h.outside k m e (inl less) | inr more ↦ h.outside k m e (inr (omega (arith, more, none))) ]
