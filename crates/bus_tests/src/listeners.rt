@@ -50,15 +50,21 @@ fn synchronized() -> Node {
     node
 }
 
+/// A node that begins the frame at bit 11.
+fn sender() -> Node {
+    let mut node = synchronized();
+    if node.wants_start() {
+        node.begin(Frame::default());
+    }
+    node
+}
+
 #[test]
 fn one_follows_for_those_that_listen(rt: HostRuntime) {
-    let mut sender = synchronized();
+    let mut sender = sender();
     let mut receiver = synchronized();
     let mut listener = receiver.listener();
     assert!(rt; listener.wants_start());
-    if sender.wants_start() {
-        sender.begin(Frame::default());
-    }
     assert!(rt; !sender.is_listening());
     for (place, byte) in FRAME.as_bytes().iter().enumerate() {
         let level = *byte == b'1';
@@ -200,10 +206,7 @@ fn a_receiver_goes_on_in_the_stuffed_region(rt: HostRuntime) {
 
 #[test]
 fn a_sender_goes_on_where_it_is_acknowledged(rt: HostRuntime) {
-    let mut sender = synchronized();
-    if sender.wants_start() {
-        sender.begin(Frame::default());
-    }
+    let mut sender = sender();
     for (place, byte) in FRAME.as_bytes().iter().enumerate() {
         let level = *byte == b'1';
         // another level than it drives, in the ACK slot the one that it drives, ends the frame
@@ -220,10 +223,7 @@ fn a_sender_goes_on_where_it_is_acknowledged(rt: HostRuntime) {
 
 #[test]
 fn the_flags_of_others_are_waited_for(rt: HostRuntime) {
-    let mut sender = synchronized();
-    if sender.wants_start() {
-        sender.begin(Frame::default());
-    }
+    let mut sender = sender();
     assert_eq!(rt;
         sample(&mut sender, true),
         Some(Outcome::Errored(ErrorKind::Bit))
