@@ -6,7 +6,8 @@ use Rattle.bx_core.specs.Priority.{comes_before}
 pub comes_before-self : (a m : ℕ) → comes_before a m a m ≡ true
 comes_before-self a m = grind (arith, nat_tests)
 
-pub comes_before-on : (a m b n c k : ℕ) → comes_before a m b n ≡ true → comes_before b n c k ≡ true → comes_before a m c k ≡ true
+pub comes_before-on : (a m b n c k : ℕ) → comes_before a m b n ≡ true → comes_before b n c k ≡ true →
+    comes_before a m c k ≡ true
 comes_before-on a m b n c k h g = grind (arith, nat_tests)
 
 pub comes_before-other : (a m b n : ℕ) → comes_before a m b n ≡ false → comes_before b n a m ≡ true

@@ -4,7 +4,8 @@ use Rattle.std.specs.Prelude.{slice_get}
 use Rattle.bx_core.specs.declared.entry.Entry.{Entry}
 use Rattle.bx_core.specs.Steps.{last_of}
 
-pub last_of-last : (es : List Entry) (e : Entry) (n : ℕ) → Some e ≡ slice_get es (length es - 1) → last_of n es ≡ e.number
+pub last_of-last : (es : List Entry) (e : Entry) (n : ℕ) → Some e ≡ slice_get es (length es - 1) →
+    last_of n es ≡ e.number
 last_of-last [] e n is = cc
 last_of-last (x ∷ []) e n is = cc
 last_of-last (x ∷ y ∷ ys) e n is =

@@ -1,5 +1,6 @@
 -- Where requests wait and none is scheduled or transmitting, the next one may be scheduled.
-use Rattle.std.proofs.Common.{◌≡◌, ◌<◌, inl, inr, ⊎_elim, Bool, true, false, cond, List, [], ◌∷◌, length, refl, sym, ap, ◌∙◌, subst, arith, Some}
+use Rattle.std.proofs.Common.{◌≡◌, ◌<◌, inl, inr, ⊎_elim, Bool, true, false, cond, List, [], ◌∷◌, length, refl, sym, ap}
+use Rattle.std.proofs.Common.{◌∙◌, subst, arith, Some}
 use Rattle.std.specs.List.{find}
 use Rattle.std.proofs.lemmas.Bool.{cases_Bool, false≢true}
 use Rattle.can_frame.specs.Keys.{key_of}
@@ -20,7 +21,8 @@ goes_before-self : (w : Waiting) → GoesBefore w w
 goes_before-self w = comes_before-self (key_of w.frame) w.mailbox
 
 goes_before-on : (w x y : Waiting) → GoesBefore w x → GoesBefore x y → GoesBefore w y
-goes_before-on w x y h g = comes_before-on (key_of w.frame) w.mailbox (key_of x.frame) x.mailbox (key_of y.frame) y.mailbox h g
+goes_before-on w x y h g =
+    comes_before-on (key_of w.frame) w.mailbox (key_of x.frame) x.mailbox (key_of y.frame) y.mailbox h g
 
 goes_before-other : (w x : Waiting) → goes_before w x ≡ false → GoesBefore x w
 goes_before-other w x h = comes_before-other (key_of w.frame) w.mailbox (key_of x.frame) x.mailbox h
@@ -36,7 +38,9 @@ least w (v ∷ vs) =
       | inr behind ↦ (let before = goes_before-other x v behind in (
         v,
         inr (inl refl),
-        (goes_before-on v x w before of_rest.2.0, (goes_before-self v, each_more (GoesBefore x) (GoesBefore v) vs (λ y. goes_before-on v x y before) of_rest.2.1)),
+        (goes_before-on v x w before of_rest.2.0,
+            (goes_before-self v, each_more (GoesBefore x) (GoesBefore v) vs
+              (λ y. goes_before-on v x y before) of_rest.2.1)),
       ))
     ]
 
@@ -48,22 +52,28 @@ least_goes x (y ∷ q) idle before =
     rw (here.0, before.0, least_goes x q here.1 before.1) refl
 
 -- a search finds one where one is so
-finds : (is : Waiting → Bool) (q : List Waiting) (x : Waiting) → Has q x → is x ≡ true → (y : Waiting) × (find is q ≡ Some y)
+finds : (is : Waiting → Bool) (q : List Waiting) (x : Waiting) → Has q x → is x ≡ true → (y : Waiting)
+    × (find is q ≡ Some y)
 finds is [] x has so = absurd has
 finds is (z ∷ q) x has so = elim (cases_Bool (is z)) [
   | inl yes_here ↦ (z, ap (λ b. cond b (Some z) (find is q)) yes_here)
-  | inr not_here ↦ (let behind : Has q x = ⊎_elim (λ same. absurd (false≢true (sym not_here ∙ subst (λ (y : Waiting). is y ≡ true) (sym same) so))) (λ h. h) has in
+  | inr not_here ↦
+      (let behind : Has q x =
+      ⊎_elim (λ same. absurd (false≢true (sym not_here ∙ subst (λ (y : Waiting). is y ≡ true) (sym same) so)))
+      (λ h. h) has in
       let there = finds is q x behind so in
       (there.0, ap (λ b. cond b (Some z) (find is q)) not_here ∙ there.1))
 ]
 
-some_next : (txfp : Bool) (w : Waiting) (ws : List Waiting) → count_busy (w ∷ ws) ≡ 0 → (x : Waiting) × (next_by txfp (w ∷ ws) ≡ Some x)
+some_next : (txfp : Bool) (w : Waiting) (ws : List Waiting) → count_busy (w ∷ ws) ≡ 0 → (x : Waiting)
+    × (next_by txfp (w ∷ ws) ≡ Some x)
 some_next true w ws idle = (w, refl)
 some_next false w ws idle =
     let x = least w ws in
     finds (λ (y : Waiting). goes_first y (w ∷ ws)) (w ∷ ws) x.0 x.1 (least_goes x.0 (w ∷ ws) idle x.2)
 
-pub next_of : (txfp : Bool) (q : List Waiting) → count_busy q ≡ 0 → 0 < length q → (x : Waiting) × (next_by txfp q ≡ Some x)
+pub next_of : (txfp : Bool) (q : List Waiting) → count_busy q ≡ 0 → 0 < length q → (x : Waiting)
+    × (next_by txfp q ≡ Some x)
 next_of txfp [] idle some = absurd (omega arith)
 next_of txfp (w ∷ ws) idle some = some_next txfp w ws idle
 

@@ -1,3 +1,4 @@
+pub mod Leaving
 pub mod Words
 pub mod Times
 pub mod Queues

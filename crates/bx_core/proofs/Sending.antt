@@ -1,5 +1,6 @@
 -- What is on the bus, as requests come, go and change.
-use Rattle.std.proofs.Common.{◌≡◌, ℕ, ◌+◌, Bool, true, false, cond, Option, Some, None, List, [], ◌∷◌, ◌++◌, refl, sym, ap, ◌∙◌, arith}
+use Rattle.std.proofs.Common.{◌≡◌, ℕ, ◌+◌, Bool, true, false, cond, Option, Some, None, List, [], ◌∷◌, ◌++◌, refl, sym}
+use Rattle.std.proofs.Common.{ap, ◌∙◌, arith}
 use Rattle.std.specs.Prelude.{option_map}
 use Rattle.std.specs.List.{find}
 use Rattle.std.proofs.lemmas.List.{append-nil}
@@ -41,11 +42,13 @@ pub bus-none : (q : List Waiting) → count_busy q ≡ 0 → bus_of q ≡ None
 bus-none q e = ap bus_of (sym (append-nil q)) ∙ bus-skip q [] e
 
 -- what is transmitting behind pending requests is on the bus
-pub bus-there : (xs ys : List Waiting) (w : Waiting) → count_busy xs ≡ 0 → is_transmitting w.status ≡ true → bus_of (xs ++ w ∷ ys) ≡ Some w
+pub bus-there : (xs ys : List Waiting) (w : Waiting) → count_busy xs ≡ 0 → is_transmitting w.status ≡ true →
+    bus_of (xs ++ w ∷ ys) ≡ Some w
 bus-there xs ys w e sends = bus-skip xs (w ∷ ys) e ∙ ap (λ b. cond b (Some w) (bus_of ys)) sends
 
 -- what isn't transmitting, among pending requests: none is on the bus
-pub bus-idle : (xs ys : List Waiting) (w : Waiting) → count_busy xs ≡ 0 → count_busy ys ≡ 0 → is_transmitting w.status ≡ false → bus_of (xs ++ w ∷ ys) ≡ None
+pub bus-idle : (xs ys : List Waiting) (w : Waiting) → count_busy xs ≡ 0 → count_busy ys ≡ 0 →
+    is_transmitting w.status ≡ false → bus_of (xs ++ w ∷ ys) ≡ None
 bus-idle xs ys w e f idle = bus-skip xs (w ∷ ys) e ∙ ap (λ b. cond b (Some w) (bus_of ys)) idle ∙ bus-none ys f
 
 -- the same, as the bus side tells it
@@ -53,22 +56,29 @@ abbrev pub item_in : List Waiting → Option Item
 item_in q = option_map item_of (bus_of q)
 
 -- a request that isn't transmitting comes or goes
-pub item-drop : (xs ys : List Waiting) (w : Waiting) → is_transmitting w.status ≡ false → item_in (xs ++ w ∷ ys) ≡ item_in (xs ++ ys)
+pub item-drop : (xs ys : List Waiting) (w : Waiting) → is_transmitting w.status ≡ false →
+    item_in (xs ++ w ∷ ys) ≡ item_in (xs ++ ys)
 item-drop [] ys w idle = ap (λ b. option_map item_of (cond b (Some w) (bus_of ys))) idle
-item-drop (x ∷ xs) ys w idle = elim (is_transmitting x.status) as (λ b. option_map item_of (cond b (Some x) (bus_of (xs ++ w ∷ ys))) ≡ option_map item_of (cond b (Some x) (bus_of (xs ++ ys)))) [
+item-drop (x ∷ xs) ys w idle = elim (is_transmitting x.status) as
+    (λ b. option_map item_of (cond b (Some x) (bus_of (xs ++ w ∷ ys)))
+    ≡ option_map item_of (cond b (Some x) (bus_of (xs ++ ys)))) [
   | true ↦ refl
   | false ↦ item-drop xs ys w idle
 ]
 
 -- a request is asked to end
-pub item-asked : (xs ys : List Waiting) (w : Waiting) → item_in (xs ++ record w { abort_asked = true } ∷ ys) ≡ item_in (xs ++ w ∷ ys)
+pub item-asked : (xs ys : List Waiting) (w : Waiting) → item_in (xs ++ record w { abort_asked = true } ∷ ys)
+    ≡ item_in (xs ++ w ∷ ys)
 item-asked [] ys w = either (is_transmitting w.status)
   where
-    either : (b : Bool) → option_map item_of (cond b (Some (record w { abort_asked = true })) (bus_of ys)) ≡ option_map item_of (cond b (Some w) (bus_of ys))
+    either : (b : Bool) → option_map item_of (cond b (Some (record w { abort_asked = true })) (bus_of ys))
+        ≡ option_map item_of (cond b (Some w) (bus_of ys))
     either true = refl
     either false = refl
 item-asked (x ∷ xs) ys w =
-    elim (is_transmitting x.status) as (λ b. option_map item_of (cond b (Some x) (bus_of (xs ++ record w { abort_asked = true } ∷ ys))) ≡ option_map item_of (cond b (Some x) (bus_of (xs ++ w ∷ ys)))) [
+    elim (is_transmitting x.status) as
+        (λ b. option_map item_of (cond b (Some x) (bus_of (xs ++ record w { abort_asked = true } ∷ ys)))
+        ≡ option_map item_of (cond b (Some x) (bus_of (xs ++ w ∷ ys)))) [
       | true ↦ refl
       | false ↦ item-asked xs ys w
     ]

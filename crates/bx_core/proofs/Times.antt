@@ -27,11 +27,13 @@ times_has (x ∷ xs) n h = elim (eqb_tells x n) [
 
 pub each_times : (x n : ℕ) (xs : List ℕ) → n ≤ x → Each (λ y. x < y) xs → times n xs ≡ 0
 each_times x n [] h e = refl
-each_times x n (y ∷ ys) h e = let t : mark y n ≡ 0 = times_other y n (let l : x < y = e.0 in omega arith) in omega (arith, t, each_times x n ys h e.1)
+each_times x n (y ∷ ys) h e = let t : mark y n ≡ 0 = times_other y n (let l : x < y = e.0 in omega arith) in
+    omega (arith, t, each_times x n ys h e.1)
 
 pub rises_once : (xs : List ℕ) (n : ℕ) → Rises xs → times n xs ≤ 1
 rises_once [] n r = omega arith
 rises_once (x ∷ xs) n r = elim (eqb_tells x n) [
-  | inl e ↦ (let t : mark x n ≡ 1 = subst (λ m. mark x m ≡ 1) e.1 (times_self x) in omega (arith, t, each_times x n xs (omega (arith, e.1)) r.0))
+  | inl e ↦ (let t : mark x n ≡ 1 = subst (λ m. mark x m ≡ 1) e.1 (times_self x) in
+      omega (arith, t, each_times x n xs (omega (arith, e.1)) r.0))
   | inr e ↦ (let t : mark x n ≡ 0 = times_other x n e.1 in omega (arith, t, rises_once xs n r.1))
 ]

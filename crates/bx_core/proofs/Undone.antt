@@ -1,5 +1,6 @@
 -- A request that waits is not over: it was neither sent nor aborted nor reaped.
-use Rattle.std.proofs.Common.{◌≡◌, ℕ, ◌==◌, Bool, true, false, cond, Option, Some, None, List, [], ◌∷◌, sym, ap, subst, inl, inr, eq-eqb, arith, ◌∙◌}
+use Rattle.std.proofs.Common.{◌≡◌, ℕ, ◌==◌, Bool, true, false, cond, Option, Some, None, List, [], ◌∷◌, sym, ap, subst}
+use Rattle.std.proofs.Common.{inl, inr, eq-eqb, arith, ◌∙◌}
 use Rattle.std.specs.Prelude.{IfSome}
 use Rattle.bx_core.specs.declared.entry.Entry.{Entry}
 use Rattle.bx_core.specs.declared.waiting.Waiting.{Waiting}
@@ -70,7 +71,8 @@ own_number route n (x ∷ xs) (inr h) = either (x.0 == route) (own_number route 
     either true k = inr k
     either false k = k
 
-waiting_undone : (s : State) (w : Waiting) (past : BusPast) → Law s → Has s.queue w → BusStands s past → IsUndone past (item_of w)
+waiting_undone : (s : State) (w : Waiting) (past : BusPast) → Law s → Has s.queue w → BusStands s past →
+    IsUndone past (item_of w)
 waiting_undone s w past l h b =
     let only = only_waits s w l h in
     record {
@@ -78,24 +80,29 @@ waiting_undone s w past l h b =
           let route : y.0 ≡ w.route = ap (λ (p : ℕ × ℕ). p.0) same in
           let number : y.1 ≡ w.number = ap (λ (p : ℕ × ℕ). p.1) same in
           let entry : Has (lists_of s w.route).done (entry_on_bus y) =
-          subst (λ es. Has es (entry_on_bus y)) (ap (λ r. entries_of r past.done) route ∙ b.done_is w.route) (own_entry y past.done has) in
+          subst (λ es. Has es (entry_on_bus y)) (ap (λ r. entries_of r past.done) route ∙ b.done_is w.route)
+              (own_entry y past.done has) in
           only.not_done (subst (Has (numbers (lists_of s w.route).done)) number
           (has-map (λ (e : Entry). e.number) (lists_of s w.route).done (entry_on_bus y) entry));
-      unreaped = λ has. only.not_reaped (subst (λ ns. Has ns w.number) (b.reaped_is w.route) (own_number w.route w.number past.reaped has));
+      unreaped = λ has. only.not_reaped (subst (λ ns. Has ns w.number) (b.reaped_is w.route)
+          (own_number w.route w.number past.reaped has));
     }
 
 scheduled_waits : (s : State) (w : Waiting) → in_turn s ≡ Some w → Has s.queue w
 scheduled_waits s w e = find-has (λ (y : Waiting). is_scheduled y.status) s.queue w e
 
 -- what starts is not over
-pub starts_undone : (s t : State) (x : Option Item) (past : BusPast) → Law s → Starts s x t → BusStands s past → IfSome x (λ y. IsUndone past y)
+pub starts_undone : (s t : State) (x : Option Item) (past : BusPast) → Law s → Starts s x t → BusStands s past →
+    IfSome x (λ y. IsUndone past y)
 starts_undone s t None past l h b = tt
 starts_undone s t (Some x) past l h b =
     subst (IsUndone past) (sym h.2) (waiting_undone s h.0 past l (scheduled_waits s h.0 h.1) b)
 
 -- and its route did not abort it
-pub starts_unaborted : (s t : State) (x : Option Item) (past : RoutePast) → Law s → Starts s x t → IfSome x (λ y. RouteStands s y.0 past → Has past.aborted y.1 → ⊥)
+pub starts_unaborted : (s t : State) (x : Option Item) (past : RoutePast) → Law s → Starts s x t →
+    IfSome x (λ y. RouteStands s y.0 past → Has past.aborted y.1 → ⊥)
 starts_unaborted s t None past l h = tt
 starts_unaborted s t (Some x) past l h =
     subst (λ (y : Item). RouteStands s y.0 past → Has past.aborted y.1 → ⊥) (sym h.2)
-    (λ stands has. (only_waits s h.0 l (scheduled_waits s h.0 h.1)).not_aborted (subst (λ ns. Has ns h.0.number) stands.aborted_is has))
+    (λ stands has. (only_waits s h.0 l (scheduled_waits s h.0 h.1)).not_aborted
+        (subst (λ ns. Has ns h.0.number) stands.aborted_is has))

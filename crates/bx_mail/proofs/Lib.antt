@@ -1,4 +1,5 @@
 pub mod Postings
+pub mod PostsTaken
 pub mod Relays
 pub mod BusSides
 pub mod Takes

@@ -1,5 +1,6 @@
 -- What a route's calls add to its past.
-use Rattle.std.proofs.Common.{◌≡◌, ℕ, ◌++◌, ◌∷◌, [], List, length, true, false, Bool, refl, sym, ap, ◌∙◌, subst, append-nil}
+use Rattle.std.proofs.Common.{◌≡◌, ℕ, ◌++◌, ◌∷◌, [], List, length, true, false, Bool, refl, sym, ap, ◌∙◌, subst}
+use Rattle.std.proofs.Common.{append-nil}
 use Rattle.std.specs.Prelude.{Result, Ok, Err, IfOk, OnErr}
 use Rattle.atomic_table.specs.Seated.{TableId}
 use Rattle.crossbeam_queue.specs.Fifo.{Held}
@@ -27,50 +28,67 @@ use Rattle.bx_mail.proofs.Postings.{requests_in-append, aborts_in-append}
 abbrev side : TableId → ℕ → Log → RouteSide
 side queue route u = record { queue = queue; route = route; sent = u.sent }
 
-pub was_posted : (v : RouteSide) (queue table : TableId) (u n : Log) (route number : ℕ) (what : Asks) → side queue route u ≡ v → table ≡ queue → n ≡ route_log u.from (u.sent ++ record { route = route; number = number; what = what } ∷ []) →
+pub was_posted : (v : RouteSide) (queue table : TableId) (u n : Log) (route number : ℕ) (what : Asks) →
+    side queue route u ≡ v → table ≡ queue →
+    n ≡ route_log u.from (u.sent ++ record { route = route; number = number; what = what } ∷ []) →
     IsPosted v number what true (side table route n)
 was_posted v queue table u n route number what e same is =
-    let moved : side table route n ≡ posted (side queue route u) number what = (λ i. record { queue = same i; route = route; sent = (is i).sent }) in
+    let moved : side table route n ≡ posted (side queue route u) number what =
+        (λ i. record { queue = same i; route = route; sent = (is i).sent }) in
     moved ∙ ap (λ (s : RouteSide). posted s number what) e
 
-held_last : (v : RouteSide) (queue : TableId) (u : Log) (route cap : ℕ) → side queue route u ≡ v → u.from ≡ route → cap ≡ 8 → Held cap (SentFact u) → Held 8 (AreLastOf v)
+held_last : (v : RouteSide) (queue : TableId) (u : Log) (route cap : ℕ) → side queue route u ≡ v → u.from ≡ route →
+    cap ≡ 8 → Held cap (SentFact u) → Held 8 (AreLastOf v)
 held_last v queue u route cap e own eight h =
-    subst (λ (s : RouteSide). Held 8 (AreLastOf s)) e (h.0, h.1 ∙ eight, (h.2.0, h.2.1 ∙ ap (λ r. of r (h.2.0 ++ h.0)) own))
+    subst (λ (s : RouteSide). Held 8 (AreLastOf s)) e (h.0, h.1 ∙ eight,
+        (h.2.0, h.2.1 ∙ ap (λ r. of r (h.2.0 ++ h.0)) own))
 
-pub was_full : (v : RouteSide) (queue table : TableId) (u n : Log) (route number cap : ℕ) (what : Asks) → side queue route u ≡ v → table ≡ queue → n ≡ u → u.from ≡ route → cap ≡ 8 → Held cap (SentFact u) →
+pub was_full : (v : RouteSide) (queue table : TableId) (u n : Log) (route number cap : ℕ) (what : Asks) →
+    side queue route u ≡ v → table ≡ queue → n ≡ u → u.from ≡ route → cap ≡ 8 → Held cap (SentFact u) →
     IsPosted v number what false (side table route n)
 was_full v queue table u n route number cap what e same is own eight h =
-    let moved : side table route n ≡ side queue route u = (λ i. record { queue = same i; route = route; sent = (is i).sent }) in
+    let moved : side table route n ≡ side queue route u =
+        (λ i. record { queue = same i; route = route; sent = (is i).sent }) in
     (moved ∙ e, held_last v queue u route cap e own eight h)
 
 -- the past after a post
 
-posts_request : (v w : RouteSide) (n : ℕ) (f : FrameValue) (past : RoutePast) → w ≡ posted v n (Transmit f) → RouteRuns v past → RouteRuns w (after_request past n f (Ok Yes))
+posts_request : (v w : RouteSide) (n : ℕ) (f : FrameValue) (past : RoutePast) → w ≡ posted v n (Transmit f) →
+    RouteRuns v past → RouteRuns w (after_request past n f (Ok Yes))
 posts_request v w n f past e h = subst (λ s. RouteRuns s (after_request past n f (Ok Yes))) (sym e) (record {
-  requested = ap (λ l. l ++ record { number = n; frame = f } ∷ []) h.requested ∙ sym (requests_in-append v.sent (record { route = v.route; number = n; what = Transmit f } ∷ []));
+  requested = ap (λ l. l ++ record { number = n; frame = f } ∷ []) h.requested
+      ∙ sym (requests_in-append v.sent (record { route = v.route; number = n; what = Transmit f } ∷ []));
   aborted = h.aborted;
-  asked = h.asked ∙ sym (aborts_in-append v.sent (record { route = v.route; number = n; what = Transmit f } ∷ []) ∙ append-nil (aborts_in v.sent));
+  asked = h.asked ∙ sym (aborts_in-append v.sent (record { route = v.route; number = n; what = Transmit f } ∷ [])
+      ∙ append-nil (aborts_in v.sent));
 })
 
-no_request : (v w : RouteSide) (n : ℕ) (f : FrameValue) (past : RoutePast) (answer : Result Sent NumberTooLarge) → (after_request past n f answer).requested ≡ past.requested ++ [] → w ≡ v → RouteRuns v past → RouteRuns w (after_request past n f answer)
+no_request : (v w : RouteSide) (n : ℕ) (f : FrameValue) (past : RoutePast) (answer : Result Sent NumberTooLarge) →
+    (after_request past n f answer).requested ≡ past.requested ++ [] → w ≡ v → RouteRuns v past →
+    RouteRuns w (after_request past n f answer)
 no_request v w n f past answer none e h = subst (λ s. RouteRuns s (after_request past n f answer)) (sym e) (record {
   requested = none ∙ append-nil past.requested ∙ h.requested;
   aborted = h.aborted;
   asked = h.asked;
 })
 
-pub requests_past : (v w : RouteSide) (n : ℕ) (f : FrameValue) (answer : Result Sent NumberTooLarge) → OnErr answer (w ≡ v) → IfOk answer (λ sent. IsPosted v n (Transmit f) (is_yes sent) w) → (past : RoutePast) → RouteRuns v past → RouteRuns w (after_request past n f answer)
+pub requests_past : (v w : RouteSide) (n : ℕ) (f : FrameValue) (answer : Result Sent NumberTooLarge) →
+    OnErr answer (w ≡ v) → IfOk answer (λ sent. IsPosted v n (Transmit f) (is_yes sent) w) → (past : RoutePast) →
+    RouteRuns v past → RouteRuns w (after_request past n f answer)
 requests_past v w n f (Err why) a b past h = no_request v w n f past (Err why) refl a h
 requests_past v w n f (Ok Yes) a b past h = posts_request v w n f past b h
 requests_past v w n f (Ok NotNow) a b past h = no_request v w n f past (Ok NotNow) refl b.0 h
 
-pub aborts_past : (v w : RouteSide) (n : ℕ) (answer : AbortAnswer) → IsAbortAnswer v n Abort answer w → (past : RoutePast) → RouteRuns v past → (asks : Bool) × RouteRuns w (after_abort past n answer asks)
+pub aborts_past : (v w : RouteSide) (n : ℕ) (answer : AbortAnswer) → IsAbortAnswer v n Abort answer w →
+    (past : RoutePast) → RouteRuns v past → (asks : Bool) × RouteRuns w (after_abort past n answer asks)
 aborts_past v w n Asked a past h = (
   true,
   subst (λ s. RouteRuns s (after_abort past n Asked true)) (sym a) (record {
-    requested = h.requested ∙ sym (requests_in-append v.sent (record { route = v.route; number = n; what = Abort } ∷ []) ∙ append-nil (requests_in v.sent));
+    requested = h.requested ∙ sym (requests_in-append v.sent (record { route = v.route; number = n; what = Abort } ∷ [])
+        ∙ append-nil (requests_in v.sent));
     aborted = append-nil past.aborted ∙ h.aborted;
-    asked = ap (λ l. l ++ n ∷ []) h.asked ∙ sym (aborts_in-append v.sent (record { route = v.route; number = n; what = Abort } ∷ []));
+    asked = ap (λ l. l ++ n ∷ []) h.asked
+        ∙ sym (aborts_in-append v.sent (record { route = v.route; number = n; what = Abort } ∷ []));
   }),
 )
 aborts_past v w n NotAsked a past h = (
@@ -90,7 +108,8 @@ heard_so : (sent : Sent) → IsHeard sent (heard_as sent)
 heard_so Yes = tt
 heard_so NotNow = tt
 
-pub hears_post : {G : Type 0} (may_have_heard : G → List Point → Type 0) (sent : Sent) (old new : G) → Passes may_have_heard (Post ∷ Answered (heard_as sent) ∷ []) old new → HearsAnswer may_have_heard sent old new
+pub hears_post : {G : Type 0} (may_have_heard : G → List Point → Type 0) (sent : Sent) (old new : G) →
+    Passes may_have_heard (Post ∷ Answered (heard_as sent) ∷ []) old new → HearsAnswer may_have_heard sent old new
 hears_post may_have_heard sent old new h = record {
   steps = Post ∷ [];
   are_steps = (tt, tt);
@@ -105,16 +124,22 @@ last_of-more : (es : List Entry) (e : Entry) (n : ℕ) → last_of n (es ++ e �
 last_of-more [] e n = refl
 last_of-more (x ∷ xs) e n = last_of-more xs e x.number
 
-newest_is : (es : List Entry) (number : ℕ) (what : Asks) → newest_by (last_number es) number what ≡ last_number (es ++ request_by number what)
+newest_is : (es : List Entry) (number : ℕ) (what : Asks) → newest_by (last_number es) number what
+    ≡ last_number (es ++ request_by number what)
 newest_is es number (Transmit f) = sym (last_of-more es (record { number = number; frame = f }) 0)
 newest_is es number Abort = ap last_number (sym (append-nil es))
 
-pub newest_posted : (u n : Log) (route number last newer : ℕ) (what : Asks) → last ≡ last_number (requests_in u.sent) → newer ≡ newest_by last number what →
-    n ≡ route_log u.from (u.sent ++ record { route = route; number = number; what = what } ∷ []) → newer ≡ last_number (requests_in n.sent)
+pub newest_posted : (u n : Log) (route number last newer : ℕ) (what : Asks) → last ≡ last_number (requests_in u.sent) →
+    newer ≡ newest_by last number what →
+    n ≡ route_log u.from (u.sent ++ record { route = route; number = number; what = what } ∷ []) →
+    newer ≡ last_number (requests_in n.sent)
 newest_posted u n route number last newer what was is e =
     is ∙ ap (λ l. newest_by l number what) was ∙ newest_is (requests_in u.sent) number what
     ∙ ap (λ es. last_number (requests_in u.sent ++ es)) (sym (append-nil (request_by number what)))
-    ∙ ap last_number (sym (requests_in-append u.sent (record { route = route; number = number; what = what } ∷ []))) ∙ ap (λ (x : Log). last_number (requests_in x.sent)) (sym e)
+    ∙ ap last_number (sym (requests_in-append u.sent (record { route = route; number = number; what = what } ∷ [])))
+    ∙ ap (λ (x : Log). last_number (requests_in x.sent)) (sym e)
 
-pub posted_form : (u n : Log) (x : Posting) (route : ℕ) → u.from ≡ route → n ≡ route_log u.from (u.sent ++ x ∷ []) → n ≡ route_log route n.sent
-posted_form u n x route own e = e ∙ ap (λ r. route_log r (u.sent ++ x ∷ [])) own ∙ ap (λ (y : Log). route_log route y.sent) (sym e)
+pub posted_form : (u n : Log) (x : Posting) (route : ℕ) → u.from ≡ route → n ≡ route_log u.from (u.sent ++ x ∷ []) →
+    n ≡ route_log route n.sent
+posted_form u n x route own e =
+    e ∙ ap (λ r. route_log r (u.sent ++ x ∷ [])) own ∙ ap (λ (y : Log). route_log route y.sent) (sym e)

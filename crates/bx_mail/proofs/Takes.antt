@@ -1,7 +1,8 @@
 -- What the bus side does with a post is what events of the mailbox core do.
-use Rattle.std.proofs.Common.{◌≡◌, ◌≢◌, ℕ, zero, suc, arith, ◌+◌, ◌<◌, ◌≤◌, ◌==◌, ◌⊎◌, inl, inr, ⊎_elim, Bool, true, false, true≢false, cond, List, [], ◌∷◌, ◌++◌, length, get_or, set, refl, sym, ap, ◌∙◌, subst, Option, Some, None, Ok, eq-eqb, ne_eqb, append_assoc, append-nil, length-append}
-use Rattle.std.specs.Prelude.{IfSome, option_to_list}
-use Rattle.std.specs.List.{remove}
+use Rattle.std.proofs.Common.{◌≡◌, ℕ, zero, suc, arith, ◌+◌, ◌<◌, ◌≤◌, ◌==◌, inl, inr, Bool, true, false, cond, List}
+use Rattle.std.proofs.Common.{[], ◌∷◌, ◌++◌, length, get_or, set, refl, sym, ap, ◌∙◌, subst, Option, Some, None, Ok}
+use Rattle.std.proofs.Common.{eq-eqb, ne_eqb, append-nil}
+use Rattle.std.specs.Prelude.{option_to_list}
 use Rattle.std.proofs.lemmas.Bool.{lt-ltb, le-leb}
 use Rattle.std.proofs.lemmas.Bool.Decides.{eqb_tells}
 use Rattle.std.proofs.lemmas.List.{map-append}
@@ -10,198 +11,39 @@ use native.Mathlib.Decide.{dec_le}
 use Rattle.can_frame.specs.Frames.{FrameValue}
 use Rattle.bx_core.specs.declared.entry.Entry.{Entry}
 use Rattle.bx_core.specs.declared.waiting.Waiting.{Waiting}
-use Rattle.bx_core.specs.declared.event.Event.TheVariants.{Claim, Request, Abort as Aborts_event}
+use Rattle.bx_core.specs.declared.event.Event.TheVariants.{Claim, Request}
 use Rattle.bx_core.specs.declared.answer.Sent.TheVariants.{Yes}
-use Rattle.bx_core.specs.declared.answer.AbortAnswer.{AbortAnswer}
-use Rattle.bx_core.specs.declared.answer.AbortAnswer.TheVariants.{Ended, Asked, Gone, NotNow}
 use Rattle.bx_core.specs.Lists.{Each, Has, Rises}
-use Rattle.bx_core.specs.States.{State, numbers, claim_of, lists_of, at_mailbox, place_of, of_number, is_transmitting, IsEmpty, IsLowestEmpty}
-use Rattle.bx_core.specs.Steps.{with_claim, with_request, with_waiting, without, new_waiting, aborted_lists, last_number, last_of, greatest_number, is_claim_of, may_follow, aborted}
+use Rattle.bx_core.specs.States.{State, numbers, claim_of, lists_of, at_mailbox, IsEmpty, IsLowestEmpty}
+use Rattle.bx_core.specs.Steps.{with_claim, with_request, new_waiting, last_number, last_of, greatest_number}
+use Rattle.bx_core.specs.Steps.{is_claim_of, may_follow, aborted}
 use Rattle.bx_core.specs.Law.{Law, count_at, count_of_claim}
 use Rattle.bx_core.specs.TxBus.{BusPast}
-use Rattle.bx_core.specs.RouteTx.{RoutePast, after_request, after_abort, if_asked, if_ended}
-use Rattle.bx_core.specs.PlainMail.{sending, Requests, Aborts}
-use Rattle.bx_core.specs.Stands.{RouteStands, RouteKeeps as CoreKeeps}
-use Rattle.bx_core.proofs.Words.{each-append, each_more, each_of, has-left, has-right, has-last}
+use Rattle.bx_core.specs.RouteTx.{RoutePast, after_request}
+use Rattle.bx_core.specs.PlainMail.{Requests}
+use Rattle.bx_core.specs.Stands.{RouteStands}
+use Rattle.bx_core.proofs.Words.{each_of, has-last}
 use Rattle.bx_core.proofs.Queues.{count_at-none, two_at_most}
-use Rattle.bx_core.proofs.Keeps.{keeps-claim, keeps-request}
-use Rattle.bx_core.proofs.Found.{at_of, found}
 use Rattle.bx_core.proofs.Leads.{goes-request}
 use Rattle.bx_core.proofs.Empties.{goes-claim}
-use Rattle.bx_core.proofs.Numbers.{of_number_has, of_number_is, of_number-none}
 use Rattle.bx_core.proofs.Reaches.{keeps-after}
-use Rattle.bx_core.proofs.RouteSide.{requests-own, requests-keeps, aborts-own, aborts-keeps}
+use Rattle.bx_core.proofs.RouteSide.{requests-own, requests-keeps}
 use Rattle.bx_mail.specs.declared.posting.Posting.{Posting}
 use Rattle.bx_mail.specs.declared.posting.Asks.{Asks}
 use Rattle.bx_mail.specs.declared.posting.Asks.TheVariants.{Transmit, Abort}
-use Rattle.bx_mail.specs.Boxes.{IsLowestFree, IsSeated, on_bus_now, aborted_found, aborted_of}
-use Rattle.bx_mail.specs.Postings.{of, request_by, requests_in, abort_by, aborts_in, IsRequest, AreRising, AreOrderly}
+use Rattle.bx_mail.specs.Boxes.{IsLowestFree, IsSeated, on_bus_now}
+use Rattle.bx_mail.specs.Postings.{of, request_by, requests_in, aborts_in, AreRising}
 use Rattle.bx_mail.specs.Sides.{BusSide, Runs}
-use Rattle.bx_mail.proofs.Postings.{of-append, of-own, of-other, requests_in-append, aborts_in-append, InRange}
-use Rattle.bx_mail.proofs.Relays.{put, put-same, put-other}
-use Rattle.bx_mail.proofs.BusSides.{mail, Becomes, sends_now}
-
-put-each : (Q : ℕ → RoutePast → Type 0) (f : ℕ → RoutePast) (r : ℕ) (x : RoutePast) → Q r x → ((k : ℕ) → k ≢ r → Q k (f k)) → (k : ℕ) → Q k (put f r x k)
-put-each Q f r x here other k = elim (eqb_tells k r) [
-  | inl e ↦ subst (λ (y : ℕ × RoutePast). Q y.0 y.1) (λ i. (sym e.1 i, sym (put-same f r x k e.1) i)) here
-  | inr e ↦ subst (Q k) (sym (put-other f r x k e.1)) (other k e.1)
-]
-
--- the posts of a route, with one more
-
-more_posts : (r : ℕ) (got : List Posting) (p : Posting) → aborts_in (of r (got ++ p ∷ [])) ≡ aborts_in (of r got) ++ aborts_in (of r (p ∷ []))
-more_posts r got p = ap aborts_in (of-append r got (p ∷ [])) ∙ aborts_in-append (of r got) (of r (p ∷ []))
-
-more_aborts : (r : ℕ) (got : List Posting) (p : Posting) (ns : List ℕ) → Each (Has (aborts_in (of r got))) ns → Each (Has (aborts_in (of r (got ++ p ∷ [])))) ns
-more_aborts r got p ns h = each_more (Has (aborts_in (of r got))) (Has (aborts_in (of r (got ++ p ∷ [])))) ns
-    (λ n has. subst (λ (l : List ℕ). Has l n) (sym (more_posts r got p)) (has-left (aborts_in (of r got)) (aborts_in (of r (p ∷ []))) n has)) h
-
-more_requests : (r : ℕ) (got : List Posting) (p : Posting) → requests_in (of r (got ++ p ∷ [])) ≡ requests_in (of r got) ++ requests_in (of r (p ∷ []))
-more_requests r got p = ap requests_in (of-append r got (p ∷ [])) ∙ requests_in-append (of r got) (of r (p ∷ []))
-
-not_nothing : {A : Type 0} (xs : List A) (x : A) → xs ++ x ∷ [] ≡ [] → ⊥
-not_nothing [] x e = let h : x ∷ [] ≡ [] = e in cc
-not_nothing (y ∷ ys) x e = let h : y ∷ (ys ++ x ∷ []) ≡ [] = e in cc
-
--- a post of orderly ones is of a route that is there
-route_there : (n : ℕ) (got : List Posting) (p : Posting) → AreOrderly n (got ++ p ∷ []) → p.route < n
-route_there n got p o = dite (dec_le (suc p.route) n) (λ h. h)
-    (λ h. absurd (not_nothing (of p.route got) p (sym (of-append p.route got (p ∷ []) ∙ ap (λ ps. of p.route got ++ ps) (of-own p.route p refl)) ∙ o.beyond p.route (omega (arith, h)))))
-
--- a request is taken: it is kept aside
-
-pub takes-aside : (v : BusSide) (p : Posting) → v.aside ≡ None → AreOrderly v.routes (v.got ++ p ∷ []) → IsRequest p.what → (past : BusPast) → Runs v past → Runs (record v { got = v.got ++ p ∷ []; aside = Some p }) past
-takes-aside v p none o request past h = record {
-  core = h.core;
-  law = h.law;
-  order = h.order;
-  free = h.free;
-  routes = h.routes;
-  boxes = h.boxes;
-  bus = h.bus;
-  asks = h.asks;
-  stands = h.stands;
-  asked = λ r. more_aborts r v.got p (h.asks r).asked (h.asked r);
-  aborted = λ r. more_aborts r v.got p (h.asks r).aborted (h.aborted r);
-  requested = λ r. (let plain : (h.asks r).requested ≡ requests_in (of r v.got) = sym (append-nil (h.asks r).requested) ∙ ap (λ (a : Option Posting). (h.asks r).requested ++ requests_in (of r (option_to_list a))) (sym none) ∙ h.requested r in
-      ap (λ es. es ++ requests_in (of r (p ∷ []))) plain ∙ sym (more_requests r v.got p));
-  orderly = o;
-  aside = request;
-}
-
--- an abort is taken
-
-goes-ask : (s : State) (r : ℕ) (w : Waiting) → at_mailbox w.mailbox s.queue ≡ Some w → w.route ≡ r → w.abort_asked ≡ false → is_transmitting w.status ≡ true →
-    aborted s r w.mailbox ≡ Ok (with_waiting s (at_of s w) (record w { abort_asked = true }))
-unfolding aborted
-goes-ask s r w at own asked sends = rw (at, eq-eqb w.route r own, asked, sends) refl
-
-goes-end : (s : State) (r : ℕ) (w : Waiting) → at_mailbox w.mailbox s.queue ≡ Some w → w.route ≡ r → w.abort_asked ≡ false → is_transmitting w.status ≡ false →
-    aborted s r w.mailbox ≡ Ok (without s (at_of s w) w.route (aborted_lists (lists_of s w.route) w))
-unfolding aborted
-goes-end s r w at own asked sends = rw (at, eq-eqb w.route r own, asked, sends) refl
-
-abbrev AbortsTo : State → ℕ → ℕ → List Waiting → Type 0
-AbortsTo s r n q = (t : State) × (answer : AbortAnswer) × Aborts s r n answer t × Becomes s q t
-
-aborts-found : (s : State) (r n : ℕ) → Law s → r < length s.routes → (o : Option Waiting) → of_number r n s.queue ≡ o → AbortsTo s r n (aborted_found s.queue o)
-aborts-found s r n l there None is = (s, Gone, (of_number-none r n s.queue is, refl), record { law = l; claims = refl; queue = refl })
-aborts-found s r n l there (Some w) is = by_test w.abort_asked refl (is_transmitting w.status) refl
-  where
-    by_test : (a : Bool) → w.abort_asked ≡ a → (b : Bool) → is_transmitting w.status ≡ b →
-        AbortsTo s r n (cond a s.queue (cond b (set s.queue (at_of s w) (record w { abort_asked = true })) (remove s.queue (at_of s w))))
-    by_test true asked b sends = (s, Asked, (w, of_number_has r n s.queue w is, of_number_is r n s.queue w is, inl (asked, refl)), record { law = l; claims = refl; queue = refl })
-    by_test false asked true sends =
-        let has = of_number_has r n s.queue w is in
-        let own = of_number_is r n s.queue w is in
-        let at = (found s w l has).at in
-        let t : State = with_waiting s (at_of s w) (record w { abort_asked = true }) in
-        let goes = goes-ask s r w at own.route_is asked sends in
-        let m = (each_of (λ (y : Waiting). y.mailbox < 3) s.queue w (each_more _ (λ (y : Waiting). y.mailbox < 3) s.queue (λ y p. p.mailbox) l.in_place) has) in
-        (t, Asked, (w, has, own, inr (sends, goes)), record { law = (keeps-after s t (Aborts_event r w.mailbox) (there, m) goes l).0; claims = refl; queue = refl })
-    by_test false asked false sends =
-        let has = of_number_has r n s.queue w is in
-        let own = of_number_is r n s.queue w is in
-        let at = (found s w l has).at in
-        let t : State = without s (at_of s w) w.route (aborted_lists (lists_of s w.route) w) in
-        let goes = goes-end s r w at own.route_is asked sends in
-        let m = (each_of (λ (y : Waiting). y.mailbox < 3) s.queue w (each_more _ (λ (y : Waiting). y.mailbox < 3) s.queue (λ y p. p.mailbox) l.in_place) has) in
-        (t, Ended, (w, has, own, sends, goes), record { law = (keeps-after s t (Aborts_event r w.mailbox) (there, m) goes l).0; claims = refl; queue = refl })
-
-aborts-core : (s : State) (r n : ℕ) (q : List Waiting) → Law s → r < length s.routes → s.queue ≡ q → AbortsTo s r n (aborted_of r n q)
-aborts-core s r n q l there e = subst (λ (ws : List Waiting). AbortsTo s r n (aborted_of r n ws)) e (aborts-found s r n l there (of_number r n s.queue) refl)
-
-each_ended : (P : ℕ → Type 0) (answer : AbortAnswer) (n : ℕ) → P n → Each P (if_ended answer n)
-each_ended P Ended n h = (h, tt)
-each_ended P Asked n h = tt
-each_ended P Gone n h = tt
-each_ended P NotNow n h = tt
-
-each_asked : (P : ℕ → Type 0) (answer : AbortAnswer) (asks : Bool) (n : ℕ) → P n → Each P (if_asked answer asks n)
-each_asked P Asked true n h = (h, tt)
-each_asked P Asked false n h = tt
-each_asked P Ended asks n h = tt
-each_asked P Gone asks n h = tt
-each_asked P NotNow asks n h = tt
-
-abort_there : (got : List Posting) (p : Posting) → p.what ≡ Abort → Has (aborts_in (of p.route (got ++ p ∷ []))) p.number
-abort_there got p is = subst (λ (l : List ℕ). Has l p.number) (sym (more_posts p.route got p ∙ ap (λ ps. aborts_in (of p.route got) ++ aborts_in ps) (of-own p.route p refl) ∙ ap (λ a. aborts_in (of p.route got) ++ (abort_by p.number a ++ [])) is)) (has-last (aborts_in (of p.route got)) p.number)
-
-no_request : (r : ℕ) (p : Posting) → p.what ≡ Abort → requests_in (of r (p ∷ [])) ≡ []
-no_request r p is = elim (eqb_tells p.route r) [
-  | inl e ↦ ap requests_in (of-own r p e.1) ∙ ap (λ a. request_by p.number a ++ []) is
-  | inr e ↦ ap requests_in (of-other r p e.1)
-]
-
-same_requests : (r : ℕ) (got : List Posting) (p : Posting) → p.what ≡ Abort → requests_in (of r got) ≡ requests_in (of r (got ++ p ∷ []))
-same_requests r got p is = sym (more_requests r got p ∙ ap (λ es. requests_in (of r got) ++ es) (no_request r p is) ∙ append-nil (requests_in (of r got)))
-
-pub takes-abort : (v : BusSide) (p : Posting) → AreOrderly v.routes (v.got ++ p ∷ []) → p.what ≡ Abort → (past : BusPast) → Runs v past →
-    Runs (record v { got = v.got ++ p ∷ []; boxes = aborted_of p.route p.number v.boxes }) past
-takes-abort v p o is past h =
-    let r = p.route in
-    let n = p.number in
-    let there : r < length h.core.routes = subst (λ i. r < i) (sym h.routes) (route_there v.routes v.got p o) in
-    let c = aborts-core h.core r n v.boxes h.law there h.boxes in
-    let t = c.0 in
-    let answer = c.1 in
-    let own = aborts-own h.core t r n answer (h.asks r) h.law there c.2 (h.stands r) in
-    let k = aborts-keeps (mail h.core) (mail t) r n answer h.law there c.2 refl in
-    let a : RoutePast = after_abort (h.asks r) n answer own.0 in
-    let got = v.got ++ p ∷ [] in
-    record {
-      core = t;
-      law = c.3.law;
-      order = k.priority ∙ h.order;
-      free = c.3.claims ∙ h.free;
-      routes = k.routes ∙ h.routes;
-      boxes = c.3.queue;
-      bus = k.bus past h.bus;
-      asks = put h.asks r a;
-      stands = put-each (RouteStands t) h.asks r a own.1 (λ i ne. k.others i ne (h.asks i) (h.stands i));
-      asked = put-each (λ i (x : RoutePast). Each (Has (aborts_in (of i got))) x.asked) h.asks r a
-          (each-append (Has (aborts_in (of r got))) (h.asks r).asked (if_asked answer own.0 n) (more_aborts r v.got p (h.asks r).asked (h.asked r)) (each_asked (Has (aborts_in (of r got))) answer own.0 n (abort_there v.got p is)))
-          (λ i ne. more_aborts i v.got p (h.asks i).asked (h.asked i));
-      aborted = put-each (λ i (x : RoutePast). Each (Has (aborts_in (of i got))) x.aborted) h.asks r a
-          (each-append (Has (aborts_in (of r got))) (h.asks r).aborted (if_ended answer n) (more_aborts r v.got p (h.asks r).aborted (h.aborted r)) (each_ended (Has (aborts_in (of r got))) answer n (abort_there v.got p is)))
-          (λ i ne. more_aborts i v.got p (h.asks i).aborted (h.aborted i));
-      requested = put-each (λ i (x : RoutePast). x.requested ++ requests_in (of i (option_to_list v.aside)) ≡ requests_in (of i got)) h.asks r a
-          (h.requested r ∙ same_requests r v.got p is) (λ i ne. h.requested i ∙ same_requests i v.got p is);
-      orderly = o;
-      aside = h.aside;
-    }
-
-pub aborts-sends : (v : BusSide) (p : Posting) → AreOrderly v.routes (v.got ++ p ∷ []) → (past : BusPast) → Runs v past → on_bus_now (aborted_of p.route p.number v.boxes) ≡ on_bus_now v.boxes
-aborts-sends v p o past h =
-    let there : p.route < length h.core.routes = subst (λ i. p.route < i) (sym h.routes) (route_there v.routes v.got p o) in
-    let c = aborts-core h.core p.route p.number v.boxes h.law there h.boxes in
-    let k = aborts-keeps (mail h.core) (mail c.0) p.route p.number c.1 h.law there c.2 refl in
-    sym (sends_now c.0 (aborted_of p.route p.number v.boxes) c.3.law (k.priority ∙ h.order) c.3.queue) ∙ k.sends ∙ sends_now h.core v.boxes h.law h.order h.boxes
+use Rattle.bx_mail.proofs.Postings.{of-own, of-other, InRange}
+use Rattle.bx_mail.proofs.Relays.{put}
+use Rattle.bx_mail.proofs.BusSides.{mail}
+use Rattle.bx_mail.proofs.PostsTaken.{put-each, not_nothing}
 
 -- a request goes into a mailbox
 
 -- where a mailbox holds none, there is room for one more
-pub room : (v : BusSide) (past : BusPast) → Runs v past → (m : ℕ) → m < 3 → at_mailbox m v.boxes ≡ None → length v.boxes < 3
+pub room : (v : BusSide) (past : BusPast) → Runs v past → (m : ℕ) → m < 3 → at_mailbox m v.boxes ≡ None →
+    length v.boxes < 3
 room v past h m lt none =
     let q = h.core.queue in
     let claim : ℕ → Option ℕ = λ k. cond (k == m) (Some 0) None in
@@ -210,13 +52,15 @@ room v past h m lt none =
     let empty : count_at m q ≡ 0 = count_at-none m q (ap (at_mailbox m) h.boxes ∙ none) in
     let apart : (k : ℕ) → count_of_claim (claim k) + count_at k q ≤ 1 = λ k. elim (eqb_tells k m) [
       | inl e ↦ subst (λ (i : ℕ). count_of_claim (claim i) + count_at i q ≤ 1) (sym e.1) (omega (arith, count, empty))
-      | inr e ↦ (let none_here : count_of_claim (claim k) ≡ 0 = ap (λ b. count_of_claim (cond b (Some 0) None)) (ne_eqb k m e.1) in let a = h.law.apart k in omega (arith, none_here, a))
+      | inr e ↦ (let none_here : count_of_claim (claim k) ≡ 0 = ap (λ b. count_of_claim (cond b (Some 0) None))
+          (ne_eqb k m e.1) in let a = h.law.apart k in omega (arith, none_here, a))
     ] in
     let two = two_at_most (length h.core.routes) claim q m lt h.law.in_place (omega (arith, count)) apart in
     let same = ap length h.boxes in
     omega (arith, two, same)
 
-pub seated-sends : (q : List Waiting) (r m n : ℕ) (f : FrameValue) → on_bus_now (q ++ new_waiting r m n f ∷ []) ≡ on_bus_now q
+pub seated-sends : (q : List Waiting) (r m n : ℕ) (f : FrameValue) →
+    on_bus_now (q ++ new_waiting r m n f ∷ []) ≡ on_bus_now q
 seated-sends [] r m n f = refl
 seated-sends (w ∷ ws) r m n f = refl
 
@@ -225,7 +69,8 @@ none_claimed = None ∷ None ∷ None ∷ []
 
 -- a mailbox may be claimed and left again
 abbrev IsFreeAt : ℕ → List (Option ℕ) → ℕ → Type 0
-IsFreeAt r claims m = (set (set claims m (Some r)) m None ≡ none_claimed) × (get_or claims m None ≡ None) × (get_or (set claims m (Some r)) m None ≡ Some r)
+IsFreeAt r claims m = (set (set claims m (Some r)) m None ≡ none_claimed) × (get_or claims m None ≡ None)
+    × (get_or (set claims m (Some r)) m None ≡ Some r)
 
 free_at : (r m : ℕ) → m < 3 → IsFreeAt r none_claimed m
 free_at r zero l = (refl, refl, refl)
@@ -242,20 +87,24 @@ record Seats (s : State) (r n : ℕ) (f : FrameValue) (m : ℕ) (t : State) : Ty
   free : t.claims ≡ None ∷ None ∷ None ∷ []
   requests : Requests (mail s) r n f Yes (mail t)
 
-seats-core : (s : State) (r n : ℕ) (f : FrameValue) (m : ℕ) → Law s → s.claims ≡ None ∷ None ∷ None ∷ [] → r < length s.routes → IsLowestFree s.queue m → last_number (lists_of s r).requested < n → n ≤ greatest_number →
+seats-core : (s : State) (r n : ℕ) (f : FrameValue) (m : ℕ) → Law s → s.claims ≡ None ∷ None ∷ None ∷ [] →
+    r < length s.routes → IsLowestFree s.queue m → last_number (lists_of s r).requested < n → n ≤ greatest_number →
     (t : State) × Seats s r n f m t
 seats-core s r n f m l free there low above most =
     let c = free_below s.claims m r free low.within in
     let u : State = with_claim s m (Some r) in
     let t : State = with_request u r m n f in
     let empty : IsEmpty s m = record { unclaimed = c.1; unrequested = low.free } in
-    let lowest : IsLowestEmpty s m = record { within = low.within; empty = empty; lowest = λ k lt e. low.lowest k lt e.unrequested } in
+    let lowest : IsLowestEmpty s m =
+        record { within = low.within; empty = empty; lowest = λ k lt e. low.lowest k lt e.unrequested } in
     let claims = goes-claim s r m empty in
     let lu : Law u = (keeps-after s u (Claim r m) (there, low.within) claims l).0 in
     let own : is_claim_of (claim_of u m) r ≡ true = ap (λ (o : Option ℕ). is_claim_of o r) c.2 ∙ eq-eqb r r refl in
-    let may : may_follow u r n ≡ true = rw (lt-ltb (last_number (lists_of s r).requested) n above, le-leb n greatest_number most) refl in
+    let may : may_follow u r n ≡ true =
+        rw (lt-ltb (last_number (lists_of s r).requested) n above, le-leb n greatest_number most) refl in
     let asks = goes-request u r m n f own may in
-    (t, record { law = (keeps-after u t (Request r m n f) (there, low.within) asks lu).0; queue = refl; free = c.0; requests = (refl, m, u, lowest, claims, asks) })
+    (t, record { law = (keeps-after u t (Request r m n f) (there, low.within) asks lu).0; queue = refl; free = c.0;
+          requests = (refl, m, u, lowest, claims, asks) })
 
 -- the last of requests that rise is above the others
 last_below : (es : List Entry) (n k : ℕ) → n < k → Each (λ y. y < k) (numbers es) → last_of n es < k
@@ -266,28 +115,40 @@ rises_last : (xs : List ℕ) (n : ℕ) → Rises (xs ++ n ∷ []) → Each (λ y
 rises_last [] n h = tt
 rises_last (x ∷ xs) n h = (each_of (λ y. x < y) (xs ++ n ∷ []) n h.0 (has-last xs n), rises_last xs n h.1)
 
-last-rising : (es : List Entry) (e : Entry) → AreRising (es ++ e ∷ []) → (last_number es < e.number) × (e.number ≤ greatest_number)
+last-rising : (es : List Entry) (e : Entry) → AreRising (es ++ e ∷ []) → (last_number es < e.number)
+    × (e.number ≤ greatest_number)
 last-rising es e h =
     let ns : numbers (es ++ e ∷ []) ≡ numbers es ++ e.number ∷ [] = map-append (λ (x : Entry). x.number) es (e ∷ []) in
-    let range : InRange e.number = each_of InRange (numbers es ++ e.number ∷ []) e.number (subst (Each InRange) ns h.in_range) (has-last (numbers es) e.number) in
-    (last_below es 0 e.number (omega (arith, range.0)) (rises_last (numbers es) e.number (subst Rises ns h.rises)), range.1)
+    let range : InRange e.number = each_of InRange (numbers es ++ e.number ∷ []) e.number
+        (subst (Each InRange) ns h.in_range) (has-last (numbers es) e.number) in
+    (last_below es 0 e.number (omega (arith, range.0)) (rises_last (numbers es) e.number (subst Rises ns h.rises)),
+        range.1)
 
-own_request : (p : Posting) (f : FrameValue) → p.what ≡ Transmit f → requests_in (of p.route (p ∷ [])) ≡ record { number = p.number; frame = f } ∷ []
+own_request : (p : Posting) (f : FrameValue) → p.what ≡ Transmit f →
+    requests_in (of p.route (p ∷ [])) ≡ record { number = p.number; frame = f } ∷ []
 own_request p f is = ap requests_in (of-own p.route p refl) ∙ ap (λ a. request_by p.number a ++ []) is
 
-pub seats-run : (v : BusSide) (p : Posting) (f : FrameValue) (m : ℕ) → v.aside ≡ Some p → p.what ≡ Transmit f → IsLowestFree v.boxes m → (past : BusPast) → Runs v past →
+pub seats-run : (v : BusSide) (p : Posting) (f : FrameValue) (m : ℕ) → v.aside ≡ Some p → p.what ≡ Transmit f →
+    IsLowestFree v.boxes m → (past : BusPast) → Runs v past →
     Runs (record v { boxes = v.boxes ++ new_waiting p.route m p.number f ∷ []; aside = None }) past
 seats-run v p f m held is low past h =
     let r = p.route in
     let n = p.number in
     let e : Entry = record { number = n; frame = f } in
     let all : (h.asks r).requested ++ e ∷ [] ≡ requests_in (of r v.got) =
-    ap (λ es. (h.asks r).requested ++ es) (sym (own_request p f is)) ∙ ap (λ (a : Option Posting). (h.asks r).requested ++ requests_in (of r (option_to_list a))) (sym held) ∙ h.requested r in
+    ap (λ es. (h.asks r).requested ++ es) (sym (own_request p f is))
+        ∙ ap (λ (a : Option Posting). (h.asks r).requested ++ requests_in (of r (option_to_list a))) (sym held)
+        ∙ h.requested r in
     let there : r < length h.core.routes = dite (dec_le (suc r) (length h.core.routes)) (λ lt. lt)
-    (λ no_room. (let same = h.routes in absurd (not_nothing (h.asks r).requested e (all ∙ ap requests_in (h.orderly.beyond r (omega (arith, no_room, same))))))) in
+    (λ no_room. (let same = h.routes in
+          absurd
+          (not_nothing (h.asks r).requested e
+            (all ∙ ap requests_in (h.orderly.beyond r (omega (arith, no_room, same))))))) in
     let last = last-rising (h.asks r).requested e (subst AreRising (sym all) (h.orderly.rising r)) in
-    let above : last_number (lists_of h.core r).requested < n = subst (λ (es : List Entry). last_number es < n) (h.stands r).requested_is last.0 in
-    let c = seats-core h.core r n f m h.law h.free there (subst (λ (q : List Waiting). IsLowestFree q m) (sym h.boxes) low) above last.1 in
+    let above : last_number (lists_of h.core r).requested < n =
+        subst (λ (es : List Entry). last_number es < n) (h.stands r).requested_is last.0 in
+    let c = seats-core h.core r n f m h.law h.free there
+        (subst (λ (q : List Waiting). IsLowestFree q m) (sym h.boxes) low) above last.1 in
     let t = c.0 in
     let k = requests-keeps (mail h.core) (mail t) r n f Yes there c.1.requests in
     let a : RoutePast = after_request (h.asks r) n f (Ok Yes) in
@@ -300,39 +161,60 @@ seats-run v p f m held is low past h =
       boxes = c.1.queue ∙ ap (λ (q : List Waiting). q ++ new_waiting r m n f ∷ []) h.boxes;
       bus = k.bus past h.bus;
       asks = put h.asks r a;
-      stands = put-each (RouteStands t) h.asks r a (requests-own (mail h.core) (mail t) r n f Yes (h.asks r) there c.1.requests (h.stands r)) (λ i ne. k.others i ne (h.asks i) (h.stands i));
-      asked = put-each (λ i (x : RoutePast). Each (Has (aborts_in (of i v.got))) x.asked) h.asks r a (h.asked r) (λ i ne. h.asked i);
-      aborted = put-each (λ i (x : RoutePast). Each (Has (aborts_in (of i v.got))) x.aborted) h.asks r a (h.aborted r) (λ i ne. h.aborted i);
-      requested = put-each (λ i (x : RoutePast). x.requested ++ [] ≡ requests_in (of i v.got)) h.asks r a (append-nil ((h.asks r).requested ++ e ∷ []) ∙ all)
-          (λ i ne. ap (λ es. (h.asks i).requested ++ es) (sym (ap requests_in (of-other i p (λ same. ne (sym same))))) ∙ ap (λ (o : Option Posting). (h.asks i).requested ++ requests_in (of i (option_to_list o))) (sym held) ∙ h.requested i);
+      stands = put-each (RouteStands t) h.asks r a
+          (requests-own (mail h.core) (mail t) r n f Yes (h.asks r) there c.1.requests (h.stands r))
+          (λ i ne. k.others i ne (h.asks i) (h.stands i));
+      asked = put-each (λ i (x : RoutePast). Each (Has (aborts_in (of i v.got))) x.asked) h.asks r a (h.asked r)
+          (λ i ne. h.asked i);
+      aborted = put-each (λ i (x : RoutePast). Each (Has (aborts_in (of i v.got))) x.aborted) h.asks r a (h.aborted r)
+          (λ i ne. h.aborted i);
+      requested = put-each (λ i (x : RoutePast). x.requested ++ [] ≡ requests_in (of i v.got)) h.asks r a
+          (append-nil ((h.asks r).requested ++ e ∷ []) ∙ all)
+          (λ i ne. ap (λ es. (h.asks i).requested ++ es) (sym (ap requests_in (of-other i p (λ same. ne (sym same)))))
+              ∙ ap (λ (o : Option Posting). (h.asks i).requested ++ requests_in (of i (option_to_list o))) (sym held)
+              ∙ h.requested i);
       orderly = h.orderly;
       aside = tt;
     }
 
 -- the same, where the side before is told of by another name
 
-seated_by : (w : BusSide) (p : Posting) (q : List Waiting) (what : Asks) → p.what ≡ what → w.aside ≡ Some p → IsSeated w.boxes p.route p.number what true q → (past : BusPast) → Runs w past → Runs (record w { boxes = q; aside = None }) past
-seated_by w p q (Transmit f) is held s past h = subst (λ (ws : List Waiting). Runs (record w { boxes = ws; aside = None }) past) (sym s.2) (seats-run w p f s.0 held is s.1 past h)
+seated_by : (w : BusSide) (p : Posting) (q : List Waiting) (what : Asks) → p.what ≡ what → w.aside ≡ Some p →
+    IsSeated w.boxes p.route p.number what true q → (past : BusPast) → Runs w past →
+    Runs (record w { boxes = q; aside = None }) past
+seated_by w p q (Transmit f) is held s past h =
+    subst (λ (ws : List Waiting). Runs (record w { boxes = ws; aside = None }) past) (sym s.2)
+    (seats-run w p f s.0 held is s.1 past h)
 seated_by w p q Abort is held s past h = absurd s
 
-pub seated-past : (v w : BusSide) (p : Posting) (q : List Waiting) (b : Bool) → w ≡ v → w.aside ≡ Some p → IsSeated w.boxes p.route p.number p.what b q → b ≡ true → (past : BusPast) → Runs v past → Runs (record w { boxes = q; aside = None }) past
-seated-past v w p q b e held s so past h = seated_by w p q p.what refl held (subst (λ c. IsSeated w.boxes p.route p.number p.what c q) so s) past (subst (λ u. Runs u past) (sym e) h)
+pub seated-past : (v w : BusSide) (p : Posting) (q : List Waiting) (b : Bool) → w ≡ v → w.aside ≡ Some p →
+    IsSeated w.boxes p.route p.number p.what b q → b ≡ true → (past : BusPast) → Runs v past →
+    Runs (record w { boxes = q; aside = None }) past
+seated-past v w p q b e held s so past h = seated_by w p q p.what refl held
+    (subst (λ c. IsSeated w.boxes p.route p.number p.what c q) so s) past (subst (λ u. Runs u past) (sym e) h)
 
-sends_by : (q ws : List Waiting) (r n : ℕ) (what : Asks) (b : Bool) → IsSeated ws r n what b q → on_bus_now q ≡ on_bus_now ws
+sends_by : (q ws : List Waiting) (r n : ℕ) (what : Asks) (b : Bool) → IsSeated ws r n what b q →
+    on_bus_now q ≡ on_bus_now ws
 sends_by q ws r n (Transmit f) true s = ap on_bus_now s.2 ∙ seated-sends ws r s.0 n f
 sends_by q ws r n (Transmit f) false s = ap on_bus_now s.0
 sends_by q ws r n Abort true s = absurd s
 sends_by q ws r n Abort false s = ap on_bus_now s
 
-pub seated_now : (v w : BusSide) (p : Posting) (q : List Waiting) (b : Bool) → w ≡ v → IsSeated w.boxes p.route p.number p.what b q → on_bus_now q ≡ on_bus_now v.boxes
+pub seated_now : (v w : BusSide) (p : Posting) (q : List Waiting) (b : Bool) → w ≡ v →
+    IsSeated w.boxes p.route p.number p.what b q → on_bus_now q ≡ on_bus_now v.boxes
 seated_now v w p q b e s = sends_by q w.boxes p.route p.number p.what b s ∙ ap (λ (u : BusSide). on_bus_now u.boxes) e
 
 same_by : (q ws : List Waiting) (r n : ℕ) (what : Asks) → IsSeated ws r n what false q → q ≡ ws
 same_by q ws r n (Transmit f) s = s.0
 same_by q ws r n Abort s = s
 
-pub unseated : (w : BusSide) (p : Posting) (q : List Waiting) (b : Bool) → IsSeated w.boxes p.route p.number p.what b q → b ≡ false → q ≡ w.boxes
-unseated w p q b s so = same_by q w.boxes p.route p.number p.what (subst (λ c. IsSeated w.boxes p.route p.number p.what c q) so s)
+pub unseated : (w : BusSide) (p : Posting) (q : List Waiting) (b : Bool) →
+    IsSeated w.boxes p.route p.number p.what b q → b ≡ false → q ≡ w.boxes
+unseated w p q b s so =
+    same_by q w.boxes p.route p.number p.what (subst (λ c. IsSeated w.boxes p.route p.number p.what c q) so s)
 
-pub unseated-past : (v w : BusSide) (p : Posting) (q : List Waiting) (b : Bool) → w ≡ v → IsSeated w.boxes p.route p.number p.what b q → b ≡ false → (past : BusPast) → Runs v past → Runs (record w { boxes = q }) past
-unseated-past v w p q b e s so past h = subst (λ (ws : List Waiting). Runs (record w { boxes = ws }) past) (sym (unseated w p q b s so)) (subst (λ u. Runs u past) (sym e) h)
+pub unseated-past : (v w : BusSide) (p : Posting) (q : List Waiting) (b : Bool) → w ≡ v →
+    IsSeated w.boxes p.route p.number p.what b q → b ≡ false → (past : BusPast) → Runs v past →
+    Runs (record w { boxes = q }) past
+unseated-past v w p q b e s so past h = subst (λ (ws : List Waiting). Runs (record w { boxes = ws }) past)
+    (sym (unseated w p q b s so)) (subst (λ u. Runs u past) (sym e) h)

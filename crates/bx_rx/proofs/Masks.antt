@@ -11,12 +11,16 @@ agree_min a b zero lm h = omega arith
 agree_min a b (suc zero) lm h = ap (λ n. min n 1) (h refl)
 agree_min a b (suc (suc m)) lm h = absurd (omega arith)
 
-pub bits_agree : (image identifier mask : ℕ) → bit_and image mask ≡ bit_and identifier mask → (bit : ℕ) → bit_at mask bit ≡ 1 → bit_at image bit ≡ bit_at identifier bit
+pub bits_agree : (image identifier mask : ℕ) → bit_and image mask ≡ bit_and identifier mask → (bit : ℕ) →
+    bit_at mask bit ≡ 1 → bit_at image bit ≡ bit_at identifier bit
 bits_agree image identifier mask e bit one =
-    min_agree (bit_at image bit) (bit_at identifier bit) (bit_at mask bit) one (bit_at-lt image bit) (bit_at-lt identifier bit)
+    min_agree (bit_at image bit) (bit_at identifier bit) (bit_at mask bit) one (bit_at-lt image bit)
+        (bit_at-lt identifier bit)
     (sym (bit_at_and image mask bit) ∙ ap (λ n. bit_at n bit) e ∙ bit_at_and identifier mask bit)
 
-pub masks_agree : (image identifier mask : ℕ) → ((bit : ℕ) → bit_at mask bit ≡ 1 → bit_at image bit ≡ bit_at identifier bit) → bit_and image mask ≡ bit_and identifier mask
+pub masks_agree : (image identifier mask : ℕ) →
+    ((bit : ℕ) → bit_at mask bit ≡ 1 → bit_at image bit ≡ bit_at identifier bit) →
+    bit_and image mask ≡ bit_and identifier mask
 masks_agree image identifier mask h = same_from_bits (bit_and image mask) (bit_and identifier mask) (λ bit.
     bit_at_and image mask bit
     ∙ agree_min (bit_at image bit) (bit_at identifier bit) (bit_at mask bit) (bit_at-lt mask bit) (h bit)

@@ -1,5 +1,7 @@
 -- What the seats did is tied together at the end.
-use Rattle.std.proofs.Common.{◌≡◌, ℕ, zero, suc, ◌-◌, ◌<◌, ◌≤◌, inl, inr, ◌==◌, ◌&&◌, cond, List, [], ◌∷◌, ◌++◌, map, length, refl, sym, ap, ◌∙◌, subst, arith, Some, None, Result, Ok, Err, IfOk, slice_get, eqb-true, Bool, true, false}
+use Rattle.std.proofs.Common.{◌≡◌, ℕ, zero, suc, ◌-◌, ◌<◌, ◌≤◌, inl, inr, ◌==◌, ◌&&◌, cond, List, [], ◌∷◌, ◌++◌, map}
+use Rattle.std.proofs.Common.{length, refl, sym, ap, ◌∙◌, subst, arith, Some, None, Result, Ok, Err, IfOk, slice_get}
+use Rattle.std.proofs.Common.{eqb-true, Bool, true, false}
 use Rattle.std.proofs.lemmas.List.{get_or_past}
 use Rattle.std.proofs.lemmas.Bool.{and_parts}
 use mathlib.Core.Logic.{dite}
@@ -38,7 +40,8 @@ side_has [] k s e = no_side s e
 side_has (x ∷ xs) zero s e = inl (ap (λ (y : RoutePlace). y.part) (same_side x s e))
 side_has (x ∷ xs) (suc k) s e = inr (side_has xs k s e)
 
-side_at : (sides : List RoutePlace) (k : ℕ) → k < length sides → (s : RoutePlace) × (slice_get sides k ≡ Some s) × Has sides s
+side_at : (sides : List RoutePlace) (k : ℕ) → k < length sides → (s : RoutePlace) × (slice_get sides k ≡ Some s)
+    × Has sides s
 side_at [] k h = absurd (omega arith)
 side_at (x ∷ xs) zero h = (x, refl, inl refl)
 side_at (x ∷ xs) (suc k) h = let t = side_at xs k (omega arith) in (t.0, t.1, inr t.2)
@@ -46,10 +49,12 @@ side_at (x ∷ xs) (suc k) h = let t = side_at xs k (omega arith) in (t.0, t.1, 
 -- the places of the last routes
 openings_have : (n r : ℕ) → 8 - n ≤ r → r < 8 → Has (openings n) (opening r)
 openings_have zero r a b = absurd (omega arith)
-openings_have (suc n) r a b = dite (ℕ_discrete (7 - n) r) (λ e. inl (ap opening e)) (λ d. inr (openings_have n r (omega arith) b))
+openings_have (suc n) r a b =
+    dite (ℕ_discrete (7 - n) r) (λ e. inl (ap opening e)) (λ d. inr (openings_have n r (omega arith) b))
 
 -- every place is among those that the bus's seat kept and those of the sides, and none fills a mailbox
-pub all_idle : (rs : List RouteView) (sides : List RoutePlace) → rs ≡ openings (length rs) → length sides ≡ 8 - length rs → ((k : ℕ) (s : RoutePlace) → slice_get sides k ≡ Some s → s.part.route ≡ k) →
+pub all_idle : (rs : List RouteView) (sides : List RoutePlace) → rs ≡ openings (length rs) →
+    length sides ≡ 8 - length rs → ((k : ℕ) (s : RoutePlace) → slice_get sides k ≡ Some s → s.part.route ≡ k) →
     Each (λ (s : RoutePlace). s.part.claims ≡ false) sides → AreAllIdle (rs ++ parts_of sides)
 all_idle rs sides is size each idle r small = dite (dec_le (suc r) (length sides))
     (λ l. let t = side_at sides r l in record {
@@ -60,7 +65,9 @@ all_idle rs sides is size each idle r small = dite (dec_le (suc r) (length sides
     })
     (λ n. record {
       part = opening r;
-      there = has-left rs (parts_of sides) (opening r) (subst (λ (l : List RouteView). Has l (opening r)) (sym is) (openings_have (length rs) r (omega arith) small));
+      there = has-left rs (parts_of sides) (opening r)
+          (subst (λ (l : List RouteView). Has l (opening r)) (sym is)
+          (openings_have (length rs) r (omega arith) small));
       route_is = refl;
       idle = refl;
     })
@@ -68,33 +75,43 @@ all_idle rs sides is size each idle r small = dite (dec_le (suc r) (length sides
 -- what waits and was asked to end was asked by its route
 asked_known : (p : RouteView) (q : List Waiting) → Each (IsKnown p) q → Each (Has p.asked) (asked_of p.route q)
 asked_known p [] a = tt
-asked_known p (w ∷ ws) a = elim ((w.route == p.route) && w.abort_asked) as (λ b. ((w.route == p.route) && w.abort_asked) ≡ b → Each (Has p.asked) (cond b (w.number ∷ asked_of p.route ws) (asked_of p.route ws))) [
-  | true ↦ λ e. let t = and_parts (w.route == p.route) w.abort_asked e in ((a.0 (eqb-true w.route p.route t.0)).1 t.1, asked_known p ws a.1)
+asked_known p (w ∷ ws) a = elim ((w.route == p.route) && w.abort_asked) as
+    (λ b. ((w.route == p.route) && w.abort_asked) ≡ b →
+    Each (Has p.asked) (cond b (w.number ∷ asked_of p.route ws) (asked_of p.route ws))) [
+  | true ↦ λ e. let t = and_parts (w.route == p.route) w.abort_asked e in
+      ((a.0 (eqb-true w.route p.route t.0)).1 t.1, asked_known p ws a.1)
   | false ↦ λ _. asked_known p ws a.1
 ] refl
 
-route_stands : (words : List ℕ) (s : State) (p : RouteView) (past : RoutePast) → Fits words s p → past.requested ≡ p.requested → past.aborted ≡ p.aborted → past.asked ≡ p.asked → RouteStands s p.route past
+route_stands : (words : List ℕ) (s : State) (p : RouteView) (past : RoutePast) → Fits words s p →
+    past.requested ≡ p.requested → past.aborted ≡ p.aborted → past.asked ≡ p.asked → RouteStands s p.route past
 route_stands words s p past f a b c = record {
   requested_is = a ∙ sym f.requested;
   aborted_is = b ∙ sym f.aborted;
-  asked_waits = subst (λ (l : List ℕ). Each (Has l) (asked_of p.route s.queue)) (sym c) (asked_known p s.queue f.waiting);
+  asked_waits =
+      subst (λ (l : List ℕ). Each (Has l) (asked_of p.route s.queue)) (sym c) (asked_known p s.queue f.waiting);
   asked_reaped = subst (λ (l : List ℕ). Each (Has l) (lists_of s p.route).reaped) (sym c) f.reaped;
 }
 
-module _ (b : BusPlace) (sides : List RoutePlace) (es : List Waiting) (word : ℕ) (left : List Left) (t : Ends b.bus (b.routes ++ parts_of sides) es word) (told : left ≡ map as_left es) where
+module _ (b : BusPlace) (sides : List RoutePlace) (es : List Waiting) (word : ℕ) (left : List Left)
+    (t : Ends b.bus (b.routes ++ parts_of sides) es word) (told : left ≡ map as_left es) where
   stands : (did : BusPast) → BusAfter b did → BusStands t.core did
   stands did e = subst (BusStands t.core) (sym e) t.bus.stands
 
   left_is : map as_left t.core.queue ≡ left
   left_is = ap (map as_left) t.queue_is ∙ sym told
 
-  pub all_tied : b.bus.txfp ≡ b.txfp → ((k : ℕ) (s : RoutePlace) → slice_get sides k ≡ Some s → s.part.route ≡ k) → AllTied BusAfter RouteAfter b.txfp b sides left
+  pub all_tied : b.bus.txfp ≡ b.txfp → ((k : ℕ) (s : RoutePlace) → slice_get sides k ≡ Some s → s.part.route ≡ k) →
+      AllTied BusAfter RouteAfter b.txfp b sides left
   all_tied by each route s did past at bus side =
       let p = s.part in
-      let f = each_of (Fits t.words t.core) (b.routes ++ parts_of sides) p t.parts (has-right b.routes (parts_of sides) p (side_has sides route s at)) in
-      let tied = plain_tied t.core p.route did past t.law (stands did bus) (route_stands t.words t.core p past f side.requested side.aborted side.asked) in
+      let f = each_of (Fits t.words t.core) (b.routes ++ parts_of sides) p t.parts
+          (has-right b.routes (parts_of sides) p (side_has sides route s at)) in
+      let tied = plain_tied t.core p.route did past t.law (stands did bus)
+          (route_stands t.words t.core p past f side.requested side.aborted side.asked) in
       subst (λ (r : ℕ). RouteTied b.txfp r did past (left_of r left)) (each route s at)
-      (subst (λ (x : Bool × List Left). RouteTied x.0 p.route did past (left_of p.route x.1)) (λ k. ((t.bus.priority ∙ by) k, left_is k)) tied)
+      (subst (λ (x : Bool × List Left). RouteTied x.0 p.route did past (left_of p.route x.1))
+          (λ k. ((t.bus.priority ∙ by) k, left_is k)) tied)
 
   empty_of : {X : Type 0} (xs : List X) → Each (Has {A = X} []) xs → xs ≡ []
   empty_of [] known = refl
@@ -104,13 +121,19 @@ module _ (b : BusPlace) (sides : List RoutePlace) (es : List Waiting) (word : �
   none_of : b.routes ≡ openings (length b.routes) → (r : ℕ) → routes_of b ≤ r → lists_of t.core r ≡ no_lists
   none_of is r past = dite (dec_le (suc r) 8)
       (λ small.
-      let f = each_of (Fits t.words t.core) (b.routes ++ parts_of sides) (opening r) t.parts (has-left b.routes (parts_of sides) (opening r) (subst (λ (l : List RouteView). Has l (opening r)) (sym is) (openings_have (length b.routes) r past small))) in
-      let done : Each (Has {A = Entry} []) (lists_of t.core r).done = subst (λ (l : List Entry). Each (Has l) (lists_of t.core r).done) f.requested (t.law.route r).done_known in
-      same_lists (lists_of t.core r) no_lists f.requested (empty_of (lists_of t.core r).done done) f.aborted (empty_of (lists_of t.core r).reaped f.reaped))
+      let f = each_of (Fits t.words t.core) (b.routes ++ parts_of sides) (opening r) t.parts
+          (has-left b.routes (parts_of sides) (opening r)
+          (subst (λ (l : List RouteView). Has l (opening r)) (sym is)
+            (openings_have (length b.routes) r past small))) in
+      let done : Each (Has {A = Entry} []) (lists_of t.core r).done =
+          subst (λ (l : List Entry). Each (Has l) (lists_of t.core r).done) f.requested (t.law.route r).done_known in
+      same_lists (lists_of t.core r) no_lists f.requested (empty_of (lists_of t.core r).done done) f.aborted
+          (empty_of (lists_of t.core r).reaped f.reaped))
       (λ n. get_or_past t.core.routes r no_lists (let e = t.eight in omega arith))
 
   pub nothing_beyond : b.routes ≡ openings (length b.routes) → NothingBeyond BusAfter (routes_of b) b left
-  nothing_beyond is did bus route past = subst (NothingOf route did) left_is (plain_beyond t.core route did t.law (stands did bus) (none_of is route past))
+  nothing_beyond is did bus route past =
+      subst (NothingOf route did) left_is (plain_beyond t.core route did t.law (stands did bus) (none_of is route past))
 
 pub if_ok_more : {A E : Type 0} (P Q : A → Type 0) (r : Result A E) → ((x : A) → P x → Q x) → IfOk r P → IfOk r Q
 if_ok_more P Q (Ok x) f h = f x h

@@ -16,7 +16,8 @@ field_below w k n = mod_below (w / 2 ^ k) (2 ^ n) (pow_pos n)
 
 -- where the mask has all ones the field stays, where it has none it is 0
 pub kept : (w mask k n : ℕ) → field mask k n ≡ 2 ^ n - 1 → field (bit_and w mask) k n ≡ field w k n
-kept w mask k n e = field-and w mask k n ∙ ap (λ x. bit_and (field w k n) x) e ∙ and_mask (field w k n) n ∙ mod-eq_of_lt (field_below w k n)
+kept w mask k n e = field-and w mask k n ∙ ap (λ x. bit_and (field w k n) x) e ∙ and_mask (field w k n) n
+    ∙ mod-eq_of_lt (field_below w k n)
 
 pub cleared : (w mask k n : ℕ) → field mask k n ≡ 0 → field (bit_and w mask) k n ≡ 0
 cleared w mask k n e = field-and w mask k n ∙ ap (λ x. bit_and (field w k n) x) e ∙ and_zero_r (field w k n)

@@ -1,8 +1,12 @@
 -- What the steps' numerals do to a lane.
-use Rattle.std.proofs.Common.{◌≡◌, ℕ, zero, suc, ◌+◌, ◌-◌, ◌*◌, ◌/◌, ◌%◌, ◌^◌, ◌<◌, ◌⊎◌, inl, inr, ⊎_elim, refl, sym, ap, ◌∙◌, arith, Bool, true, false, ◌&&◌, ◌||◌, ◌==◌, eqb-true, ne_eqb, true≢false, if◌then◌else◌}
+use Rattle.std.proofs.Common.{◌≡◌, ℕ, zero, suc, ◌+◌, ◌-◌, ◌*◌, ◌/◌, ◌%◌, ◌^◌, ◌<◌, ◌⊎◌, inl, inr, ⊎_elim, refl, sym}
+use Rattle.std.proofs.Common.{ap, ◌∙◌, arith, Bool, true, false, ◌&&◌, ◌||◌, ◌==◌, eqb-true, ne_eqb, true≢false}
+use Rattle.std.proofs.Common.{if◌then◌else◌}
 use Rattle.std.specs.Int.Bits.{bit_and, bit_or, and_zero_r, or_zero_l}
-use Rattle.bx_words.specs.Lanes.{field, lane_of, mark_of, order_bit, older_bit, rest_of, filling, IsTransmitting, one_more, LaneSet, LaneYoungest, LaneRequested, IsCounted}
-use Rattle.bx_words.proofs.Bits.{field-or, field-and, field_below, kept, cleared, spared, written, set_bit, rest_spared, rest_kept}
+use Rattle.bx_words.specs.Lanes.{field, lane_of, mark_of, order_bit, older_bit, rest_of, filling, IsTransmitting}
+use Rattle.bx_words.specs.Lanes.{one_more, LaneSet, LaneYoungest, LaneRequested, IsCounted}
+use Rattle.bx_words.proofs.Bits.{field-or, field-and, field_below, kept, cleared, spared, written, set_bit, rest_spared}
+use Rattle.bx_words.proofs.Bits.{rest_kept}
 use Rattle.bx_words.proofs.Cases.{of_mailboxes, of_pairs, of_routes}
 
 -- a mask of all ones but in lane m, where it has these
@@ -20,7 +24,8 @@ pub record Bits (m c here : ℕ) : Type 0 where
   pub rest : rest_of c ≡ 0
 
 -- such bits and masks, by what they are in each mailbox, in each pair, and above
-pub bits_0 : (c here : ℕ) → lane_of c 0 ≡ here → lane_of c 1 ≡ 0 → lane_of c 2 ≡ 0 → order_bit c 0 1 ≡ 0 → order_bit c 0 2 ≡ 0 → order_bit c 1 2 ≡ 0 → rest_of c ≡ 0 →
+pub bits_0 : (c here : ℕ) → lane_of c 0 ≡ here → lane_of c 1 ≡ 0 → lane_of c 2 ≡ 0 → order_bit c 0 1 ≡ 0 →
+    order_bit c 0 2 ≡ 0 → order_bit c 1 2 ≡ 0 → rest_of c ≡ 0 →
     Bits 0 c here
 bits_0 c here l0 l1 l2 o01 o02 o12 above = record {
   lane = l0;
@@ -29,7 +34,8 @@ bits_0 c here l0 l1 l2 o01 o02 o12 above = record {
   rest = above;
 }
 
-pub bits_1 : (c here : ℕ) → lane_of c 0 ≡ 0 → lane_of c 1 ≡ here → lane_of c 2 ≡ 0 → order_bit c 0 1 ≡ 0 → order_bit c 0 2 ≡ 0 → order_bit c 1 2 ≡ 0 → rest_of c ≡ 0 →
+pub bits_1 : (c here : ℕ) → lane_of c 0 ≡ 0 → lane_of c 1 ≡ here → lane_of c 2 ≡ 0 → order_bit c 0 1 ≡ 0 →
+    order_bit c 0 2 ≡ 0 → order_bit c 1 2 ≡ 0 → rest_of c ≡ 0 →
     Bits 1 c here
 bits_1 c here l0 l1 l2 o01 o02 o12 above = record {
   lane = l1;
@@ -38,7 +44,8 @@ bits_1 c here l0 l1 l2 o01 o02 o12 above = record {
   rest = above;
 }
 
-pub bits_2 : (c here : ℕ) → lane_of c 0 ≡ 0 → lane_of c 1 ≡ 0 → lane_of c 2 ≡ here → order_bit c 0 1 ≡ 0 → order_bit c 0 2 ≡ 0 → order_bit c 1 2 ≡ 0 → rest_of c ≡ 0 →
+pub bits_2 : (c here : ℕ) → lane_of c 0 ≡ 0 → lane_of c 1 ≡ 0 → lane_of c 2 ≡ here → order_bit c 0 1 ≡ 0 →
+    order_bit c 0 2 ≡ 0 → order_bit c 1 2 ≡ 0 → rest_of c ≡ 0 →
     Bits 2 c here
 bits_2 c here l0 l1 l2 o01 o02 o12 above = record {
   lane = l2;
@@ -47,7 +54,8 @@ bits_2 c here l0 l1 l2 o01 o02 o12 above = record {
   rest = above;
 }
 
-pub mask_0 : (c here : ℕ) → lane_of c 0 ≡ here → lane_of c 1 ≡ 255 → lane_of c 2 ≡ 255 → order_bit c 0 1 ≡ 1 → order_bit c 0 2 ≡ 1 → order_bit c 1 2 ≡ 1 → rest_of c ≡ 2 ^ 37 - 1 →
+pub mask_0 : (c here : ℕ) → lane_of c 0 ≡ here → lane_of c 1 ≡ 255 → lane_of c 2 ≡ 255 → order_bit c 0 1 ≡ 1 →
+    order_bit c 0 2 ≡ 1 → order_bit c 1 2 ≡ 1 → rest_of c ≡ 2 ^ 37 - 1 →
     Masks 0 c here
 mask_0 c here l0 l1 l2 o01 o02 o12 above = record {
   lane = l0;
@@ -56,7 +64,8 @@ mask_0 c here l0 l1 l2 o01 o02 o12 above = record {
   rest = above;
 }
 
-pub mask_1 : (c here : ℕ) → lane_of c 0 ≡ 255 → lane_of c 1 ≡ here → lane_of c 2 ≡ 255 → order_bit c 0 1 ≡ 1 → order_bit c 0 2 ≡ 1 → order_bit c 1 2 ≡ 1 → rest_of c ≡ 2 ^ 37 - 1 →
+pub mask_1 : (c here : ℕ) → lane_of c 0 ≡ 255 → lane_of c 1 ≡ here → lane_of c 2 ≡ 255 → order_bit c 0 1 ≡ 1 →
+    order_bit c 0 2 ≡ 1 → order_bit c 1 2 ≡ 1 → rest_of c ≡ 2 ^ 37 - 1 →
     Masks 1 c here
 mask_1 c here l0 l1 l2 o01 o02 o12 above = record {
   lane = l1;
@@ -65,7 +74,8 @@ mask_1 c here l0 l1 l2 o01 o02 o12 above = record {
   rest = above;
 }
 
-pub mask_2 : (c here : ℕ) → lane_of c 0 ≡ 255 → lane_of c 1 ≡ 255 → lane_of c 2 ≡ here → order_bit c 0 1 ≡ 1 → order_bit c 0 2 ≡ 1 → order_bit c 1 2 ≡ 1 → rest_of c ≡ 2 ^ 37 - 1 →
+pub mask_2 : (c here : ℕ) → lane_of c 0 ≡ 255 → lane_of c 1 ≡ 255 → lane_of c 2 ≡ here → order_bit c 0 1 ≡ 1 →
+    order_bit c 0 2 ≡ 1 → order_bit c 1 2 ≡ 1 → rest_of c ≡ 2 ^ 37 - 1 →
     Masks 2 c here
 mask_2 c here l0 l1 l2 o01 o02 o12 above = record {
   lane = l2;
@@ -74,7 +84,8 @@ mask_2 c here l0 l1 l2 o01 o02 o12 above = record {
   rest = above;
 }
 
-pub masked : (w m mask here x : ℕ) → w < 2 ^ 64 → Masks m mask here → bit_and (lane_of w m) here ≡ x → LaneSet w m x (bit_and w mask)
+pub masked : (w m mask here x : ℕ) → w < 2 ^ 64 → Masks m mask here → bit_and (lane_of w m) here ≡ x →
+    LaneSet w m x (bit_and w mask)
 masked w m mask here x fits is value = record {
   here = field-and w mask (8 * m) 8 ∙ ap (λ z. bit_and (lane_of w m) z) is.lane ∙ value;
   others = λ j h n. kept w mask (8 * j) 8 (is.others j h n);
@@ -108,7 +119,8 @@ pub added : (w m n x c : ℕ) → mark_of w m ≡ n → Bits m c x → Adds n x 
 added w m n x c mark is adds =
     let l = lane_of w m in
     let shape = lane_is w m n mark in
-    joined w m c x (l + x) is (ap (λ z. bit_or z x) shape ∙ adds (l / 32) (owner_below w m) ∙ ap (λ z. z + x) (sym shape))
+    joined w m c x (l + x) is (ap (λ z. bit_or z x) shape ∙ adds (l / 32) (owner_below w m)
+        ∙ ap (λ z. z + x) (sym shape))
 
 -- scheduled, transmitting, abort asked
 pub schedules : Adds 3 4
@@ -122,13 +134,17 @@ asks = of_routes (λ r. bit_or (15 + 32 * r) 16 ≡ 15 + 32 * r + 16) refl refl 
 
 -- a failed transmission is transmitting no more
 less_eight : (r : ℕ) → r < 8 → (bit_and (15 + 32 * r) 247 ≡ 7 + 32 * r) × (bit_and (31 + 32 * r) 247 ≡ 23 + 32 * r)
-less_eight = of_routes (λ r. (bit_and (15 + 32 * r) 247 ≡ 7 + 32 * r) × (bit_and (31 + 32 * r) 247 ≡ 23 + 32 * r)) (refl, refl) (refl, refl) (refl, refl) (refl, refl) (refl, refl) (refl, refl) (refl, refl) (refl, refl)
+less_eight = of_routes (λ r. (bit_and (15 + 32 * r) 247 ≡ 7 + 32 * r) × (bit_and (31 + 32 * r) 247 ≡ 23 + 32 * r))
+    (refl, refl) (refl, refl) (refl, refl) (refl, refl) (refl, refl) (refl, refl) (refl, refl) (refl, refl)
 
-pub failed : (w m mask : ℕ) → w < 2 ^ 64 → IsTransmitting w m → Masks m mask 247 → LaneSet w m (lane_of w m - 8) (bit_and w mask)
+pub failed : (w m mask : ℕ) → w < 2 ^ 64 → IsTransmitting w m → Masks m mask 247 →
+    LaneSet w m (lane_of w m - 8) (bit_and w mask)
 failed w m mask fits mark is = masked w m mask 247 (lane_of w m - 8) fits is
     (let l = lane_of w m in let few = owner_below w m in ⊎_elim
-    (λ (e : mark_of w m ≡ 15). let shape = lane_is w m 15 e in ap (λ z. bit_and z 247) shape ∙ (less_eight (l / 32) few).0 ∙ (omega arith))
-    (λ (e : mark_of w m ≡ 31). let shape = lane_is w m 31 e in ap (λ z. bit_and z 247) shape ∙ (less_eight (l / 32) few).1 ∙ (omega arith)) mark)
+    (λ (e : mark_of w m ≡ 15). let shape =
+        lane_is w m 15 e in ap (λ z. bit_and z 247) shape ∙ (less_eight (l / 32) few).0 ∙ (omega arith))
+    (λ (e : mark_of w m ≡ 31). let shape =
+        lane_is w m 31 e in ap (λ z. bit_and z 247) shape ∙ (less_eight (l / 32) few).1 ∙ (omega arith)) mark)
 
 -- the bits of a claim
 abbrev pub claim_bits : ℕ → ℕ → ℕ
@@ -166,7 +182,8 @@ claims = of_mailboxes (λ m. (r : ℕ) → r < 8 → Bits m (claim_bits m r) (fi
 
 pub claimed : (w m r : ℕ) → m < 3 → r < 8 → lane_of w m ≡ 0 → LaneSet w m (filling r) (bit_or w (claim_bits m r))
 claimed w m r small few empty =
-    joined w m (claim_bits m r) (filling r) (filling r) (claims m small r few) (ap (λ z. bit_or z (filling r)) empty ∙ or_zero_l (filling r))
+    joined w m (claim_bits m r) (filling r) (filling r) (claims m small r few)
+        (ap (λ z. bit_or z (filling r)) empty ∙ or_zero_l (filling r))
 
 -- bits and a mask that request mailbox m and make it the younger of both of its pairs
 pub record Requests (m c mask : ℕ) : Type 0 where
@@ -175,7 +192,8 @@ pub record Requests (m c mask : ℕ) : Type 0 where
   pub lanes : (j : ℕ) → j < 3 → lane_of mask j ≡ 255
   -- a pair's bit is set, or it is cleared
   pub younger : (j : ℕ) → j < 3 → ¬ (j ≡ m) →
-      ((order_bit c j m ≡ 1) × (order_bit mask j m ≡ 1) × (older_bit j m ≡ 1)) ⊎ ((order_bit mask j m ≡ 0) × (older_bit j m ≡ 0))
+      ((order_bit c j m ≡ 1) × (order_bit mask j m ≡ 1) × (older_bit j m ≡ 1))
+      ⊎ ((order_bit mask j m ≡ 0) × (older_bit j m ≡ 0))
   pub order : (i j : ℕ) → i < j → j < 3 → ¬ (i ≡ m) → ¬ (j ≡ m) → (order_bit c i j ≡ 0) × (order_bit mask i j ≡ 1)
   pub above : rest_of c ≡ 0
   pub rest : rest_of mask ≡ 2 ^ 37 - 1
@@ -186,7 +204,8 @@ requested_bit = of_routes (λ r. bit_or (filling r) 2 ≡ filling r + 2) refl re
 pub requested : (w m r c mask : ℕ) → m < 3 → r < 8 → bit_or w c < 2 ^ 64 → lane_of w m ≡ filling r → Requests m c mask →
     LaneYoungest w m (filling r + 2) (bit_and (bit_or w c) mask)
 requested w m r c mask small few fits was is = record {
-  here = kept (bit_or w c) mask (8 * m) 8 (is.lanes m small) ∙ field-or w c (8 * m) 8 ∙ ap (λ x. bit_or x (lane_of c m)) was
+  here = kept (bit_or w c) mask (8 * m) 8 (is.lanes m small) ∙ field-or w c (8 * m) 8
+      ∙ ap (λ x. bit_or x (lane_of c m)) was
       ∙ ap (λ x. bit_or (filling r) x) is.lane ∙ requested_bit r few;
   others = λ j h n. kept (bit_or w c) mask (8 * j) 8 (is.lanes j h) ∙ spared w c (8 * j) 8 (is.others j h n);
   younger = λ j h n. ⊎_elim
@@ -204,8 +223,11 @@ requests_0 = record {
   lanes = of_mailboxes (λ j. lane_of 18446744073709551615 j ≡ 255) refl refl refl;
   younger = of_mailboxes (λ j. ¬ (j ≡ 0) →
       ((order_bit 50331650 j 0 ≡ 1) × (order_bit 18446744073709551615 j 0 ≡ 1) × (older_bit j 0 ≡ 1))
-      ⊎ ((order_bit 18446744073709551615 j 0 ≡ 0) × (older_bit j 0 ≡ 0))) (λ n. absurd (n refl)) (λ _. inl (refl, refl, refl)) (λ _. inl (refl, refl, refl));
-  order = of_pairs (λ i j. ¬ (i ≡ 0) → ¬ (j ≡ 0) → (order_bit 50331650 i j ≡ 0) × (order_bit 18446744073709551615 i j ≡ 1)) (λ n _. absurd (n refl)) (λ n _. absurd (n refl)) (λ _ _. (refl, refl));
+      ⊎ ((order_bit 18446744073709551615 j 0 ≡ 0) × (older_bit j 0 ≡ 0))) (λ n. absurd (n refl))
+          (λ _. inl (refl, refl, refl)) (λ _. inl (refl, refl, refl));
+  order = of_pairs (λ i j. ¬ (i ≡ 0) → ¬ (j ≡ 0) → (order_bit 50331650 i j ≡ 0)
+      × (order_bit 18446744073709551615 i j ≡ 1)) (λ n _. absurd (n refl)) (λ n _. absurd (n refl))
+      (λ _ _. (refl, refl));
   above = refl;
   rest = refl;
 }
@@ -217,8 +239,11 @@ requests_1 = record {
   lanes = of_mailboxes (λ j. lane_of 18446744073692774399 j ≡ 255) refl refl refl;
   younger = of_mailboxes (λ j. ¬ (j ≡ 1) →
       ((order_bit 67109376 j 1 ≡ 1) × (order_bit 18446744073692774399 j 1 ≡ 1) × (older_bit j 1 ≡ 1))
-      ⊎ ((order_bit 18446744073692774399 j 1 ≡ 0) × (older_bit j 1 ≡ 0))) (λ _. inr (refl, refl)) (λ n. absurd (n refl)) (λ _. inl (refl, refl, refl));
-  order = of_pairs (λ i j. ¬ (i ≡ 1) → ¬ (j ≡ 1) → (order_bit 67109376 i j ≡ 0) × (order_bit 18446744073692774399 i j ≡ 1)) (λ _ n. absurd (n refl)) (λ _ _. (refl, refl)) (λ n _. absurd (n refl));
+      ⊎ ((order_bit 18446744073692774399 j 1 ≡ 0) × (older_bit j 1 ≡ 0))) (λ _. inr (refl, refl)) (λ n. absurd (n refl))
+          (λ _. inl (refl, refl, refl));
+  order = of_pairs (λ i j. ¬ (i ≡ 1) → ¬ (j ≡ 1) → (order_bit 67109376 i j ≡ 0)
+      × (order_bit 18446744073692774399 i j ≡ 1)) (λ _ n. absurd (n refl)) (λ _ _. (refl, refl))
+      (λ n _. absurd (n refl));
   above = refl;
   rest = refl;
 }
@@ -230,8 +255,11 @@ requests_2 = record {
   lanes = of_mailboxes (λ j. lane_of 18446744073608888319 j ≡ 255) refl refl refl;
   younger = of_mailboxes (λ j. ¬ (j ≡ 2) →
       ((order_bit 131072 j 2 ≡ 1) × (order_bit 18446744073608888319 j 2 ≡ 1) × (older_bit j 2 ≡ 1))
-      ⊎ ((order_bit 18446744073608888319 j 2 ≡ 0) × (older_bit j 2 ≡ 0))) (λ _. inr (refl, refl)) (λ _. inr (refl, refl)) (λ n. absurd (n refl));
-  order = of_pairs (λ i j. ¬ (i ≡ 2) → ¬ (j ≡ 2) → (order_bit 131072 i j ≡ 0) × (order_bit 18446744073608888319 i j ≡ 1)) (λ _ _. (refl, refl)) (λ _ n. absurd (n refl)) (λ _ n. absurd (n refl));
+      ⊎ ((order_bit 18446744073608888319 j 2 ≡ 0) × (older_bit j 2 ≡ 0))) (λ _. inr (refl, refl))
+          (λ _. inr (refl, refl)) (λ n. absurd (n refl));
+  order = of_pairs (λ i j. ¬ (i ≡ 2) → ¬ (j ≡ 2) → (order_bit 131072 i j ≡ 0)
+      × (order_bit 18446744073608888319 i j ≡ 1)) (λ _ _. (refl, refl)) (λ _ n. absurd (n refl))
+      (λ _ n. absurd (n refl));
   above = refl;
   rest = refl;
 }
@@ -241,7 +269,8 @@ pub counts : (w : ℕ) → rest_of w % 2 ≡ 1 → IsCounted w (w + 268435456)
 counts w odd = record {
   lanes = of_mailboxes (λ j. lane_of (w + 268435456) j ≡ lane_of w j) (omega arith) (omega arith) (omega arith);
   order = of_pairs (λ i j. order_bit (w + 268435456) i j ≡ order_bit w i j) (omega arith) (omega arith) (omega arith);
-  rest = let more : rest_of (w + 268435456) ≡ rest_of w + 2 = omega arith in more ∙ sym (ap (λ n. if n == 1 then rest_of w + 2 else rest_of w) odd);
+  rest = let more : rest_of (w + 268435456) ≡ rest_of w + 2 = omega arith in
+      more ∙ sym (ap (λ n. if n == 1 then rest_of w + 2 else rest_of w) odd);
 }
 
 pub counts_none : (w : ℕ) → (rest_of w % 2 ≡ 1 → ⊥) → IsCounted w w
@@ -255,15 +284,18 @@ apart : (j m : ℕ) → ¬ (j ≡ m) → (j < m) ⊎ (m < j)
 apart zero zero n = absurd (n refl)
 apart zero (suc m) n = inl (omega arith)
 apart (suc j) zero n = inr (omega arith)
-apart (suc j) (suc m) n = ⊎_elim (λ (l : j < m). inl (omega arith)) (λ (g : m < j). inr (omega arith)) (apart j m (λ e. n (ap suc e)))
+apart (suc j) (suc m) n =
+    ⊎_elim (λ (l : j < m). inl (omega arith)) (λ (g : m < j). inr (omega arith)) (apart j m (λ e. n (ap suc e)))
 
-pub counted_youngest : (old mid new m x : ℕ) → LaneYoungest old m x mid → IsCounted mid new → m < 3 → LaneRequested old m x new
+pub counted_youngest : (old mid new m x : ℕ) → LaneYoungest old m x mid → IsCounted mid new → m < 3 →
+    LaneRequested old m x new
 counted_youngest old mid new m x y k small = record {
   here = k.lanes m small ∙ y.here;
   others = λ j h n. k.lanes j h ∙ y.others j h n;
   younger = λ j h n. ⊎_elim
       (λ (l : j < m). k.order j m l small ∙ y.younger j h n)
-      (λ (g : m < j). ap (λ b. field new b 1) (omega arith) ∙ k.order m j g h ∙ ap (λ b. field mid b 1) (omega arith) ∙ y.younger j h n)
+      (λ (g : m < j). ap (λ b. field new b 1) (omega arith) ∙ k.order m j g h ∙ ap (λ b. field mid b 1) (omega arith)
+          ∙ y.younger j h n)
       (apart j m n);
   order = λ i j l h ni nj. k.order i j l h ∙ y.order i j l h ni nj;
   rest = k.rest ∙ ap one_more y.rest;

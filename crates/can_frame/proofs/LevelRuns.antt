@@ -1,5 +1,6 @@
 -- How long a text's newest run is, and how one more level changes it.
-use Rattle.std.proofs.Common.{◌≡◌, ℕ, suc, ◌+◌, ◌≤◌, ◌<◌, min, Bool, true, false, not, ◌&&◌, List, [], ◌∷◌, refl, sym, ap, ◌∙◌, cond, arith, nat_le, inl, inr}
+use Rattle.std.proofs.Common.{◌≡◌, ℕ, suc, ◌+◌, ◌≤◌, ◌<◌, min, Bool, true, false, not, ◌&&◌, List, [], ◌∷◌, refl, sym}
+use Rattle.std.proofs.Common.{ap, ◌∙◌, cond, arith, nat_le, inl, inr}
 use Rattle.std.proofs.Math.Bool.{beq}
 use Rattle.std.proofs.lemmas.Bool.Decides.{leb_tells}
 use Rattle.can_frame.specs.Stuffing.{same, five_equal, newest}
@@ -9,7 +10,8 @@ use Rattle.can_frame.specs.declared.level_run.LevelRun.{LevelRun}
 run_positive : (x : Bool) (older : List Bool) → 1 ≤ run_of (x ∷ older)
 unfolding run_of
 run_positive x [] = omega arith
-run_positive x (y ∷ older) = elim (same x y) as (λ b. 1 ≤ cond b (suc (run_of (y ∷ older))) 1) [ true ↦ omega arith | false ↦ omega arith ]
+run_positive x (y ∷ older) =
+    elim (same x y) as (λ b. 1 ≤ cond b (suc (run_of (y ∷ older))) 1) [ true ↦ omega arith | false ↦ omega arith ]
 
 le_tests : (a b : ℕ) → a ≤ b → nat_le a b ≡ true
 le_tests a b h = elim (leb_tells a b) [ inl is_so ↦ is_so.0 | inr isnt ↦ absurd (omega (arith, isnt.1, h)) ]
@@ -41,7 +43,8 @@ five-run (a ∷ b ∷ c ∷ []) = elim (same a b) as (λ p. false ≡ nat_le 5 (
   | false ↦ refl
 ]
 five-run (a ∷ b ∷ c ∷ d ∷ []) = sym (short_tests (same a b) (same b c) (same c d))
-five-run (a ∷ b ∷ c ∷ d ∷ e ∷ older) = five_tests (same a b) (same b c) (same c d) (same d e) (run_of (e ∷ older)) (run_positive e older)
+five-run (a ∷ b ∷ c ∷ d ∷ e ∷ older) =
+    five_tests (same a b) (same b c) (same c d) (same d e) (run_of (e ∷ older)) (run_positive e older)
 
 -- as many as the run of a text counts, which are five at most
 five_of : (n : ℕ) → nat_le 5 (min n 5) ≡ nat_le 5 n
@@ -99,17 +102,21 @@ not_by false b h = ap not h
 unlike : (x y b : Bool) → not (beq x y) ≡ b → same x y ≡ not b
 unlike x y b e = same-beq x y ∙ not_by (beq x y) b e
 
-unlike_newest : (text : List Bool) (run : LevelRun) (x b : Bool) → EndsIn text run → not (beq x run.level) ≡ b → same x (newest text) ≡ not b
+unlike_newest : (text : List Bool) (run : LevelRun) (x b : Bool) → EndsIn text run → not (beq x run.level) ≡ b →
+    same x (newest text) ≡ not b
 unlike_newest text run x b h e = ap (same x) (sym h.level_is) ∙ unlike x run.level b e
 
 -- how many equal levels there are with one more, five at most
-pub count_anew : (text : List Bool) (run : LevelRun) (x : Bool) → EndsIn text run → not (beq x run.level) ≡ true → 1 ≡ min (run_of (x ∷ text)) 5
+pub count_anew : (text : List Bool) (run : LevelRun) (x : Bool) → EndsIn text run → not (beq x run.level) ≡ true →
+    1 ≡ min (run_of (x ∷ text)) 5
 count_anew text run x h e = omega (arith, new_run text x (unlike_newest text run x true h e))
 
-pub count_longer : (text : List Bool) (run : LevelRun) (x : Bool) → EndsIn text run → not (beq x run.level) ≡ false → run.count < 5 → run.count + 1 ≡ min (run_of (x ∷ text)) 5
+pub count_longer : (text : List Bool) (run : LevelRun) (x : Bool) → EndsIn text run → not (beq x run.level) ≡ false →
+    run.count < 5 → run.count + 1 ≡ min (run_of (x ∷ text)) 5
 count_longer text run x h e few = omega (arith, longer_run text x (unlike_newest text run x false h e), h.count_is, few)
 
-pub count_full : (text : List Bool) (run : LevelRun) (x : Bool) → EndsIn text run → not (beq x run.level) ≡ false → 5 ≤ run.count → run.count ≡ min (run_of (x ∷ text)) 5
+pub count_full : (text : List Bool) (run : LevelRun) (x : Bool) → EndsIn text run → not (beq x run.level) ≡ false →
+    5 ≤ run.count → run.count ≡ min (run_of (x ∷ text)) 5
 count_full text run x h e full = omega (arith, longer_run text x (unlike_newest text run x false h e), h.count_is, full)
 
 pub ends_none : EndsIn [] (record { count = 0; level = true })
@@ -131,5 +138,6 @@ opposite_by false false h = absurd (cc h)
 pub equal_newest : (text : List Bool) (x level : Bool) → level ≡ newest text → beq x level ≡ true → x ≡ newest text
 equal_newest text x level is h = equal_by x level h ∙ is
 
-pub opposite_newest : (text : List Bool) (x level : Bool) → level ≡ newest text → beq x level ≡ false → x ≡ not (newest text)
+pub opposite_newest : (text : List Bool) (x level : Bool) → level ≡ newest text → beq x level ≡ false →
+    x ≡ not (newest text)
 opposite_newest text x level is h = opposite_by x level h ∙ ap not is

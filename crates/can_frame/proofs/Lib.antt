@@ -1,3 +1,4 @@
+pub mod OneAnswer
 pub mod Polynomials
 pub mod Bits
 pub mod LevelRuns

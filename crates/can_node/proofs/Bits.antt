@@ -1,5 +1,6 @@
 -- One more bit of a history: what a turn makes of the past that a state stands after.
-use Rattle.std.proofs.Common.{◌≡◌, ℕ, ◌+◌, ◌-◌, Bool, true, false, Option, Some, List, [], ◌∷◌, ◌++◌, length, refl, sym, ap, subst, arith, ◌∙◌, length-append}
+use Rattle.std.proofs.Common.{◌≡◌, ℕ, ◌+◌, ◌-◌, Bool, true, false, Option, Some, List, [], ◌∷◌, ◌++◌, length, refl, sym}
+use Rattle.std.proofs.Common.{ap, subst, arith, ◌∙◌, length-append}
 use Rattle.std.proofs.lemmas.List.{append_assoc, append-nil}
 use Rattle.can_frame.specs.Frames.{FrameValue}
 use Rattle.can_confinement.specs.declared.confinement.ErrorEvent.{ErrorEvent}
@@ -15,31 +16,41 @@ use Rattle.can_node.specs.declared.state.State.TheVariants.{Recovering}
 use Rattle.can_node.specs.Pairs.{Pair}
 use Rattle.can_node.specs.Takes.{IsReadOn}
 use Rattle.can_node.specs.Phases.{Phase, flag_of}
-use Rattle.can_node.specs.Phases.Phase.{Sync, Idle, Send, Take, LastBit, ActiveFlag, OverloadFlag, PassiveFlag, Delimiter, Intermission, Suspend, BusOff}
+use Rattle.can_node.specs.Phases.Phase.{Sync, Idle, Send, Take, LastBit, ActiveFlag, OverloadFlag, PassiveFlag}
+use Rattle.can_node.specs.Phases.Phase.{Delimiter, Intermission, Suspend, BusOff}
 use Rattle.can_node.specs.Episodes.{Begun, Course, Episode, AreOn, AreOff}
-use Rattle.can_node.specs.Episodes.Course.{synced, woken, completed, lost, stuff_lost, unacknowledged, bit_differs, took, spoiled, quiet_end, late_overload, flagged, overload_flagged, passive_flagged, delimited, cut_short, overloaded, rested, rested_sender, pressed, hurried, waited, overtaken, recovered}
-use Rattle.can_node.specs.Episodes.Begun.{syncing, idling, sending, taking, last_bit, active_flag, overload_flag, passive_flag, delimiting, resting, suspended, recovering}
+use Rattle.can_node.specs.Episodes.Course.{synced, woken, completed, lost, stuff_lost, unacknowledged, bit_differs}
+use Rattle.can_node.specs.Episodes.Course.{took, spoiled, quiet_end, late_overload, flagged, overload_flagged}
+use Rattle.can_node.specs.Episodes.Course.{passive_flagged, delimited, cut_short, overloaded, rested, rested_sender}
+use Rattle.can_node.specs.Episodes.Course.{pressed, hurried, waited, overtaken, recovered}
+use Rattle.can_node.specs.Episodes.Begun.{syncing, idling, sending, taking, last_bit, active_flag, overload_flag}
+use Rattle.can_node.specs.Episodes.Begun.{passive_flag, delimiting, resting, suspended, recovering}
 use Rattle.can_node.specs.Episodes.Episode.{ends, off_within, off_at_end}
 use Rattle.can_node.specs.Sending.{Holds}
 use Rattle.can_node.specs.Histories.{Past, with_episode, IsOnOutside, IsHistory, noted, begins}
 use Rattle.can_node.specs.Histories.Whole.{then}
 use Rattle.can_node.specs.Machine.{Agrees, Lands, InState, with_bit, listed, is_sending}
-use Rattle.can_node.specs.Machine.Agrees.{in_sync, in_idle, in_take, in_send, in_last, in_active, in_overload, in_passive, in_wait, in_delimiter, in_rest, in_suspend, in_off}
+use Rattle.can_node.specs.Machine.Agrees.{in_sync, in_idle, in_take, in_send, in_last, in_active, in_overload}
+use Rattle.can_node.specs.Machine.Agrees.{in_passive, in_wait, in_delimiter, in_rest, in_suspend, in_off}
 use Rattle.can_node.specs.Machine.Lands.{goes_on, is_over}
 use Rattle.can_node.proofs.ErrorMoves.{off_begins}
 
 -- an episode that a state agrees with goes on
-pub agrees_begun : {state : State} {text : List Bool} {at : ℕ} {phase : Phase} {part : List Pair} {events : List ErrorEvent} →
+pub agrees_begun : {state : State} {text : List Bool} {at : ℕ} {phase : Phase} {part : List Pair}
+    {events : List ErrorEvent} →
     Agrees state text at phase part events → Begun phase part events
 agrees_begun (in_sync broken b below) = syncing broken _ b below
 agrees_begun (in_idle n) = idling n
-agrees_begun (in_take given levels may_begin pairs events is read_on reads may sof place) = taking _ given may_begin levels pairs events (subst IsReadOn is read_on) reads
-agrees_begun (in_send given frame before seen driven expected is bit place) = sending _ given frame before seen driven expected bit
+agrees_begun (in_take given levels may_begin pairs events is read_on reads may sof place) =
+    taking _ given may_begin levels pairs events (subst IsReadOn is read_on) reads
+agrees_begun (in_send given frame before seen driven expected is bit place) =
+    sending _ given frame before seen driven expected bit
 agrees_begun in_last = last_bit
 agrees_begun (in_active levels size below runs few) = active_flag _ levels (omega (arith, size, below))
 agrees_begun (in_overload levels size below runs few) = overload_flag _ levels (omega (arith, size, below))
 agrees_begun (in_passive owed levels h) = passive_flag owed _ levels h.without_six
-agrees_begun (in_wait {kind = kind} {role = role} run n is far due) = rw append-nil at (delimiting kind role run n 0 (omega arith))
+agrees_begun (in_wait {kind = kind} {role = role} run n is far due) =
+    rw append-nil at (delimiting kind role run n 0 (omega arith))
 agrees_begun (in_delimiter kind run n some below) = delimiting kind _ run n _ below
 agrees_begun (in_rest below) = resting _ _ below
 agrees_begun (in_suspend below) = suspended _ below
@@ -78,7 +89,8 @@ quiet_flag Passive owed role = quiet (PassiveFlag owed role) refl
 quiet_flag Off owed role = quiet BusOff refl
 
 -- a course that a bit ends does not lead to sending
-pub course_quiet : {at : ℕ} {before : List ErrorEvent} {phase next : Phase} {pairs : List Pair} {events : List ErrorEvent} {outcome : Outcome} →
+pub course_quiet : {at : ℕ} {before : List ErrorEvent} {phase next : Phase} {pairs : List Pair}
+    {events : List ErrorEvent} {outcome : Outcome} →
     Course at before phase pairs events outcome next → IsQuiet next
 unfolding is_send
 course_quiet (synced broken b) = quiet _ refl
@@ -107,7 +119,8 @@ course_quiet (overtaken k below) = quiet _ refl
 course_quiet (recovered text whole) = quiet _ refl
 
 -- a node sends a frame just in the episode of a send
-send_phase : {state : State} {text : List Bool} {at : ℕ} {phase : Phase} {part : List Pair} {events : List ErrorEvent} → Agrees state text at phase part events → is_sending state ≡ is_send phase
+send_phase : {state : State} {text : List Bool} {at : ℕ} {phase : Phase} {part : List Pair} {events : List ErrorEvent} →
+    Agrees state text at phase part events → is_sending state ≡ is_send phase
 unfolding is_send
 send_phase (in_sync broken b below) = refl
 send_phase (in_idle n) = refl
@@ -124,13 +137,18 @@ send_phase (in_suspend below) = refl
 send_phase (in_off rest broken below counted b short) = refl
 
 -- a bit does not begin to send
-pub no_send_behind : (old new : State) (text after : List Bool) (at : ℕ) (before : List ErrorEvent) (phase : Phase) (part more : List Pair) (events counted : List ErrorEvent) (outcome : Outcome) →
-    is_sending old ≡ false → Agrees old text at phase part events → Lands new outcome after at before phase more counted → is_sending new ≡ false
-no_send_behind old new text after at before phase part more events counted outcome none agrees (goes_on goes nothing) = send_phase goes ∙ sym (send_phase agrees) ∙ none
-no_send_behind old new text after at before phase part more events counted outcome none agrees (is_over next course begins) = send_phase (begins 0) ∙ (course_quiet course).no_send
+pub no_send_behind : (old new : State) (text after : List Bool) (at : ℕ) (before : List ErrorEvent) (phase : Phase)
+    (part more : List Pair) (events counted : List ErrorEvent) (outcome : Outcome) →
+    is_sending old ≡ false → Agrees old text at phase part events →
+    Lands new outcome after at before phase more counted → is_sending new ≡ false
+no_send_behind old new text after at before phase part more events counted outcome none agrees (goes_on goes nothing) =
+    send_phase goes ∙ sym (send_phase agrees) ∙ none
+no_send_behind old new text after at before phase part more events counted outcome none agrees
+    (is_over next course begins) = send_phase (begins 0) ∙ (course_quiet course).no_send
 
 -- what a state stands after is a history
-pub in_state_history : (state : State) (spelling : Spelling) (text : List Bool) (past : Past) → InState state spelling text past → IsHistory past
+pub in_state_history : (state : State) (spelling : Spelling) (text : List Bool) (past : Past) →
+    InState state spelling text past → IsHistory past
 in_state_history state spelling text past st = record {
   done = st.done;
   phase = st.phase;
@@ -143,16 +161,21 @@ in_state_history state spelling text past st = record {
 }
 
 abbrev past_of : ℕ → List Pair → List ErrorEvent → List (ℕ × FrameValue) → List (ℕ × Outcome) → Past
-past_of first pairs events begun outcomes = record { first = first; pairs = pairs; events = events; begun = begun; outcomes = outcomes }
+past_of first pairs events begun outcomes =
+    record { first = first; pairs = pairs; events = events; begun = begun; outcomes = outcomes }
 
-pub same_past : (first : ℕ) (p q : List Pair) (d e : List ErrorEvent) (b c : List (ℕ × FrameValue)) (o r : List (ℕ × Outcome)) →
+pub same_past : (first : ℕ) (p q : List Pair) (d e : List ErrorEvent) (b c : List (ℕ × FrameValue))
+    (o r : List (ℕ × Outcome)) →
     p ≡ q → d ≡ e → b ≡ c → o ≡ r → past_of first p d b o ≡ past_of first q e c r
 same_past first p q d e b c o r pq de bc or =
-    ap (λ x. past_of first x d b o) pq ∙ ap (λ x. past_of first q x b o) de ∙ ap (λ x. past_of first q e x o) bc ∙ ap (λ x. past_of first q e c x) or
+    ap (λ x. past_of first x d b o) pq ∙ ap (λ x. past_of first q x b o) de ∙ ap (λ x. past_of first q e x o) bc
+        ∙ ap (λ x. past_of first q e c x) or
 
 -- the episode goes on with this bit
-pub stands_on : (old new : State) (spelling : Spelling) (text after : List Bool) (past : Past) (pair : Pair) (event : Option ErrorEvent) (st : InState old spelling text past) →
-    Agrees new after (st.done.first + length st.done.pairs) st.phase (st.part ++ pair ∷ []) (st.counting ++ listed event) →
+pub stands_on : (old new : State) (spelling : Spelling) (text after : List Bool) (past : Past) (pair : Pair)
+    (event : Option ErrorEvent) (st : InState old spelling text past) →
+    Agrees new after (st.done.first + length st.done.pairs) st.phase (st.part ++ pair ∷ [])
+    (st.counting ++ listed event) →
     IsOnOutside st.phase (st.done.events ++ (st.counting ++ listed event)) →
     InState new spelling after (with_bit past pair event Nothing)
 stands_on old new spelling text after past pair event st agrees on = record {
@@ -165,7 +188,8 @@ stands_on old new spelling text after past pair event st agrees on = record {
   holds = st.holds;
   on = on;
   past_is = ap (λ p. with_bit p pair event Nothing) st.past_is ∙
-      same_past st.done.first _ _ _ _ _ _ _ _ (append_assoc st.done.pairs st.part (pair ∷ [])) (append_assoc st.done.events st.counting (listed event)) refl (append-nil _);
+      same_past st.done.first _ _ _ _ _ _ _ _ (append_assoc st.done.pairs st.part (pair ∷ []))
+          (append_assoc st.done.events st.counting (listed event)) refl (append-nil _);
 }
 
 -- outside of bus off, and so in any phase
@@ -184,14 +208,18 @@ outside Suspend events on = on
 outside BusOff events on = tt
 
 -- the episode is over with this bit
-pub stands_over : (old new : State) (spelling : Spelling) (text after : List Bool) (past : Past) (pair : Pair) (event : Option ErrorEvent) (outcome : Outcome) (next : Phase) (st : InState old spelling text past) → IsQuiet next →
-    Episode (st.done.first + length st.done.pairs) st.done.events st.phase (st.part ++ pair ∷ []) (st.counting ++ listed event) outcome next →
+pub stands_over : (old new : State) (spelling : Spelling) (text after : List Bool) (past : Past) (pair : Pair)
+    (event : Option ErrorEvent) (outcome : Outcome) (next : Phase) (st : InState old spelling text past) →
+    IsQuiet next →
+    Episode (st.done.first + length st.done.pairs) st.done.events st.phase (st.part ++ pair ∷ [])
+    (st.counting ++ listed event) outcome next →
     ((later : ℕ) → Agrees new after later next [] []) →
     IsOnOutside next (st.done.events ++ (st.counting ++ listed event)) →
     InState new spelling after (with_bit past pair event outcome)
 stands_over old new spelling text after past pair event outcome next st silent episode agrees on =
     let done : Past = with_episode st.done st.phase (st.part ++ pair ∷ []) (st.counting ++ listed event) outcome in
-    let here : st.done.first + length (st.done.pairs ++ (st.part ++ pair ∷ [])) - 1 ≡ st.done.first + length (st.done.pairs ++ st.part) =
+    let here : st.done.first + length (st.done.pairs ++ (st.part ++ pair ∷ [])) - 1
+        ≡ st.done.first + length (st.done.pairs ++ st.part) =
     omega (arith, length-append {A = Pair}) in
     record {
       done = done;
@@ -205,30 +233,39 @@ stands_over old new spelling text after past pair event outcome next st silent e
       past_is = ap (λ p. with_bit p pair event outcome) st.past_is ∙
           same_past st.done.first _ _ _ _ _ _ _ _ (append_assoc st.done.pairs st.part (pair ∷ []) ∙ sym (append-nil _))
           (append_assoc st.done.events st.counting (listed event) ∙ sym (append-nil _))
-          (sym (ap (λ b. (st.done.begun ++ begins (st.done.first + length st.done.pairs) st.phase) ++ b) (silent.begins_nothing _) ∙ append-nil _))
-          (ap (λ o. o ++ noted (st.done.first + length (st.done.pairs ++ st.part)) outcome) (append-nil st.done.outcomes)
+          (sym (ap (λ b. (st.done.begun ++ begins (st.done.first + length st.done.pairs) st.phase) ++ b)
+                (silent.begins_nothing _) ∙ append-nil _))
+          (ap (λ o. o ++ noted (st.done.first + length (st.done.pairs ++ st.part)) outcome)
+              (append-nil st.done.outcomes)
           ∙ ap (λ n. st.done.outcomes ++ noted n outcome) (sym here) ∙ sym (append-nil _));
     }
 
 -- a turn, where the node is not in bus off behind it
-pub lands_on : (old new : State) (spelling : Spelling) (text after : List Bool) (past : Past) (pair : Pair) (event : Option ErrorEvent) (outcome : Outcome) (st : InState old spelling text past) →
-    Lands new outcome after (st.done.first + length st.done.pairs) st.done.events st.phase (st.part ++ pair ∷ []) (st.counting ++ listed event) →
+pub lands_on : (old new : State) (spelling : Spelling) (text after : List Bool) (past : Past) (pair : Pair)
+    (event : Option ErrorEvent) (outcome : Outcome) (st : InState old spelling text past) →
+    Lands new outcome after (st.done.first + length st.done.pairs) st.done.events st.phase (st.part ++ pair ∷ [])
+    (st.counting ++ listed event) →
     AreOn (st.done.events ++ (st.counting ++ listed event)) →
     InState new spelling after (with_bit past pair event outcome)
 lands_on old new spelling text after past pair event outcome st (goes_on agrees nothing) on =
     subst (λ o. InState new spelling after (with_bit past pair event o)) (sym nothing)
     (stands_on old new spelling text after past pair event st agrees (outside st.phase _ on))
 lands_on old new spelling text after past pair event outcome st (is_over next course agrees) on =
-    stands_over old new spelling text after past pair event outcome next st (course_quiet course) (ends course on) agrees (outside next _ on)
+    stands_over old new spelling text after past pair event outcome next st (course_quiet course)
+        (ends course on) agrees (outside next _ on)
 
 -- a turn whose event leads to bus off: in place of what it would have ended, the node went off
-pub lands_off : (old new : State) (spelling : Spelling) (text after : List Bool) (past : Past) (pair : Pair) (event : ErrorEvent) (outcome : Outcome) (st : InState old spelling text past) →
-    Lands new outcome after (st.done.first + length st.done.pairs) st.done.events st.phase (st.part ++ pair ∷ []) (st.counting ++ event ∷ []) →
+pub lands_off : (old new : State) (spelling : Spelling) (text after : List Bool) (past : Past) (pair : Pair)
+    (event : ErrorEvent) (outcome : Outcome) (st : InState old spelling text past) →
+    Lands new outcome after (st.done.first + length st.done.pairs) st.done.events st.phase (st.part ++ pair ∷ [])
+    (st.counting ++ event ∷ []) →
     AreOn (st.done.events ++ st.counting) → AreOff (st.done.events ++ st.counting ++ event ∷ []) →
     InState (Recovering 0 0) spelling after (with_bit past pair (Some event) WentOff)
 lands_off old new spelling text after past pair event outcome st (goes_on agrees nothing) on off =
-    stands_over old (Recovering 0 0) spelling text after past pair (Some event) WentOff BusOff st (quiet_flag Off [] Receiver)
+    stands_over old (Recovering 0 0) spelling text after past pair (Some event) WentOff BusOff st
+        (quiet_flag Off [] Receiver)
     (off_within pair event (agrees_begun st.agrees) on (agrees_begun agrees) off) (off_begins after) tt
 lands_off old new spelling text after past pair event outcome st (is_over next course agrees) on off =
-    stands_over old (Recovering 0 0) spelling text after past pair (Some event) WentOff BusOff st (quiet_flag Off [] Receiver)
+    stands_over old (Recovering 0 0) spelling text after past pair (Some event) WentOff BusOff st
+        (quiet_flag Off [] Receiver)
     (off_at_end pair event (agrees_begun st.agrees) on course off) (off_begins after) tt

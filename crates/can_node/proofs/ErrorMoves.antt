@@ -1,5 +1,6 @@
 -- The branches of a delimiter, and the beginnings of error flags.
-use Rattle.std.proofs.Common.{◌≡◌, ℕ, ◌+◌, ◌<◌, ◌≤◌, cond, Bool, true, false, not, Some, None, List, [], ◌∷◌, ◌++◌, length, replicate, refl, ap, subst, arith, length-append}
+use Rattle.std.proofs.Common.{◌≡◌, ℕ, ◌+◌, ◌<◌, ◌≤◌, cond, Bool, true, false, not, Some, None, List, [], ◌∷◌, ◌++◌}
+use Rattle.std.proofs.Common.{length, replicate, refl, ap, subst, arith, length-append}
 use Rattle.std.proofs.lemmas.List.{append_assoc, append-nil, replicate_more}
 use Rattle.std.specs.List.{list_any}
 use Rattle.can_confinement.specs.declared.confinement.Role.{Role}
@@ -24,7 +25,8 @@ use Rattle.can_node.specs.Machine.Agrees.{in_active, in_passive, in_delimiter, i
 use Rattle.can_node.specs.Machine.Lands.{goes_on, is_over}
 use Rattle.can_node.proofs.Moves.{turn, listening_more, overload_begins}
 
-pub active_begins : (role : Role) (text : List Bool) (later : ℕ) → Agrees (Flagging ActiveError role 0 14) text later (ActiveFlag role) [] []
+pub active_begins : (role : Role) (text : List Bool) (later : ℕ) →
+    Agrees (Flagging ActiveError role 0 14) text later (ActiveFlag role) [] []
 active_begins role text later = in_active [] refl (omega arith) refl (omega arith)
 
 nothing_owed : (b c : Bool) → cond b (let none : List ErrorEvent = [] in none) [] ≡ cond c [] []
@@ -34,9 +36,11 @@ nothing_owed false true = refl
 nothing_owed false false = refl
 
 no_six : (beginning more : List Bool) → [] ≡ beginning ++ more → EndsInSix beginning → ⊥
-no_six beginning more e (v, b, is) = omega (arith, ap length e, length-append beginning more, ap length is, length-append v (replicate 6 b))
+no_six beginning more e (v, b, is) =
+    omega (arith, ap length e, length-append beginning more, ap length is, length-append v (replicate 6 b))
 
-pub passive_begins : (role : Role) (text : List Bool) (later : ℕ) → Agrees (PassiveFlagging role false 0 0) text later (PassiveFlag [] role) [] []
+pub passive_begins : (role : Role) (text : List Bool) (later : ℕ) →
+    Agrees (PassiveFlagging role false 0 0) text later (PassiveFlag [] role) [] []
 passive_begins role text later = in_passive [] [] (record {
   without_six = no_six;
   ones_is = refl;
@@ -47,7 +51,8 @@ passive_begins role text later = in_passive [] [] (record {
 })
 
 -- the flag of a passive sender that nobody acknowledged
-pub owing_begins : (text : List Bool) (later : ℕ) → Agrees (PassiveFlagging Sender true 0 0) text later (PassiveFlag (SenderError ∷ []) Sender) [] []
+pub owing_begins : (text : List Bool) (later : ℕ) →
+    Agrees (PassiveFlagging Sender true 0 0) text later (PassiveFlag (SenderError ∷ []) Sender) [] []
 owing_begins text later = in_passive (SenderError ∷ []) [] (record {
   without_six = no_six;
   ones_is = refl;
@@ -60,22 +65,30 @@ owing_begins text later = in_passive (SenderError ∷ []) [] (record {
 pub off_begins : (text : List Bool) (later : ℕ) → Agrees (Recovering 0 0) text later BusOff [] []
 off_begins text later = in_off {runs = 0} {n = 0} [] [] (omega arith) no_run none (omega arith)
 
-pub delimit_on : (role : Role) (k now : ℕ) (e : ErrorState) → k < 7 → Goes (Delimiting role k) now e true (turn (Delimiting role (k + 1)) None)
+pub delimit_on : (role : Role) (k now : ℕ) (e : ErrorState) → k < 7 →
+    Goes (Delimiting role k) now e true (turn (Delimiting role (k + 1)) None)
 delimit_on role k now e room text at before phase part events clock err (in_delimiter kind run n some below) =
-    goes_on (rw (listening_more, append_assoc, replicate_more, append-nil) (in_delimiter {k = k + 1} kind run n (omega arith) (omega arith))) refl
+    goes_on (rw (listening_more, append_assoc, replicate_more, append-nil)
+        (in_delimiter {k = k + 1} kind run n (omega arith) (omega arith))) refl
 
-pub delimit_ends : (role : Role) (k now : ℕ) (e : ErrorState) → 7 ≤ k → Goes (Delimiting role k) now e true (turn (Resting role 0) None)
+pub delimit_ends : (role : Role) (k now : ℕ) (e : ErrorState) → 7 ≤ k →
+    Goes (Delimiting role k) now e true (turn (Resting role 0) None)
 delimit_ends role k now e full text at before phase part events clock err (in_delimiter kind run n some below) =
     let seven : k ≡ 7 = omega arith in
-    is_over (Intermission role) (rw (seven, listening_more, append_assoc, append-nil) (delimited kind role run n)) (λ later. in_rest {k = 0} (omega arith))
+    is_over (Intermission role) (rw (seven, listening_more, append_assoc, append-nil) (delimited kind role run n))
+        (λ later. in_rest {k = 0} (omega arith))
 
-pub delimit_cut : (role : Role) (k now : ℕ) (e : ErrorState) (flag : State) → k < 7 → ((text : List Bool) (later : ℕ) → Agrees flag text later (flag_of e [] role) [] []) →
+pub delimit_cut : (role : Role) (k now : ℕ) (e : ErrorState) (flag : State) → k < 7 →
+    ((text : List Bool) (later : ℕ) → Agrees flag text later (flag_of e [] role) [] []) →
     Goes (Delimiting role k) now e false (record { state = flag; event = Some (error_of role); outcome = Errored Form })
-delimit_cut role k now e flag early begins text at before phase part events clock err (in_delimiter kind run n some below) =
+delimit_cut role k now e flag early begins text at before phase part events clock err
+    (in_delimiter kind run n some below) =
     is_over (flag_of _ [] role) (rw listening_more (cut_short kind role run n k some early))
     (subst (λ s. (later : ℕ) → Agrees flag (false ∷ []) later (flag_of s [] role) [] []) err (begins (false ∷ [])))
 
-pub delimit_overload : (role : Role) (k now : ℕ) (e : ErrorState) → 7 ≤ k → Goes (Delimiting role k) now e false (turn (Flagging Overload role 0 14) None)
+pub delimit_overload : (role : Role) (k now : ℕ) (e : ErrorState) → 7 ≤ k →
+    Goes (Delimiting role k) now e false (turn (Flagging Overload role 0 14) None)
 delimit_overload role k now e full text at before phase part events clock err (in_delimiter kind run n some below) =
     let seven : k ≡ 7 = omega arith in
-    is_over (OverloadFlag role) (rw (seven, listening_more, append-nil) (overloaded kind role run n)) (overload_begins role)
+    is_over (OverloadFlag role) (rw (seven, listening_more, append-nil) (overloaded kind role run n))
+        (overload_begins role)

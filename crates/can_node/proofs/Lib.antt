@@ -1,3 +1,4 @@
+pub mod Advancing
 pub mod Starts
 pub mod Readers
 pub mod Tallies

@@ -1,5 +1,6 @@
 -- Nodes that are left alone while a listener follows the line for them.
-use Rattle.std.proofs.Common.{◌≡◌, ◌⊎◌, inl, inr, ℕ, ◌+◌, min, Bool, true, false, Option, None, Some, List, [], ◌∷◌, ◌++◌, length, refl, sym, ap, subst, ◌∙◌}
+use Rattle.std.proofs.Common.{◌≡◌, ◌⊎◌, inl, inr, ℕ, ◌+◌, min, Bool, true, false, Option, None, Some, List, [], ◌∷◌}
+use Rattle.std.proofs.Common.{◌++◌, length, refl, sym, ap, subst, ◌∙◌}
 use Rattle.std.proofs.lemmas.List.Sums.{fold-append}
 use Rattle.can_frame.specs.Reading.{IsPush, ReadsOn, StandsAs, StandsAfter as ReaderStandsAfter, IsReading}
 use Rattle.can_frame.specs.declared.step.Step.{Step}
@@ -23,11 +24,15 @@ use Rattle.can_node.specs.declared.node.Node.{Node}
 use Rattle.can_node.specs.declared.listener.Listener.{Listener}
 use Rattle.can_confinement.specs.Confinement.{no_counts, is_off, after_event, counts_after, state_of}
 use Rattle.can_confinement.specs.Counters.{StandsAfter as CountersStandAfter, counts_of}
-use Rattle.can_node.specs.Machine.{Advances, behind_end, Counts, Goes, GoesReading, ReaderStands, Steps, is_in_region, is_sending, is_taking, level_in, may_start, quiet}
+use Rattle.can_node.specs.Machine.{Advances, behind_end, Counts, Goes, GoesReading, ReaderStands, Steps, is_in_region}
+use Rattle.can_node.specs.Machine.{is_sending, is_taking, level_in, may_start, quiet}
 use Rattle.can_node.specs.Sending.{level_at}
 use Rattle.can_node.specs.Machine.LeadsTo.{stays_on}
 use Rattle.can_node.specs.Listener.{Follows, IsUnseen, ReadsAlong, SendsTo, StandsWith, caught_up}
-use Rattle.can_node.proofs.Samples.{counts_none, idle_advances, other_advances, quiet_steps, reading_advances, samples, sending_advances, stands_history, steady_advances}
+use Rattle.can_node.proofs.Samples.{counts_none, quiet_steps, samples}
+use Rattle.can_node.proofs.Advancing.{idle_advances, other_advances, reading_advances}
+use Rattle.can_node.proofs.Samples.{stands_history}
+use Rattle.can_node.proofs.Advancing.{sending_advances, steady_advances}
 use Rattle.can_node.proofs.SendMoves.{send_echoed}
 use Rattle.can_node.proofs.TakeMoves.{tail_delimiter, tail_later}
 
@@ -35,73 +40,102 @@ abbrev listening : State → Reader → Listener
 listening state reader = record { state = state; reader = reader }
 
 follows_by : (known : KnownCounts) (old new : Listener) (bit : ℕ) (level : Bool) →
-    ((node : Node) → Knows known node.counters → Steps old.state node.counters old.reader node.spelling bit level Nothing new.state node.counters new.reader) → Follows known old bit level new
-follows_by known old new bit level steps node counts = samples (caught_up node old bit) (caught_up node new (bit + 1)) level Nothing (steps node counts) refl refl
+    ((node : Node) → Knows known node.counters →
+        Steps old.state node.counters old.reader node.spelling bit level Nothing new.state node.counters new.reader) →
+    Follows known old bit level new
+follows_by known old new bit level steps node counts =
+    samples (caught_up node old bit) (caught_up node new (bit + 1)) level Nothing (steps node counts) refl refl
 
-steady_follows : (known : KnownCounts) (start : ℕ) (old new : Reader) (bit : ℕ) (level : Bool) (step : Step) → IsPush old level step new → (step ≡ More) ⊎ (step ≡ StuffBit) →
+steady_follows : (known : KnownCounts) (start : ℕ) (old new : Reader) (bit : ℕ) (level : Bool) (step : Step) →
+    IsPush old level step new → (step ≡ More) ⊎ (step ≡ StuffBit) →
     Follows known (listening (Taking start false Region) old) bit level (listening (Taking start false Region) new)
 steady_follows known start old new bit level step push goes_on =
     let here = Taking start false Region in
-    follows_by known (listening here old) (listening here new) bit level (λ node counts. quiet_steps here here node.counters old new node.spelling bit level
-    (λ errors. steady_advances start false Region old new node.spelling bit errors level step push (record { reads = refl; inside = refl; goes_on = goes_on })))
+    follows_by known (listening here old) (listening here new) bit level
+        (λ node counts. quiet_steps here here node.counters old new node.spelling bit level
+    (λ errors. steady_advances start false Region old new node.spelling bit errors level step push
+        (record { reads = refl; inside = refl; goes_on = goes_on })))
 
 -- within the stuffed region of a frame
-pub region_follows : (known : KnownCounts) (state : State) (old new : Reader) (bit : ℕ) (level : Bool) → is_in_region state ≡ true → ReadsOn old level new →
+pub region_follows : (known : KnownCounts) (state : State) (old new : Reader) (bit : ℕ) (level : Bool) →
+    is_in_region state ≡ true → ReadsOn old level new →
     Follows known (listening state old) bit level (listening state new)
-region_follows known (Taking start false Region) old new bit level is (inl more) = steady_follows known start old new bit level More more (inl refl)
-region_follows known (Taking start false Region) old new bit level is (inr stuff) = steady_follows known start old new bit level StuffBit stuff (inr refl)
+region_follows known (Taking start false Region) old new bit level is (inl more) =
+    steady_follows known start old new bit level More more (inl refl)
+region_follows known (Taking start false Region) old new bit level is (inr stuff) =
+    steady_follows known start old new bit level StuffBit stuff (inr refl)
 region_follows known state old new bit level is on = absurd (cc is)
 
 -- on an idle bus
-pub idle_follows : (known : KnownCounts) (state : State) (reader : Reader) (bit : ℕ) (level : Bool) → state ≡ Idling → level ≡ true →
+pub idle_follows : (known : KnownCounts) (state : State) (reader : Reader) (bit : ℕ) (level : Bool) → state ≡ Idling →
+    level ≡ true →
     Follows known (listening state reader) bit level (listening state reader)
 idle_follows known state reader bit level is recessive = rw (is, recessive)
-    (follows_by known (listening Idling reader) (listening Idling reader) bit true (λ node counts. quiet_steps Idling Idling node.counters reader reader node.spelling bit true
+    (follows_by known (listening Idling reader) (listening Idling reader) bit true
+        (λ node counts. quiet_steps Idling Idling node.counters reader reader node.spelling bit true
     (λ errors. idle_advances reader node.spelling bit errors)))
 
 -- a frame received changes no count that is 0
-counts_received : (counters : Counters) → counts_of counters ≡ no_counts → (events : List ErrorEvent) → Counts counters counters (Some Received) false events
+counts_received : (counters : Counters) → counts_of counters ≡ no_counts → (events : List ErrorEvent) →
+    Counts counters counters (Some Received) false events
 counts_received counters none events =
     let after : CountersStandAfter counters events → counts_after (events ++ Received ∷ []) ≡ no_counts =
-    λ h. fold-append after_event no_counts events (Received ∷ []) ∙ ap (λ counts. after_event counts Received) (sym h ∙ none) in
+    λ h. fold-append after_event no_counts events (Received ∷ [])
+        ∙ ap (λ counts. after_event counts Received) (sym h ∙ none) in
     record { stands = λ h. none ∙ sym (after h); leads = λ h. stays_on Received (ap is_off (after h)) }
 
-counts_unseen : (known : KnownCounts) (counters : Counters) (event : Option ErrorEvent) → Knows known counters → (event ≡ None) ⊎ ((known ≡ Zero) × (event ≡ Some Received)) → (events : List ErrorEvent) →
+counts_unseen : (known : KnownCounts) (counters : Counters) (event : Option ErrorEvent) → Knows known counters →
+    (event ≡ None) ⊎ ((known ≡ Zero) × (event ≡ Some Received)) → (events : List ErrorEvent) →
     Counts counters counters event false events
 counts_unseen known counters event counts (inl is) events = counts_none counters event is events
-counts_unseen known counters event counts (inr is) events = rw is.1 (counts_received counters (subst (λ k. Knows k counters) is.0 counts) events)
+counts_unseen known counters event counts (inr is) events =
+    rw is.1 (counts_received counters (subst (λ k. Knows k counters) is.0 counts) events)
 
-unseen_follows : (known : KnownCounts) (old new : Listener) (bit : ℕ) (level : Bool) (turn : Turn) → IsUnseen known turn → new.state ≡ turn.state →
-    ((spelling : Spelling) (errors : ErrorState) → Advances old.state old.reader spelling bit errors level turn new.reader) → Follows known old bit level new
-unseen_follows known old new bit level turn unseen state_is advances = follows_by known old new bit level (λ node counts. record {
+unseen_follows : (known : KnownCounts) (old new : Listener) (bit : ℕ) (level : Bool) (turn : Turn) →
+    IsUnseen known turn → new.state ≡ turn.state →
+    ((spelling : Spelling) (errors : ErrorState) →
+        Advances old.state old.reader spelling bit errors level turn new.reader) → Follows known old bit level new
+unseen_follows known old new bit level turn unseen state_is advances =
+    follows_by known old new bit level (λ node counts. record {
   turn = turn;
   errors = state_of (counts_of node.counters);
   shows = λ events h. ap state_of h;
   advances = advances node.spelling (state_of (counts_of node.counters));
-  is_made = record { off = false; counts = counts_unseen known node.counters turn.event counts unseen.counts_none; ends_in = (state_is, sym unseen.tells_none) };
+  is_made = record { off = false; counts = counts_unseen known node.counters turn.event counts unseen.counts_none;
+      ends_in = (state_is, sym unseen.tells_none) };
 })
 
 -- a level of a frame with which all read on
-pub reading_follows : (known : KnownCounts) (old : Listener) (start : ℕ) (may : Bool) (stage : Stage) (new : Reader) (bit : ℕ) (level : Bool) (step : Step) (turn : Turn) → old.state ≡ Taking start may stage →
-    IsPush old.reader level step new → ((errors : ErrorState) (may : Bool) → GoesReading (Taking start may stage) errors step level turn) → IsUnseen known turn →
+pub reading_follows : (known : KnownCounts) (old : Listener) (start : ℕ) (may : Bool) (stage : Stage) (new : Reader)
+    (bit : ℕ) (level : Bool) (step : Step) (turn : Turn) → old.state ≡ Taking start may stage →
+    IsPush old.reader level step new → ((errors : ErrorState) (may : Bool) →
+        GoesReading (Taking start may stage) errors step level turn) → IsUnseen known turn →
     Follows known old bit level (listening turn.state new)
-reading_follows known old start may stage new bit level step turn is push goes unseen = unseen_follows known old (listening turn.state new) bit level turn unseen refl
-    (λ spelling errors. rw is (reading_advances start may stage old.reader new spelling bit errors level step turn push (goes errors)))
+reading_follows known old start may stage new bit level step turn is push goes unseen =
+    unseen_follows known old (listening turn.state new) bit level turn unseen refl
+    (λ spelling errors. rw is (reading_advances start may stage old.reader new spelling bit errors level step turn push
+          (goes errors)))
 
 -- a level outside of one
-pub other_follows : (known : KnownCounts) (old : Listener) (new : Reader) (bit : ℕ) (level : Bool) (turn : Turn) → is_sending old.state ≡ false → ((errors : ErrorState) → Goes old.state bit errors level turn) →
-    IsUnseen known turn → (is_taking turn.state ≡ true → ReaderStandsAfter new (false ∷ [])) → (is_taking turn.state ≡ true → IsReading new) → Follows known old bit level (listening turn.state new)
-other_follows known old new bit level turn sends_none goes unseen stands reading = unseen_follows known old (listening turn.state new) bit level turn unseen refl
-    (λ spelling errors. other_advances old.state old.reader new spelling bit errors level turn sends_none (goes errors) stands reading)
+pub other_follows : (known : KnownCounts) (old : Listener) (new : Reader) (bit : ℕ) (level : Bool) (turn : Turn) →
+    is_sending old.state ≡ false → ((errors : ErrorState) → Goes old.state bit errors level turn) →
+    IsUnseen known turn → (is_taking turn.state ≡ true → ReaderStandsAfter new (false ∷ [])) →
+    (is_taking turn.state ≡ true → IsReading new) → Follows known old bit level (listening turn.state new)
+other_follows known old new bit level turn sends_none goes unseen stands reading =
+    unseen_follows known old (listening turn.state new) bit level turn unseen refl
+    (λ spelling errors. other_advances old.state old.reader new spelling bit errors level turn sends_none
+        (goes errors) stands reading)
 
 -- a node that has come as far as a listener
-same_reads : (state : State) (one other : Reader) (text : List Bool) → (is_taking state ≡ true → StandsAs one other) → ReaderStands state one text → ReaderStands state other text
+same_reads : (state : State) (one other : Reader) (text : List Bool) → (is_taking state ≡ true → StandsAs one other) →
+    ReaderStands state one text → ReaderStands state other text
 same_reads state one other text same reads = record {
   stands = λ is. (same is).stands text (reads.stands is);
   reading = λ is. (same is).reading (reads.reading is);
 }
 
-pub stands_with : (node : Node) (listener : Listener) → node.state ≡ listener.state → is_sending node.state ≡ false → (is_taking node.state ≡ true → StandsAs node.reader listener.reader) →
+pub stands_with : (node : Node) (listener : Listener) → node.state ≡ listener.state → is_sending node.state ≡ false →
+    (is_taking node.state ≡ true → StandsAs node.reader listener.reader) →
     StandsWith node listener
 stands_with node listener is sends_none same = record {
   stands = λ past h. record {
@@ -129,7 +163,8 @@ region_listens (Taking start false Region) is = refl
 region_listens state is = absurd (cc is)
 
 -- a bit of the stuffed region is read along
-pub along_region : (listener : Listener) (reader : Reader) (level : Bool) → is_in_region listener.state ≡ true → ReadsOn listener.reader level reader → ReadsAlong listener level (listening listener.state reader)
+pub along_region : (listener : Listener) (reader : Reader) (level : Bool) → is_in_region listener.state ≡ true →
+    ReadsOn listener.reader level reader → ReadsAlong listener level (listening listener.state reader)
 along_region listener reader level inside reads = record {
   drives = λ other bit. region_drives listener.state other.spelling inside;
   begins = λ other bit. region_begins listener.state inside;
@@ -137,21 +172,28 @@ along_region listener reader level inside reads = record {
   listens = region_listens listener.state inside;
 }
 
-end_follows : (known : KnownCounts) (start : ℕ) (stage : Stage) (behind : State) (old new : Reader) (bit : ℕ) (level : Bool) → is_sending behind ≡ false →
-    ((errors : ErrorState) (may : Bool) → GoesReading (Taking start may stage) errors Tail level (quiet behind)) → IsPush old level Tail new →
+end_follows : (known : KnownCounts) (start : ℕ) (stage : Stage) (behind : State) (old new : Reader) (bit : ℕ)
+    (level : Bool) → is_sending behind ≡ false →
+    ((errors : ErrorState) (may : Bool) → GoesReading (Taking start may stage) errors Tail level (quiet behind)) →
+    IsPush old level Tail new →
     Follows known (listening (Taking start false stage) old) bit level (listening behind new)
 end_follows known start stage behind old new bit level sends_none goes push =
-    reading_follows known (listening (Taking start false stage) old) start false stage new bit level Tail (quiet behind) refl push goes
+    reading_follows known (listening (Taking start false stage) old) start false stage new bit level Tail
+        (quiet behind) refl push goes
     (record { tells_none = refl; counts_none = inl refl; sends_none = sends_none })
 
 -- so is a bit behind it with which the frame goes on, but the ACK slot
-pub along_end : (state behind : State) (old new : Reader) (level : Bool) → behind_end state ≡ Some behind → IsPush old level Tail new → ReadsAlong (listening state old) level (listening behind new)
+pub along_end : (state behind : State) (old new : Reader) (level : Bool) → behind_end state ≡ Some behind →
+    IsPush old level Tail new → ReadsAlong (listening state old) level (listening behind new)
 along_end (Taking start false (AfterRegion right)) behind old new level is push =
     let next : Taking start false (Slot right) ≡ behind = cc is in
-    subst (λ s. ReadsAlong (listening (Taking start false (AfterRegion right)) old) level (listening s new)) next (record {
+    subst (λ s. ReadsAlong (listening (Taking start false (AfterRegion right)) old) level (listening s new)) next
+        (record {
       drives = λ other bit. refl;
       begins = λ other bit. refl;
-      follows = λ known bit. end_follows known start (AfterRegion right) (Taking start false (Slot right)) old new bit level refl (λ errors may. tail_delimiter start may right errors level) push;
+      follows = λ known bit. end_follows known start (AfterRegion right)
+          (Taking start false (Slot right)) old new bit level refl
+          (λ errors may. tail_delimiter start may right errors level) push;
       listens = refl;
     })
 along_end (Taking start false AfterSlot) behind old new level is push =
@@ -159,22 +201,31 @@ along_end (Taking start false AfterSlot) behind old new level is push =
     subst (λ s. ReadsAlong (listening (Taking start false AfterSlot) old) level (listening s new)) next (record {
       drives = λ other bit. refl;
       begins = λ other bit. refl;
-      follows = λ known bit. end_follows known start AfterSlot (Taking start false AfterSlot) old new bit level refl (λ errors may. tail_later start may errors level) push;
+      follows = λ known bit. end_follows known start AfterSlot (Taking start false AfterSlot) old new bit level refl
+          (λ errors may. tail_later start may errors level) push;
       listens = refl;
     })
 along_end state behind old new level is push = absurd (cc is)
 
 -- a bit of a frame that is sent to all others
-pub sends_to : (node : Node) (start place next : ℕ) (before after : Listener) (level : Bool) → node.state ≡ Sending start place → (place + 9 ≡ length node.spelling.levels.items → ⊥) →
-    (place + 1 ≡ length node.spelling.levels.items → ⊥) → level ≡ level_at node.spelling place → next ≡ min (place + 1) 255 → ReadsAlong before level after →
-    SendsTo node before level (record { state = Sending start next; reader = node.reader; spelling = node.spelling; counters = node.counters; clock = node.clock + 1 }) after
+pub sends_to : (node : Node) (start place next : ℕ) (before after : Listener) (level : Bool) →
+    node.state ≡ Sending start place → (place + 9 ≡ length node.spelling.levels.items → ⊥) →
+    (place + 1 ≡ length node.spelling.levels.items → ⊥) → level ≡ level_at node.spelling place →
+    next ≡ min (place + 1) 255 → ReadsAlong before level after →
+    SendsTo node before level (record { state = Sending start next; reader = node.reader; spelling = node.spelling;
+          counters = node.counters; clock = node.clock + 1 }) after
 sends_to node start place next before after level here slot last echo next_is along =
-    let behind : Node = record { state = Sending start next; reader = node.reader; spelling = node.spelling; counters = node.counters; clock = node.clock + 1 } in
-    let steps : Steps node.state node.counters node.reader node.spelling node.clock level Nothing (Sending start next) node.counters node.reader =
+    let behind : Node = record { state = Sending start next; reader = node.reader; spelling = node.spelling;
+        counters = node.counters; clock = node.clock + 1 } in
+    let steps : Steps node.state node.counters node.reader node.spelling node.clock level Nothing
+        (Sending start next) node.counters node.reader =
     rw here
-    (quiet_steps (Sending start place) (Sending start next) node.counters node.reader node.reader node.spelling node.clock level
-    (λ errors. sending_advances start place node.reader node.reader node.spelling node.clock errors level (quiet (Sending start next))
-    (send_echoed start place next node.spelling errors level slot echo last next_is) (λ is. absurd (cc is)) (λ is. absurd (cc is)))) in
+    (quiet_steps (Sending start place) (Sending start next) node.counters node.reader node.reader node.spelling
+        node.clock level
+    (λ errors. sending_advances start place node.reader node.reader node.spelling node.clock errors level
+        (quiet (Sending start next))
+    (send_echoed start place next node.spelling errors level slot echo last next_is) (λ is. absurd (cc is))
+        (λ is. absurd (cc is)))) in
     record {
       drives = echo ∙ ap (λ state. level_in state node.spelling) (sym here);
       begins_none = ap may_start here;

@@ -13,7 +13,10 @@ use Rattle.can_node.specs.Pairs.{Pair}
 use Rattle.can_node.specs.Phases.{Phase}
 use Rattle.can_node.specs.Phases.Phase.{Send, Take}
 use Rattle.can_node.specs.Episodes.{Course, Episode}
-use Rattle.can_node.specs.Episodes.Course.{synced, woken, completed, lost, stuff_lost, unacknowledged, bit_differs, took, spoiled, quiet_end, late_overload, flagged, overload_flagged, passive_flagged, delimited, cut_short, overloaded, rested, rested_sender, pressed, hurried, waited, overtaken, recovered}
+use Rattle.can_node.specs.Episodes.Course.{synced, woken, completed, lost, stuff_lost, unacknowledged, bit_differs}
+use Rattle.can_node.specs.Episodes.Course.{took, spoiled, quiet_end, late_overload, flagged, overload_flagged}
+use Rattle.can_node.specs.Episodes.Course.{passive_flagged, delimited, cut_short, overloaded, rested, rested_sender}
+use Rattle.can_node.specs.Episodes.Course.{pressed, hurried, waited, overtaken, recovered}
 use Rattle.can_node.specs.Episodes.Episode.{begun, joined, ends, off_within, off_at_end}
 use Rattle.can_node.specs.Histories.{Past, Whole, with_episode, noted, IsHistory}
 use Rattle.can_node.specs.Histories.Whole.{switched_on, then}

@@ -1,7 +1,9 @@
 -- A past is cut into episodes in one way only.
-use Rattle.std.proofs.Common.{◌≡◌, ℕ, ◌+◌, ◌≤◌, inl, inr, Bool, true, List, [], ◌∷◌, ◌++◌, length, refl, sym, ap, subst, arith, ◌∙◌}
+use Rattle.std.proofs.Common.{◌≡◌, ℕ, ◌+◌, ◌≤◌, inl, inr, Bool, true, List, [], ◌∷◌, ◌++◌, length, refl, sym, ap, subst}
+use Rattle.std.proofs.Common.{arith, ◌∙◌}
 use Rattle.std.specs.List.{Contains}
-use Rattle.std.proofs.lemmas.List.{append_assoc, append-nil, append_cancel_left, length-append, length-map, length-replicate}
+use Rattle.std.proofs.lemmas.List.{append_assoc, append-nil, append_cancel_left, length-append, length-map}
+use Rattle.std.proofs.lemmas.List.{length-replicate}
 use Rattle.std.proofs.lemmas.List.Elements.{Contains-append_cases}
 use Rattle.can_frame.specs.Frames.{FrameValue}
 use Rattle.can_confinement.specs.declared.confinement.ErrorEvent.{ErrorEvent}
@@ -22,7 +24,8 @@ use Rattle.can_node.proofs.Located.{one_more}
 use Rattle.can_node.proofs.Stamps.{begins_is}
 use Rattle.can_node.proofs.OneCuttingLists.{fronts}
 use Rattle.can_node.proofs.OneCuttingEvents.{Fit, place_fits, SameEnd}
-use Rattle.can_node.proofs.OneCuttingEpisodes.{Ending, Starting, Kind, kind, not_within, went_on, same_pairs, ending_same}
+use Rattle.can_node.proofs.OneCuttingEpisodes.{Ending, Starting, Kind, kind, not_within, went_on, same_pairs}
+use Rattle.can_node.proofs.OneCuttingEpisodes.{ending_same}
 use Rattle.can_node.proofs.OneCuttingEpisodes.Starting.{from_idle, from_sof}
 use Rattle.can_node.proofs.OneCuttingEpisodes.Kind.{starting, ending}
 

@@ -7,11 +7,16 @@ use Rattle.can_node.specs.Pairs.{Pair, listening, recessive, dominant}
 use Rattle.can_node.specs.Flags.{flag_bits, owed_events}
 use Rattle.can_node.specs.Phases.{Phase}
 use Rattle.can_node.specs.Episodes.{Begun, Course}
-use Rattle.can_node.specs.Episodes.Begun.{syncing, idling, sending, taking, last_bit, active_flag, overload_flag, passive_flag, delimiting, resting, suspended, recovering}
-use Rattle.can_node.specs.Episodes.Course.{synced, woken, completed, lost, stuff_lost, unacknowledged, bit_differs, took, spoiled, quiet_end, late_overload, flagged, overload_flagged, passive_flagged, delimited, cut_short, overloaded, rested, rested_sender, pressed, hurried, waited, overtaken, recovered}
+use Rattle.can_node.specs.Episodes.Begun.{syncing, idling, sending, taking, last_bit, active_flag, overload_flag}
+use Rattle.can_node.specs.Episodes.Begun.{passive_flag, delimiting, resting, suspended, recovering}
+use Rattle.can_node.specs.Episodes.Course.{synced, woken, completed, lost, stuff_lost, unacknowledged, bit_differs}
+use Rattle.can_node.specs.Episodes.Course.{took, spoiled, quiet_end, late_overload, flagged, overload_flagged}
+use Rattle.can_node.specs.Episodes.Course.{passive_flagged, delimited, cut_short, overloaded, rested, rested_sender}
+use Rattle.can_node.specs.Episodes.Course.{pressed, hurried, waited, overtaken, recovered}
 use Rattle.can_node.specs.Copies.{sampled_in}
 use Rattle.can_node.proofs.SameFronts.{faulty}
-use Rattle.can_node.proofs.OneCuttingLists.{listening_front, dominating_front, no_dominant, no_more_dominant, not_synced, not_recovered}
+use Rattle.can_node.proofs.OneCuttingLists.{listening_front, dominating_front, no_dominant, no_more_dominant}
+use Rattle.can_node.proofs.OneCuttingLists.{not_synced, not_recovered}
 use Rattle.can_node.proofs.OneCuttingEvents.{More, no_more, dominant_more, Fit}
 use Rattle.can_node.proofs.OneCuttingTakes.{reads_front, reads_grow}
 use Rattle.can_node.proofs.OneCuttingSends.{send_end, send_over}

@@ -1,9 +1,11 @@
 -- How an episode ends: what it was before its last bit, and that equal pairs end it in one way.
-use Rattle.std.proofs.Common.{◌≡◌, ℕ, ◌+◌, ◌<◌, Bool, true, false, List, [], ◌∷◌, ◌++◌, length, refl, sym, ap, subst, arith, ◌∙◌}
+use Rattle.std.proofs.Common.{◌≡◌, ℕ, ◌+◌, ◌<◌, Bool, true, false, List, [], ◌∷◌, ◌++◌, length, refl, sym, ap, subst}
+use Rattle.std.proofs.Common.{arith, ◌∙◌}
 use Rattle.std.proofs.lemmas.List.{append_assoc, append-nil, length-append}
 use Rattle.can_frame.specs.Fronts.{IsFront}
 use Rattle.can_confinement.specs.declared.confinement.ErrorEvent.{ErrorEvent}
-use Rattle.can_confinement.specs.declared.confinement.ErrorEvent.TheVariants.{ReceiverError, SenderError, Sent, Recovered}
+use Rattle.can_confinement.specs.declared.confinement.ErrorEvent.TheVariants.{ReceiverError, SenderError, Sent}
+use Rattle.can_confinement.specs.declared.confinement.ErrorEvent.TheVariants.{Recovered}
 use Rattle.can_confinement.specs.declared.confinement.ErrorState.{ErrorState}
 use Rattle.can_confinement.specs.declared.confinement.ErrorState.TheVariants.{Active, Passive, Off}
 use Rattle.can_confinement.specs.declared.confinement.Role.{Role}
@@ -18,10 +20,15 @@ use Rattle.can_node.specs.Waits.Recoveries.{no_run, one_more}
 use Rattle.can_node.specs.Flags.{flag_bits, owed_events, dominant_events}
 use Rattle.can_node.specs.Takes.{name_of}
 use Rattle.can_node.specs.Phases.{Phase, flag_of}
-use Rattle.can_node.specs.Phases.Phase.{Sync, Idle, Send, Take, LastBit, ActiveFlag, OverloadFlag, PassiveFlag, Delimiter, Intermission, Suspend, BusOff}
+use Rattle.can_node.specs.Phases.Phase.{Sync, Idle, Send, Take, LastBit, ActiveFlag, OverloadFlag, PassiveFlag}
+use Rattle.can_node.specs.Phases.Phase.{Delimiter, Intermission, Suspend, BusOff}
 use Rattle.can_node.specs.Episodes.{Begun, Course, AreOn, ack_events}
-use Rattle.can_node.specs.Episodes.Begun.{syncing, idling, sending, taking, last_bit, active_flag, overload_flag, passive_flag, delimiting, resting, suspended, recovering}
-use Rattle.can_node.specs.Episodes.Course.{synced, woken, completed, lost, stuff_lost, unacknowledged, bit_differs, took, spoiled, quiet_end, late_overload, flagged, overload_flagged, passive_flagged, delimited, cut_short, overloaded, rested, rested_sender, pressed, hurried, waited, overtaken, recovered}
+use Rattle.can_node.specs.Episodes.Begun.{syncing, idling, sending, taking, last_bit, active_flag, overload_flag}
+use Rattle.can_node.specs.Episodes.Begun.{passive_flag, delimiting, resting, suspended, recovering}
+use Rattle.can_node.specs.Episodes.Course.{synced, woken, completed, lost, stuff_lost, unacknowledged, bit_differs}
+use Rattle.can_node.specs.Episodes.Course.{took, spoiled, quiet_end, late_overload, flagged, overload_flagged}
+use Rattle.can_node.specs.Episodes.Course.{passive_flagged, delimited, cut_short, overloaded, rested, rested_sender}
+use Rattle.can_node.specs.Episodes.Course.{pressed, hurried, waited, overtaken, recovered}
 use Rattle.can_node.specs.Histories.{IsOnOutside}
 use Rattle.can_node.proofs.Bits.{outside}
 use Rattle.can_node.proofs.Moves.{listening_more, dominating_more}
@@ -29,9 +36,11 @@ use Rattle.can_node.proofs.SameFronts.{no_fault_behind}
 use Rattle.can_node.proofs.OneCuttingLists.{listening_same, dominating_same, has_last, last_same, run_is, no_dominant}
 use Rattle.can_node.proofs.OneCuttingEvents.{More, no_more, more_and_more, was_on, error_other, Fit, SameEnd, same_end}
 use Rattle.can_node.proofs.OneCuttingEvents.{one_more as one_event}
-use Rattle.can_node.proofs.OneCuttingTakes.{reads_levels, reads_same, read_before, front_read_on, front_some, front_of_one, one_kind}
+use Rattle.can_node.proofs.OneCuttingTakes.{reads_levels, reads_same, read_before, front_read_on, front_some}
+use Rattle.can_node.proofs.OneCuttingTakes.{front_of_one, one_kind}
 use Rattle.can_node.proofs.OneCuttingSends.{send_end, send_same, last_of_send}
-use Rattle.can_node.proofs.OneCuttingFlags.{flag_bits_more, flag_same, owed_more, delimiter_end, delimiter_same, rest_end, rest_same}
+use Rattle.can_node.proofs.OneCuttingFlags.{flag_bits_more, flag_same, owed_more, delimiter_end, delimiter_same}
+use Rattle.can_node.proofs.OneCuttingFlags.{rest_end, rest_same}
 
 -- An episode that goes on, one bit before these pairs; and if the node is on behind their events, it was so then.
 pub record BeforeLast (phase : Phase) (pairs : List Pair) (events : List ErrorEvent) : Type 0 where
@@ -167,7 +176,8 @@ idle_same : {at : ℕ} {before : List ErrorEvent}
     SameEnd events counted outcome told next other
 idle_same {at = at} (woken n) (woken m) e =
     let same : m ≡ n =
-    run_is true false m n [] [] (λ h. cc h) (listening_same (recessive m ++ false ∷ []) (recessive n ++ false ∷ []) e) in
+    run_is true false m n [] [] (λ h. cc h)
+        (listening_same (recessive m ++ false ∷ []) (recessive n ++ false ∷ []) e) in
     record { events_are = refl; outcome_is = refl; next_is = ap (λ k. Take (at + k) (false ∷ []) false) (sym same) }
 
 take_same : {at : ℕ} {before : List ErrorEvent} {start : ℕ} {given : List Bool} {may_begin : Bool}
@@ -262,7 +272,8 @@ suspend_same (overtaken k few) waited e =
     absurd (no_dominant k 8 [] (listening_same (recessive 8) (recessive k ++ false ∷ []) e))
 suspend_same {at = at} (overtaken n few) (overtaken m below) e =
     let same : m ≡ n =
-    run_is true false m n [] [] (λ h. cc h) (listening_same (recessive m ++ false ∷ []) (recessive n ++ false ∷ []) e) in
+    run_is true false m n [] [] (λ h. cc h)
+        (listening_same (recessive m ++ false ∷ []) (recessive n ++ false ∷ []) e) in
     record { events_are = refl; outcome_is = refl; next_is = ap (λ k. Take (at + k) (false ∷ []) false) (sym same) }
 
 off_same : {at : ℕ} {before : List ErrorEvent}

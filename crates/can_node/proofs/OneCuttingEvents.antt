@@ -1,12 +1,15 @@
 -- Events that do not lead back from bus off, and what each place of a history between two episodes is fit for.
-use Rattle.std.proofs.Common.{◌≡◌, ℕ, zero, suc, ◌+◌, cond, Bool, true, false, List, [], ◌∷◌, ◌++◌, refl, sym, ap, subst, arith, ◌∙◌}
+use Rattle.std.proofs.Common.{◌≡◌, ℕ, zero, suc, ◌+◌, cond, Bool, true, false, List, [], ◌∷◌, ◌++◌, refl, sym, ap}
+use Rattle.std.proofs.Common.{subst, arith, ◌∙◌}
 use Rattle.std.proofs.lemmas.List.{append_assoc, append-nil}
 use Rattle.std.proofs.lemmas.List.Sums.{fold-append}
 use Rattle.can_frame.specs.Frames.{IsFrameValue}
 use Rattle.can_confinement.specs.declared.confinement.Role.{Role}
 use Rattle.can_confinement.specs.declared.confinement.Role.TheVariants.{Sender, Receiver}
 use Rattle.can_confinement.specs.declared.confinement.ErrorEvent.{ErrorEvent}
-use Rattle.can_confinement.specs.declared.confinement.ErrorEvent.TheVariants.{ReceiverError, ReceiverDominant, SenderError, FlagBit, DominantRun, Sent, Received, Recovered}
+use Rattle.can_confinement.specs.declared.confinement.ErrorEvent.TheVariants.{ReceiverError, ReceiverDominant}
+use Rattle.can_confinement.specs.declared.confinement.ErrorEvent.TheVariants.{SenderError, FlagBit, DominantRun, Sent}
+use Rattle.can_confinement.specs.declared.confinement.ErrorEvent.TheVariants.{Received, Recovered}
 use Rattle.can_confinement.specs.declared.confinement.ErrorState.{ErrorState}
 use Rattle.can_confinement.specs.declared.confinement.ErrorState.TheVariants.{Active, Passive, Off}
 use Rattle.can_node.specs.declared.flag.FlagKind.{FlagKind}
@@ -19,7 +22,10 @@ use Rattle.can_node.specs.Flags.{flag_bit, flag_bits, behind_flag, dominant_even
 use Rattle.can_node.specs.Phases.{Phase, flag_of}
 use Rattle.can_node.specs.Phases.Phase.{Send, Take, PassiveFlag}
 use Rattle.can_node.specs.Episodes.{Course, Episode, AreOn, AreOff, error_of}
-use Rattle.can_node.specs.Episodes.Course.{synced, woken, completed, lost, stuff_lost, unacknowledged, bit_differs, took, spoiled, quiet_end, late_overload, flagged, overload_flagged, passive_flagged, delimited, cut_short, overloaded, rested, rested_sender, pressed, hurried, waited, overtaken, recovered}
+use Rattle.can_node.specs.Episodes.Course.{synced, woken, completed, lost, stuff_lost, unacknowledged, bit_differs}
+use Rattle.can_node.specs.Episodes.Course.{took, spoiled, quiet_end, late_overload, flagged, overload_flagged}
+use Rattle.can_node.specs.Episodes.Course.{passive_flagged, delimited, cut_short, overloaded, rested, rested_sender}
+use Rattle.can_node.specs.Episodes.Course.{pressed, hurried, waited, overtaken, recovered}
 use Rattle.can_node.specs.Episodes.Episode.{begun, joined, ends, off_within, off_at_end}
 use Rattle.can_node.specs.Histories.{Past, Whole}
 use Rattle.can_node.specs.Histories.Whole.{switched_on, then}

@@ -1,5 +1,6 @@
 -- Flags, delimiters and intermission: what their levels tell of where they end, and how.
-use Rattle.std.proofs.Common.{◌≡◌, ℕ, zero, suc, ◌+◌, ◌<◌, cond, ◌||◌, Bool, true, false, not, List, [], ◌∷◌, ◌++◌, length, refl, sym, ap, subst, arith, ◌∙◌}
+use Rattle.std.proofs.Common.{◌≡◌, ℕ, zero, suc, ◌+◌, ◌<◌, cond, ◌||◌, Bool, true, false, not, List, [], ◌∷◌, ◌++◌}
+use Rattle.std.proofs.Common.{length, refl, sym, ap, subst, arith, ◌∙◌}
 use Rattle.std.specs.List.{list_any}
 use Rattle.std.proofs.lemmas.List.{append_assoc, append_cancel_left, length-append, length-replicate}
 use Rattle.std.proofs.lemmas.List.Folds.{list_any-append}
@@ -18,7 +19,8 @@ use Rattle.can_node.specs.Phases.Phase.{Idle, Take, OverloadFlag, Delimiter, Int
 use Rattle.can_node.specs.Episodes.{Course, error_of}
 use Rattle.can_node.specs.Episodes.Course.{delimited, cut_short, overloaded, rested, rested_sender, pressed, hurried}
 use Rattle.can_node.specs.Copies.{sampled_in}
-use Rattle.can_node.proofs.OneCuttingLists.{listening_front, listening_same, run_is, no_dominant, no_more_dominant, no_fewer_dominant}
+use Rattle.can_node.proofs.OneCuttingLists.{listening_front, listening_same, run_is, no_dominant, no_more_dominant}
+use Rattle.can_node.proofs.OneCuttingLists.{no_fewer_dominant}
 use Rattle.can_node.proofs.OneCuttingEvents.{StayOff, More, no_more, flag_bits_stay, SameEnd, same_end}
 
 -- more levels of a flag that drives dominant

@@ -78,7 +78,8 @@ expected_in frame given before seen others samples later heard driven expected p
     let one = one_send frame given _ _ _ _ bit.send send in record {
       drives = level_behind before bit.later (driven_in r ++ later) (others ++ later) driven pair.driven one.drives
           (ap (λ t. t ++ later) l.drives ∙ append_assoc before (pair.driven ∷ driven_in r) later);
-      hears = level_behind seen bit.later_seen (sampled_in r ++ heard) (samples ++ heard) expected pair.sampled one.hears
+      hears =
+          level_behind seen bit.later_seen (sampled_in r ++ heard) (samples ++ heard) expected pair.sampled one.hears
           (ap (λ t. t ++ heard) l.hears ∙ append_assoc seen (pair.sampled ∷ sampled_in r) heard);
     }
 

@@ -1,5 +1,6 @@
 -- A frame that is read: what more levels make of what the receiver drives and counts, and how its reading ends.
-use Rattle.std.proofs.Common.{◌≡◌, inl, inr, Bool, true, false, List, [], ◌∷◌, ◌++◌, length, refl, sym, ap, subst, arith, ◌∙◌}
+use Rattle.std.proofs.Common.{◌≡◌, inl, inr, Bool, true, false, List, [], ◌∷◌, ◌++◌, length, refl, sym, ap, subst}
+use Rattle.std.proofs.Common.{arith, ◌∙◌}
 use Rattle.std.proofs.lemmas.List.{append_assoc, append-nil, map-append, length-append}
 use Rattle.can_frame.specs.Frames.{FrameValue}
 use Rattle.can_frame.specs.Fronts.{IsFront}
@@ -9,7 +10,7 @@ use Rattle.can_frame.specs.declared.step.Step.TheVariants.{Fault}
 use Rattle.can_frame.proofs.Numbers.{append_same}
 use Rattle.can_frame.proofs.FrontLaws.{no_front_begins, no_dominant_end}
 use Rattle.can_frame.proofs.Undecided.{rough_before}
-use Rattle.can_frame.proofs.ReaderLaws.{one_answer}
+use Rattle.can_frame.proofs.OneAnswer.{one_answer}
 use Rattle.can_confinement.specs.declared.confinement.ErrorEvent.{ErrorEvent}
 use Rattle.can_node.specs.Pairs.{Pair, listening, dominating}
 use Rattle.can_node.specs.Takes.{IsReadOn, IsBeforeSlot, Reads, acknowledged, IsFirstFault}
@@ -143,7 +144,8 @@ read_before {given = given} levels level (no_slot whole none) e =
     (read_no_slot given levels level (λ before more slot k. none before more slot (e ∙ k)))
 read_before {given = given} levels level (with_slot before [] slot at) e =
     let same : before ≡ levels = (last_same before levels slot level e).0 in
-    subst (λ t. ReadBefore given t (listening before ++ dominating (slot ∷ []) ++ listening []) (acknowledged slot)) same
+    subst (λ t. ReadBefore given t (listening before ++ dominating (slot ∷ []) ++ listening []) (acknowledged slot))
+        same
     (read_to_slot given before slot at)
 read_before {given = given} levels level (with_slot before (m ∷ more) slot at) e =
     let h = has_last m more in

@@ -1,5 +1,6 @@
 -- The branches of a passive error flag: what a sampled level makes of the state.
-use Rattle.std.proofs.Common.{◌≡◌, ℕ, zero, suc, ◌⊎◌, inl, inr, ◌+◌, ◌<◌, ◌≤◌, ◌||◌, cond, Bool, true, false, not, Some, None, List, [], ◌∷◌, ◌++◌, reverse, replicate, refl, sym, ap, subst, arith, ◌∙◌}
+use Rattle.std.proofs.Common.{◌≡◌, ℕ, zero, suc, ◌⊎◌, inl, inr, ◌+◌, ◌<◌, ◌≤◌, ◌||◌, cond, Bool, true, false, not, Some}
+use Rattle.std.proofs.Common.{None, List, [], ◌∷◌, ◌++◌, reverse, replicate, refl, sym, ap, subst, arith, ◌∙◌}
 use Rattle.std.specs.List.{prefix_len, suffix_len, list_any}
 use Rattle.std.proofs.lemmas.List.{append_assoc, append-nil, reverse-append, reverse-reverse}
 use Rattle.std.proofs.lemmas.List.Folds.{list_any-append}
@@ -31,17 +32,21 @@ zeros_none : (w : List Bool) → dominant_end (w ++ true ∷ []) ≡ 0
 zeros_none w = rw (reverse-append w (true ∷ [])) refl
 
 -- a text that begins with n levels that pass a test, which one level alone does
-prefix_run : (p : Bool → Bool) (b : Bool) → ((x : Bool) → p x ≡ true → x ≡ b) → (n : ℕ) (r : List Bool) → n ≤ prefix_len p r →
+prefix_run : (p : Bool → Bool) (b : Bool) → ((x : Bool) → p x ≡ true → x ≡ b) → (n : ℕ) (r : List Bool) →
+    n ≤ prefix_len p r →
     (rest : List Bool) × (r ≡ replicate n b ++ rest)
 prefix_run p b is zero r h = (r, refl)
 prefix_run p b is (suc n) [] h = absurd (omega (arith, h))
 prefix_run p b is (suc n) (x ∷ r) h =
-    elim (p x) as (λ v. p x ≡ v → suc n ≤ cond v (1 + prefix_len p r) 0 → (rest : List Bool) × (x ∷ r ≡ replicate (suc n) b ++ rest)) [
-      | true ↦ λ e k. let t = prefix_run p b is n r (omega (arith, k)) in (t.0, ap (λ y. y ∷ r) (is x e) ∙ ap (λ q. b ∷ q) t.1)
+    elim (p x) as (λ v. p x ≡ v → suc n ≤ cond v (1 + prefix_len p r) 0 → (rest : List Bool)
+        × (x ∷ r ≡ replicate (suc n) b ++ rest)) [
+      | true ↦ λ e k. let t = prefix_run p b is n r (omega (arith, k)) in
+          (t.0, ap (λ y. y ∷ r) (is x e) ∙ ap (λ q. b ∷ q) t.1)
       | false ↦ λ e k. absurd (omega (arith, k))
     ] refl h
 
-suffix_run : (p : Bool → Bool) (b : Bool) → ((x : Bool) → p x ≡ true → x ≡ b) → (w : List Bool) → 6 ≤ suffix_len p w → EndsInSix w
+suffix_run : (p : Bool → Bool) (b : Bool) → ((x : Bool) → p x ≡ true → x ≡ b) → (w : List Bool) → 6 ≤ suffix_len p w →
+    EndsInSix w
 suffix_run p b is w h =
     let t = prefix_run p b is 6 (reverse w) h in
     (reverse t.0, b, sym (reverse-reverse w) ∙ ap reverse t.1 ∙ reverse-append (replicate 6 b) t.0)
@@ -67,15 +72,18 @@ split_last [] (y ∷ beginning) more b e = inl (nothing_left beginning more (tai
     nothing_left : (p q : List Bool) → [] ≡ p ++ q → y ∷ p ≡ b ∷ []
     nothing_left [] q k = ap (λ t. t ∷ []) (let same : y ≡ b = cc e in same)
     nothing_left (z ∷ p) q k = absurd (cc k)
-split_last (x ∷ xs) (y ∷ beginning) more b e = elim (split_last xs beginning more b (tail_same x y (xs ++ b ∷ []) (beginning ++ more) e)) [
+split_last (x ∷ xs) (y ∷ beginning) more b e =
+    elim (split_last xs beginning more b (tail_same x y (xs ++ b ∷ []) (beginning ++ more) e)) [
   | inl is ↦ (let same : x ≡ y = cc e in inl (ap (λ t. y ∷ t) is ∙ ap (λ z. z ∷ (xs ++ b ∷ [])) (sym same)))
   | inr rest ↦ (let same : x ≡ y = cc e in inr (rest.0, ap (λ z. z ∷ xs) same ∙ ap (λ t. y ∷ t) rest.1))
 ]
 
-without_more : (levels : List Bool) (b : Bool) → IsWithoutSix levels → suffix_len (λ level. level) (levels ++ b ∷ []) < 6 → dominant_end (levels ++ b ∷ []) < 6 →
+without_more : (levels : List Bool) (b : Bool) → IsWithoutSix levels →
+    suffix_len (λ level. level) (levels ++ b ∷ []) < 6 → dominant_end (levels ++ b ∷ []) < 6 →
     IsWithoutSix (levels ++ b ∷ [])
 without_more levels b none ones lows beginning more e six = elim (split_last levels beginning more b e) [
-  | inl is ↦ elim (six_counted (levels ++ b ∷ []) (subst EndsInSix is six)) [ inl h ↦ omega (arith, h, ones) | inr h ↦ omega (arith, h, lows) ]
+  | inl is ↦ elim (six_counted (levels ++ b ∷ []) (subst EndsInSix is six)) [ inl h ↦ omega (arith, h, ones)
+      | inr h ↦ omega (arith, h, lows) ]
   | inr rest ↦ none beginning rest.0 rest.1 six
 ]
 
@@ -95,33 +103,42 @@ any_dominant : (w : List Bool) → list_any not (w ++ false ∷ []) ≡ true
 any_dominant w = list_any-append not w (false ∷ []) ∙ or_true (list_any not w)
 
 -- behind a dominant sample nothing more is owed
-paid : (owed : List ErrorEvent) (w more : List Bool) → list_any not w ≡ true → owed_events owed (w ++ more) ≡ owed_events owed w
+paid : (owed : List ErrorEvent) (w more : List Bool) → list_any not w ≡ true →
+    owed_events owed (w ++ more) ≡ owed_events owed w
 paid owed w more any = ap (λ b. cond b owed []) (list_any-append not w more ∙ rw any refl)
 
-still_nothing : (owed : List ErrorEvent) (levels : List Bool) (b : Bool) → ((more : List Bool) → owed_events owed (levels ++ more) ≡ owed_events owed levels) →
+still_nothing : (owed : List ErrorEvent) (levels : List Bool) (b : Bool) →
+    ((more : List Bool) → owed_events owed (levels ++ more) ≡ owed_events owed levels) →
     (more : List Bool) → owed_events owed ((levels ++ b ∷ []) ++ more) ≡ owed_events owed (levels ++ b ∷ [])
-still_nothing owed levels b h more = ap (owed_events owed) (append_assoc levels (b ∷ []) more) ∙ h (b ∷ more) ∙ sym (h (b ∷ []))
+still_nothing owed levels b h more =
+    ap (owed_events owed) (append_assoc levels (b ∷ []) more) ∙ h (b ∷ more) ∙ sym (h (b ∷ []))
 
 pub passive_recessive : (role : Role) (owes : Bool) (ones lows now : ℕ) (e : ErrorState) → ones < 5 →
     Goes (PassiveFlagging role owes ones lows) now e true (turn (PassiveFlagging role owes (ones + 1) 0) None)
 passive_recessive role owes ones lows now e room text at before phase part events clock err (in_passive owed levels h) =
-    goes_on (rw (listening_more, append-nil, ← recessive_owes owed levels) (in_passive owed (levels ++ true ∷ []) (record {
-      without_six = without_more levels true h.without_six (omega (arith, ones_more levels, h.ones_is, room)) (omega (arith, zeros_none levels));
+    goes_on (rw (listening_more, append-nil, ← recessive_owes owed levels)
+        (in_passive owed (levels ++ true ∷ []) (record {
+      without_six = without_more levels true h.without_six (omega (arith, ones_more levels, h.ones_is, room))
+          (omega (arith, zeros_none levels));
       ones_is = ones_more levels ∙ ap (λ n. n + 1) h.ones_is;
       zeros_is = zeros_none levels;
-      owes_error = λ yes. ((h.owes_error yes).0, list_any-append not levels (true ∷ []) ∙ or_false (list_any not levels) ∙ (h.owes_error yes).1);
+      owes_error = λ yes. ((h.owes_error yes).0, list_any-append not levels (true ∷ []) ∙ or_false (list_any not levels)
+          ∙ (h.owes_error yes).1);
       none_yet = λ yes. refl;
       owes_nothing = λ no. still_nothing owed levels true (h.owes_nothing no);
     }))) refl
 
 pub passive_paid : (role : Role) (ones lows now : ℕ) (e : ErrorState) → lows < 5 →
-    Goes (PassiveFlagging role true ones lows) now e false (turn (PassiveFlagging role false 0 (lows + 1)) (Some SenderError))
+    Goes (PassiveFlagging role true ones lows) now e false
+    (turn (PassiveFlagging role false 0 (lows + 1)) (Some SenderError))
 passive_paid role ones lows now e room text at before phase part events clock err (in_passive owed levels h) =
     let owing : (owed ≡ SenderError ∷ []) × (list_any not levels ≡ false) = h.owes_error refl in
     let counts : owed_events owed levels ++ SenderError ∷ [] ≡ owed_events owed (levels ++ false ∷ []) =
-    ap (λ b. cond b owed [] ++ SenderError ∷ []) owing.1 ∙ sym owing.0 ∙ sym (ap (λ b. cond b owed []) (any_dominant levels)) in
+    ap (λ b. cond b owed [] ++ SenderError ∷ []) owing.1 ∙ sym owing.0
+        ∙ sym (ap (λ b. cond b owed []) (any_dominant levels)) in
     goes_on (rw (listening_more, counts) (in_passive {owes = false} owed (levels ++ false ∷ []) (record {
-      without_six = without_more levels false h.without_six (omega (arith, ones_none levels)) (omega (arith, zeros_more levels, h.zeros_is, room));
+      without_six = without_more levels false h.without_six (omega (arith, ones_none levels))
+          (omega (arith, zeros_more levels, h.zeros_is, room));
       ones_is = ones_none levels;
       zeros_is = zeros_more levels ∙ ap (λ n. n + 1) h.zeros_is;
       owes_error = λ yes. absurd (cc yes);
@@ -132,8 +149,10 @@ passive_paid role ones lows now e room text at before phase part events clock er
 pub passive_dominant : (role : Role) (ones lows now : ℕ) (e : ErrorState) → lows < 5 →
     Goes (PassiveFlagging role false ones lows) now e false (turn (PassiveFlagging role false 0 (lows + 1)) None)
 passive_dominant role ones lows now e room text at before phase part events clock err (in_passive owed levels h) =
-    goes_on (rw (listening_more, append-nil, ← h.owes_nothing refl (false ∷ [])) (in_passive {owes = false} owed (levels ++ false ∷ []) (record {
-      without_six = without_more levels false h.without_six (omega (arith, ones_none levels)) (omega (arith, zeros_more levels, h.zeros_is, room));
+    goes_on (rw (listening_more, append-nil, ← h.owes_nothing refl (false ∷ []))
+        (in_passive {owes = false} owed (levels ++ false ∷ []) (record {
+      without_six = without_more levels false h.without_six (omega (arith, ones_none levels))
+          (omega (arith, zeros_more levels, h.zeros_is, room));
       ones_is = ones_none levels;
       zeros_is = zeros_more levels ∙ ap (λ n. n + 1) h.zeros_is;
       owes_error = λ yes. absurd (cc yes);
@@ -142,23 +161,34 @@ passive_dominant role ones lows now e room text at before phase part events cloc
     }))) refl
 
 -- behind a passive error flag
-passive_waits : (role : Role) (later : ℕ) → Agrees (Waiting PassiveError role 8 true) (false ∷ []) later (Delimiter PassiveError role 0) [] []
+passive_waits : (role : Role) (later : ℕ) → Agrees (Waiting PassiveError role 8 true) (false ∷ []) later
+    (Delimiter PassiveError role 0) [] []
 unfolding dominant_events
-passive_waits role later = in_wait 0 0 refl (λ none. omega arith) (record { eighths = 0; due = refl; some = omega arith; near = λ no. omega arith })
+passive_waits role later = in_wait 0 0 refl (λ none. omega arith)
+    (record { eighths = 0; due = refl; some = omega arith; near = λ no. omega arith })
 
 pub passive_ends_recessive : (role : Role) (owes : Bool) (ones lows now : ℕ) (e : ErrorState) → 5 ≤ ones →
     Goes (PassiveFlagging role owes ones lows) now e true (turn (Waiting PassiveError role 8 true) None)
-passive_ends_recessive role owes ones lows now e full text at before phase part events clock err (in_passive owed levels h) =
-    let six : EndsInSix (levels ++ true ∷ []) = suffix_run (λ level. level) true is_true (levels ++ true ∷ []) (omega (arith, ones_more levels, h.ones_is, full)) in
-    is_over (Delimiter PassiveError role 0) (rw (listening_more, append-nil, ← recessive_owes owed levels) (passive_flagged owed role levels true h.without_six six)) (passive_waits role)
+passive_ends_recessive role owes ones lows now e full text at before phase part events clock err
+    (in_passive owed levels h) =
+    let six : EndsInSix (levels ++ true ∷ []) = suffix_run (λ level. level) true is_true (levels ++ true ∷ [])
+        (omega (arith, ones_more levels, h.ones_is, full)) in
+    is_over (Delimiter PassiveError role 0)
+        (rw (listening_more, append-nil, ← recessive_owes owed levels)
+        (passive_flagged owed role levels true h.without_six six)) (passive_waits role)
 
-owes_no_more : (owes : Bool) (ones lows : ℕ) (owed : List ErrorEvent) (levels : List Bool) → IsPassive owes ones lows owed levels → 5 ≤ lows →
+owes_no_more : (owes : Bool) (ones lows : ℕ) (owed : List ErrorEvent) (levels : List Bool) →
+    IsPassive owes ones lows owed levels → 5 ≤ lows →
     owed_events owed (levels ++ false ∷ []) ≡ owed_events owed levels
 owes_no_more true ones lows owed levels h full = absurd (omega (arith, h.none_yet refl, full))
 owes_no_more false ones lows owed levels h full = h.owes_nothing refl (false ∷ [])
 
 pub passive_ends_dominant : (role : Role) (owes : Bool) (ones lows now : ℕ) (e : ErrorState) → 5 ≤ lows →
     Goes (PassiveFlagging role owes ones lows) now e false (turn (Waiting PassiveError role 8 true) None)
-passive_ends_dominant role owes ones lows now e full text at before phase part events clock err (in_passive owed levels h) =
-    let six : EndsInSix (levels ++ false ∷ []) = suffix_run not false is_false (levels ++ false ∷ []) (omega (arith, zeros_more levels, h.zeros_is, full)) in
-    is_over (Delimiter PassiveError role 0) (rw (listening_more, append-nil, ← owes_no_more owes ones lows owed levels h full) (passive_flagged owed role levels false h.without_six six)) (passive_waits role)
+passive_ends_dominant role owes ones lows now e full text at before phase part events clock err
+    (in_passive owed levels h) =
+    let six : EndsInSix (levels ++ false ∷ []) =
+        suffix_run not false is_false (levels ++ false ∷ []) (omega (arith, zeros_more levels, h.zeros_is, full)) in
+    is_over (Delimiter PassiveError role 0)
+        (rw (listening_more, append-nil, ← owes_no_more owes ones lows owed levels h full)
+        (passive_flagged owed role levels false h.without_six six)) (passive_waits role)

@@ -1,5 +1,6 @@
 -- Bits at which nodes go on.
-use Rattle.std.proofs.Common.{arith, inl, inr, ◌≡◌, ℕ, ◌+◌, ◌<◌, ◌≤◌, ◌||◌, min, Bool, true, false, None, not, refl, ap, subst, sym, ◌∙◌}
+use Rattle.std.proofs.Common.{arith, inl, inr, ◌≡◌, ℕ, ◌+◌, ◌<◌, ◌≤◌, ◌||◌, min, Bool, true, false, None, not, refl, ap}
+use Rattle.std.proofs.Common.{subst, sym, ◌∙◌}
 use Rattle.std.proofs.lemmas.Bool.Decides.{leb_tells}
 use Rattle.can_frame.specs.Reading.{MayReadOn, ReadsOn}
 use Rattle.can_frame.specs.declared.reader.Reader.{Reader}
@@ -12,7 +13,8 @@ use Rattle.can_confinement.specs.declared.counters.Counters.{Counters}
 use Rattle.can_node.specs.declared.node.Node.{Node}
 use Rattle.can_node.specs.declared.outcome.Outcome.TheVariants.{Nothing}
 use Rattle.can_node.specs.declared.state.State.{State}
-use Rattle.can_node.specs.declared.state.State.TheVariants.{Delimiting, Flagging, PassiveFlagging, Recovering, Resting, Sending, Suspending, Taking, Waiting}
+use Rattle.can_node.specs.declared.state.State.TheVariants.{Delimiting, Flagging, PassiveFlagging, Recovering, Resting}
+use Rattle.can_node.specs.declared.state.State.TheVariants.{Sending, Suspending, Taking, Waiting}
 use Rattle.can_node.specs.declared.state.Turn.{Turn}
 use Rattle.can_node.specs.Machine.{Goes, GoesSending, is_in_region, is_sending, is_taking, may_start, quiet}
 use Rattle.can_node.specs.Sending.{SendsOn}
@@ -23,30 +25,43 @@ use Rattle.can_node.specs.PlainBits.MayGoOn.{is_in, reads, sends}
 use Rattle.can_node.proofs.Listens.{region_begins, region_follows}
 use Rattle.can_node.proofs.Moves.{off_broken, off_longer}
 use Rattle.can_node.proofs.SendMoves.{send_acknowledged, send_echoed}
-use Rattle.can_node.proofs.Samples.{other_advances, quiet_steps, quiet_steps_now, samples, sending_advances, stands_history}
+use Rattle.can_node.proofs.Samples.{quiet_steps, quiet_steps_now, samples}
+use Rattle.can_node.proofs.Advancing.{other_advances, sending_advances}
+use Rattle.can_node.proofs.Samples.{stands_history}
 
 -- in bus off
-pub off_broken_plain : (runs ones : ℕ) (counters : Counters) (now : ℕ) → LeavesPlainly (Recovering runs ones) counters now false (Recovering runs 0)
-off_broken_plain runs ones counters now = record { goes = off_broken runs ones now (state_of (counts_of counters)); reads_none = refl }
+pub off_broken_plain : (runs ones : ℕ) (counters : Counters) (now : ℕ) →
+    LeavesPlainly (Recovering runs ones) counters now false (Recovering runs 0)
+off_broken_plain runs ones counters now =
+    record { goes = off_broken runs ones now (state_of (counts_of counters)); reads_none = refl }
 
-pub off_longer_plain : (runs ones : ℕ) (counters : Counters) (now : ℕ) → ones < 10 → LeavesPlainly (Recovering runs ones) counters now true (Recovering runs (ones + 1))
-off_longer_plain runs ones counters now few = record { goes = off_longer runs ones now (state_of (counts_of counters)) few; reads_none = refl }
+pub off_longer_plain : (runs ones : ℕ) (counters : Counters) (now : ℕ) → ones < 10 →
+    LeavesPlainly (Recovering runs ones) counters now true (Recovering runs (ones + 1))
+off_longer_plain runs ones counters now few =
+    record { goes = off_longer runs ones now (state_of (counts_of counters)) few; reads_none = refl }
 
 pub below_ten : (level : Bool) (runs ones : ℕ) → is_plain level (Recovering runs ones) ≡ true → ones < 10
-below_ten level runs ones aside = elim (leb_tells ones 9) [ inl is ↦ (let few = is.1 in omega (arith, few)) | inr not ↦ absurd (let no = not.0 in cc (no, aside)) ]
+below_ten level runs ones aside = elim (leb_tells ones 9) [ inl is ↦ (let few = is.1 in omega (arith, few))
+    | inr not ↦ absurd (let no = not.0 in cc (no, aside)) ]
 
 -- in a passive error flag nothing is owed for this level
-pub owes_none : (level : Bool) (role : Role) (owes : Bool) (ones zeros : ℕ) → is_plain level (PassiveFlagging role owes ones zeros) ≡ true → owes ≡ true → level ≡ false → 5 ≤ zeros
-owes_none level role owes ones zeros aside owed dominant = absurd (let none : (level || not owes) ≡ false = ap (λ o. level || not o) owed ∙ ap (λ l. l || false) dominant in cc (none, aside))
+pub owes_none : (level : Bool) (role : Role) (owes : Bool) (ones zeros : ℕ) →
+    is_plain level (PassiveFlagging role owes ones zeros) ≡ true → owes ≡ true → level ≡ false → 5 ≤ zeros
+owes_none level role owes ones zeros aside owed dominant =
+    absurd (let none : (level || not owes) ≡ false = ap (λ o. level || not o) owed ∙ ap (λ l. l || false) dominant in
+    cc (none, aside))
 
 -- elsewhere
-turning : (level : Bool) (state : State) → ((runs ones : ℕ) → state ≡ Recovering runs ones → ⊥) → ((role : Role) (owes : Bool) (ones zeros : ℕ) → state ≡ PassiveFlagging role owes ones zeros → ⊥) →
+turning : (level : Bool) (state : State) → ((runs ones : ℕ) → state ≡ Recovering runs ones → ⊥) →
+    ((role : Role) (owes : Bool) (ones zeros : ℕ) → state ≡ PassiveFlagging role owes ones zeros → ⊥) →
     is_plain level state ≡ true → turns_plainly level state ≡ true
 turning level (Recovering runs ones) not_off not_flag plain = absurd (not_off runs ones refl)
-turning level (PassiveFlagging role owes ones zeros) not_off not_flag plain = absurd (not_flag role owes ones zeros refl)
+turning level (PassiveFlagging role owes ones zeros) not_off not_flag plain =
+    absurd (not_flag role owes ones zeros refl)
 turning level state not_off not_flag plain = plain
 
-reads_none : (level : Bool) (state : State) → turns_plainly level state ≡ true → (is_taking state ≡ false) × (is_sending state ≡ false)
+reads_none : (level : Bool) (state : State) → turns_plainly level state ≡ true → (is_taking state ≡ false)
+    × (is_sending state ≡ false)
 reads_none level (Flagging kind role sent until) is = (refl, refl)
 reads_none level (Waiting kind role until first) is = (refl, refl)
 reads_none level (Delimiting role ones) is = (refl, refl)
@@ -55,17 +70,23 @@ reads_none level (Suspending ones) is = (refl, refl)
 reads_none level state is = absurd (cc is)
 
 plain_is : (turn : Turn) → IsPlain turn → turn ≡ quiet turn.state
-plain_is turn plain = ap (λ e. record { state = turn.state; event = e; outcome = turn.outcome }) plain.event_is ∙ ap (λ o. record { state = turn.state; event = None; outcome = o }) plain.outcome_is
+plain_is turn plain = ap (λ e. record { state = turn.state; event = e; outcome = turn.outcome }) plain.event_is
+    ∙ ap (λ o. record { state = turn.state; event = None; outcome = o }) plain.outcome_is
 
-pub turn_leaves : (state : State) (counters : Counters) (now : ℕ) (level : Bool) (errors : ErrorState) (turn : Turn) → ((runs ones : ℕ) → state ≡ Recovering runs ones → ⊥) → ((role : Role) (owes : Bool) (ones zeros : ℕ) → state ≡ PassiveFlagging role owes ones zeros → ⊥) →
-    is_plain level state ≡ true → errors ≡ state_of (counts_of counters) → (is_taking state ≡ false → is_sending state ≡ false → Goes state now errors level turn) → (turns_plainly level state ≡ true → IsPlain turn) →
+pub turn_leaves : (state : State) (counters : Counters) (now : ℕ) (level : Bool) (errors : ErrorState) (turn : Turn) →
+    ((runs ones : ℕ) → state ≡ Recovering runs ones → ⊥) →
+    ((role : Role) (owes : Bool) (ones zeros : ℕ) → state ≡ PassiveFlagging role owes ones zeros → ⊥) →
+    is_plain level state ≡ true → errors ≡ state_of (counts_of counters) →
+    (is_taking state ≡ false → is_sending state ≡ false → Goes state now errors level turn) →
+    (turns_plainly level state ≡ true → IsPlain turn) →
     LeavesPlainly state counters now level turn.state
 turn_leaves state counters now level errors turn not_off not_flag is shown goes plain =
     let turns = turning level state not_off not_flag is in
     let none = reads_none level state turns in
     let made = plain turns in
     record {
-      goes = subst (λ e. Goes state now e level (quiet turn.state)) shown (subst (Goes state now errors level) (plain_is turn made) (goes none.0 none.1));
+      goes = subst (λ e. Goes state now e level (quiet turn.state)) shown
+          (subst (Goes state now errors level) (plain_is turn made) (goes none.0 none.1));
       reads_none = made.reads_none;
     }
 
@@ -86,9 +107,11 @@ is_out level state is = absurd (cc is)
 
 -- the node behind a bit at which nothing but its state changes
 abbrev pub behind : Node → State → Node
-behind node state = record { state = state; reader = node.reader; spelling = node.spelling; counters = node.counters; clock = node.clock + 1 }
+behind node state = record { state = state; reader = node.reader; spelling = node.spelling; counters = node.counters;
+    clock = node.clock + 1 }
 
-pub goes_plainly : (node : Node) (level : Bool) (next : State) → is_plain level node.state ≡ true → LeavesPlainly node.state node.counters node.clock level next → GoesOn node level (behind node next)
+pub goes_plainly : (node : Node) (level : Bool) (next : State) → is_plain level node.state ≡ true →
+    LeavesPlainly node.state node.counters node.clock level next → GoesOn node level (behind node next)
 goes_plainly node level next plain leaves =
     let out = is_out level node.state plain in
     let not = leaves.reads_none in
@@ -96,7 +119,8 @@ goes_plainly node level next plain leaves =
       begins_none = out.begins_none;
       samples = samples node (behind node next) level Nothing
           (quiet_steps_now node.state next node.counters node.reader node.reader node.spelling node.clock level
-          (other_advances node.state node.reader node.reader node.spelling node.clock (state_of (counts_of node.counters)) level (quiet next) out.sends_none leaves.goes
+          (other_advances node.state node.reader node.reader node.spelling node.clock
+              (state_of (counts_of node.counters)) level (quiet next) out.sends_none leaves.goes
           (λ is. absurd (cc (is, not))) (λ is. absurd (cc (is, not))))) refl refl;
       history = stands_history (behind node next);
       bit_is = refl;
@@ -104,10 +128,13 @@ goes_plainly node level next plain leaves =
     }
 
 -- or it reads on
-pub goes_reading : (node : Node) (level : Bool) (reader : Reader) → is_in_region node.state ≡ true → ReadsOn node.reader level reader →
-    GoesOn node level (record { state = node.state; reader = reader; spelling = node.spelling; counters = node.counters; clock = node.clock + 1 })
+pub goes_reading : (node : Node) (level : Bool) (reader : Reader) → is_in_region node.state ≡ true →
+    ReadsOn node.reader level reader →
+    GoesOn node level (record { state = node.state; reader = reader; spelling = node.spelling; counters = node.counters;
+          clock = node.clock + 1 })
 goes_reading node level reader inside on =
-    let behind : Node = record { state = node.state; reader = reader; spelling = node.spelling; counters = node.counters; clock = node.clock + 1 } in
+    let behind : Node = record { state = node.state; reader = reader; spelling = node.spelling;
+        counters = node.counters; clock = node.clock + 1 } in
     record {
       begins_none = region_begins node.state inside;
       samples = region_follows Any node.state node.reader reader node.clock level inside on node tt;
@@ -117,27 +144,35 @@ goes_reading node level reader inside on =
     }
 
 -- or it sends on
-sends_next : (start place next : ℕ) (spelling : Spelling) (errors : ErrorState) (level : Bool) → SendsOn level spelling place → next ≡ min (place + 1) 255 →
+sends_next : (start place next : ℕ) (spelling : Spelling) (errors : ErrorState) (level : Bool) →
+    SendsOn level spelling place → next ≡ min (place + 1) 255 →
     GoesSending start place spelling errors level (quiet (Sending start next))
-sends_next start place next spelling errors level (acknowledged slot dominant) next_is = rw dominant (send_acknowledged start place next spelling errors slot next_is)
-sends_next start place next spelling errors level (echoed slot last echo) next_is = send_echoed start place next spelling errors level slot echo last next_is
+sends_next start place next spelling errors level (acknowledged slot dominant) next_is =
+    rw dominant (send_acknowledged start place next spelling errors slot next_is)
+sends_next start place next spelling errors level (echoed slot last echo) next_is =
+    send_echoed start place next spelling errors level slot echo last next_is
 
-pub goes_sending : (node : Node) (start place next : ℕ) (level : Bool) → node.state ≡ Sending start place → SendsOn level node.spelling place →
+pub goes_sending : (node : Node) (start place next : ℕ) (level : Bool) → node.state ≡ Sending start place →
+    SendsOn level node.spelling place →
     next ≡ min (place + 1) 255 → GoesOn node level (behind node (Sending start next))
 goes_sending node start place next level here on next_is = record {
   begins_none = ap may_start here;
   samples = samples node (behind node (Sending start next)) level Nothing
       (rw here
-      (quiet_steps (Sending start place) (Sending start next) node.counters node.reader node.reader node.spelling node.clock level
-      (λ errors. sending_advances start place node.reader node.reader node.spelling node.clock errors level (quiet (Sending start next))
-      (sends_next start place next node.spelling errors level on next_is) (λ is. absurd (cc is)) (λ is. absurd (cc is))))) refl refl;
+      (quiet_steps (Sending start place) (Sending start next) node.counters node.reader node.reader node.spelling
+          node.clock level
+      (λ errors. sending_advances start place node.reader node.reader node.spelling node.clock errors level
+          (quiet (Sending start next))
+      (sends_next start place next node.spelling errors level on next_is) (λ is. absurd (cc is))
+          (λ is. absurd (cc is))))) refl refl;
   history = stands_history (behind node (Sending start next));
   bit_is = refl;
   counts_none = refl;
 }
 
 -- which of these it is tells its state
-pub in_plain : (node : Node) (level : Bool) → ((start place : ℕ) → node.state ≡ Sending start place → ⊥) → is_in_region node.state ≡ false → MayGoOn level node → is_plain level node.state ≡ true
+pub in_plain : (node : Node) (level : Bool) → ((start place : ℕ) → node.state ≡ Sending start place → ⊥) →
+    is_in_region node.state ≡ false → MayGoOn level node → is_plain level node.state ≡ true
 in_plain node level not outside (is_in is) = is
 in_plain node level not outside (reads inside may) = absurd (cc (inside, outside))
 in_plain node level not outside (sends start place here on) = absurd (not start place here)
@@ -147,14 +182,18 @@ not_plain level (Taking start may stage) inside is = cc is
 not_plain level (Sending start place) inside is = cc is
 not_plain level state inside is = cc inside
 
-pub in_region : (node : Node) (level : Bool) → is_in_region node.state ≡ true → MayGoOn level node → MayReadOn level node.reader
+pub in_region : (node : Node) (level : Bool) → is_in_region node.state ≡ true → MayGoOn level node →
+    MayReadOn level node.reader
 in_region node level inside (is_in is) = absurd (not_plain level node.state inside is)
 in_region node level inside (reads here may) = may
-in_region node level inside (sends start place here on) = absurd (let outside = ap is_in_region here in cc (inside, outside))
+in_region node level inside (sends start place here on) =
+    absurd (let outside = ap is_in_region here in cc (inside, outside))
 
-pub in_sending : (node : Node) (level : Bool) (start place : ℕ) → node.state ≡ Sending start place → MayGoOn level node → SendsOn level node.spelling place
+pub in_sending : (node : Node) (level : Bool) (start place : ℕ) → node.state ≡ Sending start place →
+    MayGoOn level node → SendsOn level node.spelling place
 in_sending node level start place here (is_in is) = absurd (let not = ap (is_plain level) here in cc (is, not))
-in_sending node level start place here (reads inside may) = absurd (let outside = ap is_in_region here in cc (inside, outside))
+in_sending node level start place here (reads inside may) =
+    absurd (let outside = ap is_in_region here in cc (inside, outside))
 in_sending node level start place here (sends s p there on) =
     let same : Sending s p ≡ Sending start place = sym there ∙ here in
     let is : p ≡ place = cc same in

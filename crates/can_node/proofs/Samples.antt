@@ -1,12 +1,13 @@
 -- One bit of a node: its state and its reader, its counters, and the past that it stands after.
-use Rattle.std.proofs.Common.{◌≡◌, ◌⊎◌, inl, inr, ℕ, ◌+◌, ◌<◌, Bool, true, false, Option, Some, None, List, [], ◌∷◌, ◌++◌, length, take, refl, sym, ap, subst, arith, ◌∙◌, length-append}
+use Rattle.std.proofs.Common.{◌≡◌, ◌⊎◌, inl, inr, ℕ, ◌+◌, Bool, true, false, Option, Some, None, List, [], ◌∷◌, ◌++◌}
+use Rattle.std.proofs.Common.{length, refl, sym, ap, subst, arith, ◌∙◌, length-append}
 use Rattle.std.proofs.lemmas.List.{append_assoc, append-nil}
 use Rattle.std.proofs.lemmas.List.Sums.{fold-append}
 use Rattle.can_frame.specs.Answers.{Answers}
 use Rattle.can_frame.specs.Reading.{StandsAfter as ReaderStandsAfter, IsReading, IsPush, Leaves}
-use Rattle.can_frame.specs.declared.step.Step.TheVariants.{More, StuffBit}
+use Rattle.can_frame.specs.declared.step.Step.TheVariants.{More}
 use Rattle.can_frame.proofs.Regions.{completes}
-use Rattle.can_frame.proofs.ReaderLaws.{one_answer}
+use Rattle.can_frame.proofs.OneAnswer.{one_answer}
 use Rattle.can_frame.specs.declared.reader.Reader.{Reader}
 use Rattle.can_frame.specs.declared.step.Step.{Step}
 use Rattle.can_confinement.specs.declared.confinement.ErrorEvent.{ErrorEvent}
@@ -16,9 +17,7 @@ use Rattle.can_node.specs.declared.outcome.Outcome.{Outcome}
 use Rattle.can_node.specs.declared.outcome.Outcome.TheVariants.{Nothing, WentOff}
 use Rattle.can_node.specs.declared.state.State.{State}
 use Rattle.can_node.specs.declared.spelling.Spelling.{Spelling}
-use Rattle.can_node.specs.declared.state.State.TheVariants.{Syncing, Idling, Taking, Recovering, Sending}
-use Rattle.can_node.specs.declared.state.Stage.{Stage}
-use Rattle.can_node.specs.declared.state.Stage.TheVariants.{Region}
+use Rattle.can_node.specs.declared.state.State.TheVariants.{Syncing, Recovering}
 use Rattle.can_node.specs.declared.state.Turn.{Turn}
 use Rattle.can_node.specs.declared.node.Node.{Node}
 use Rattle.can_confinement.specs.Confinement.{no_counts, is_off, after_event, counts_after, state_of, state_after}
@@ -27,90 +26,23 @@ use Rattle.can_confinement.specs.Counters.{StandsAfter as CountersStandAfter, co
 use Rattle.can_node.specs.Pairs.{Pair}
 use Rattle.can_node.specs.Waits.Broken.{none}
 use Rattle.can_node.specs.Phases.{Phase, wants_start, sent_from}
-use Rattle.can_node.specs.Phases.Phase.{Sync, Idle, Send, Take, LastBit, ActiveFlag, OverloadFlag, PassiveFlag, Delimiter, Intermission, Suspend, BusOff}
+use Rattle.can_node.specs.Phases.Phase.{Sync, Idle, Send, Take, LastBit, ActiveFlag, OverloadFlag, PassiveFlag}
+use Rattle.can_node.specs.Phases.Phase.{Delimiter, Intermission, Suspend, BusOff}
 use Rattle.can_node.specs.Episodes.{Course, AreOn, AreOff}
 use Rattle.can_node.specs.Episodes.Course.{recovered}
 use Rattle.can_node.specs.Episodes.Episode.{ends}
 use Rattle.can_node.specs.Histories.{Past, no_past, IsHistory, IsOnOutside}
 use Rattle.can_node.specs.Histories.Whole.{switched_on}
-use Rattle.can_node.specs.Machine.{Agrees, Lands, Goes, GoesReading, GoesSending, LosesAt, Advances, LeadsTo, Counts, InState, ReaderStands, listed, quiet, EndsIn, Steps, IsSteady, is_taking, is_sending, level_of, level_in, may_start, sof_of, with_bit}
-use Rattle.can_node.specs.Machine.Agrees.{in_sync, in_idle, in_take, in_send, in_last, in_active, in_overload, in_passive, in_wait, in_delimiter, in_rest, in_suspend, in_off}
+use Rattle.can_node.specs.Machine.{Agrees, Lands, Advances, LeadsTo, Counts, InState, ReaderStands, listed, quiet}
+use Rattle.can_node.specs.Machine.{EndsIn, Steps, level_in, may_start, sof_of, with_bit}
+use Rattle.can_node.specs.Machine.Agrees.{in_sync, in_idle, in_take, in_send, in_last, in_active, in_overload}
+use Rattle.can_node.specs.Machine.Agrees.{in_passive, in_wait, in_delimiter, in_rest, in_suspend, in_off}
 use Rattle.can_node.specs.Machine.Lands.{goes_on, is_over}
 use Rattle.can_node.specs.Machine.LeadsTo.{no_event, stays_on, goes_off}
 use Rattle.can_node.specs.Node.{StandsAfter, IsSample, IsWanting, IsSending}
 use Rattle.can_node.proofs.Starts.{sof_inside}
-use Rattle.can_node.proofs.Moves.{idle_on, off_broken, off_longer}
-use Rattle.can_node.proofs.TakeMoves.{take_more, take_stuff}
-use Rattle.can_node.proofs.Readers.{still_reading, reads_on}
-use Rattle.can_node.proofs.SendMoves.{lost_text}
-use Rattle.can_node.proofs.Bits.{agrees_begun, in_state_history, course_quiet, stands_on, stands_over, outside, lands_on, lands_off}
-
--- a node that reads a frame
-pub reading_advances : (start : ℕ) (may : Bool) (stage : Stage) (old new : Reader) (spelling : Spelling) (now : ℕ) (errors : ErrorState) (level : Bool) (step : Step) (turn : Turn) → IsPush old level step new →
-    ((may : Bool) → GoesReading (Taking start may stage) errors step level turn) → Advances (Taking start may stage) old spelling now errors level turn new
-reading_advances start may stage old new spelling now errors level step turn push goes text at before phase part events clock err agrees holds reads =
-    let next = push.next text (reads.reading refl) (reads.stands refl) in
-    let both = goes may new text at before phase part events err agrees next in
-    record { after = text ++ level ∷ []; lands = both.0; reads = record { stands = λ is. next.stands; reading = both.1 } }
-
--- A node that sends one. If it begins to read it has lost arbitration, and its reader has read what it drove.
-pub sending_advances : (start place : ℕ) (old new : Reader) (spelling : Spelling) (now : ℕ) (errors : ErrorState) (level : Bool) (turn : Turn) → GoesSending start place spelling errors level turn →
-    (is_taking turn.state ≡ true → LosesAt place spelling) → (is_taking turn.state ≡ true → ReaderStandsAfter new (take place spelling.levels.items ++ level ∷ [])) →
-    Advances (Sending start place) old spelling now errors level turn new
-sending_advances start place old new spelling now errors level turn goes lost read text at before phase part events clock err agrees holds reads =
-    let after = text ++ level ∷ [] in
-    let lands = goes text at before phase part events err agrees holds in
-    let stands : is_taking turn.state ≡ true → ReaderStandsAfter new after = λ is. subst (λ t. ReaderStandsAfter new (t ++ level ∷ [])) (lost_text spelling (lost is) agrees holds) (read is) in
-    record { after = after; lands = lands; reads = record { stands = stands; reading = λ is. still_reading new after (stands is) (reads_on lands is).undecided } }
-
--- a node that reads on as before
-pub steady_advances : (start : ℕ) (may : Bool) (stage : Stage) (old new : Reader) (spelling : Spelling) (now : ℕ) (errors : ErrorState) (level : Bool) (step : Step) → IsPush old level step new →
-    IsSteady may stage step → Advances (Taking start may stage) old spelling now errors level (quiet (Taking start may stage)) new
-steady_advances start may stage old new spelling now errors level step push h =
-    let more : step ≡ More → Advances (Taking start false Region) old spelling now errors level (quiet (Taking start false Region)) new =
-    λ is. reading_advances start false Region old new spelling now errors level More _ (subst (λ s. IsPush old level s new) is push) (λ m. take_more start m Region errors level) in
-    let stuff : step ≡ StuffBit → Advances (Taking start false Region) old spelling now errors level (quiet (Taking start false Region)) new =
-    λ is. reading_advances start false Region old new spelling now errors level StuffBit _ (subst (λ s. IsPush old level s new) is push) (λ m. take_stuff start m Region errors level) in
-    subst (λ m. Advances (Taking start m stage) old spelling now errors level (quiet (Taking start m stage)) new) (sym h.reads)
-    (subst (λ g. Advances (Taking start false g) old spelling now errors level (quiet (Taking start false g)) new) (sym h.inside)
-    (elim h.goes_on [ inl is ↦ more is | inr is ↦ stuff is ]))
-
-pub no_taking : (state : State) → ((start : ℕ) (may : Bool) (stage : Stage) → state ≡ Taking start may stage → ⊥) → is_taking state ≡ false
-no_taking (Taking start may stage) h = absurd (h start may stage refl)
-no_taking state h = refl
-
-pub no_sending : (state : State) → ((start place : ℕ) → state ≡ Sending start place → ⊥) → is_sending state ≡ false
-no_sending (Sending start place) h = absurd (h start place refl)
-no_sending state h = refl
-
-own_level : (state : State) (spelling : Spelling) → is_sending state ≡ false → level_in state spelling ≡ level_of state
-own_level (Sending start place) spelling no_send = absurd (cc no_send)
-own_level state spelling no_send = refl
-
--- a node that neither reads nor sends one before this bit
-pub other_advances : (state : State) (old new : Reader) (spelling : Spelling) (now : ℕ) (errors : ErrorState) (level : Bool) (turn : Turn) → is_sending state ≡ false → Goes state now errors level turn →
-    (is_taking turn.state ≡ true → ReaderStandsAfter new (false ∷ [])) → (is_taking turn.state ≡ true → IsReading new) → Advances state old spelling now errors level turn new
-other_advances state old new spelling now errors level turn no_send goes stands reading text at before phase part events clock err agrees holds reads =
-    let lands = goes text at before phase part events clock err agrees in
-    let own = sym (own_level state spelling no_send) in
-    record {
-      after = false ∷ [];
-      lands = subst (λ d. Lands turn.state turn.outcome (false ∷ []) at before phase (part ++ record { driven = d; sampled = level } ∷ []) (events ++ listed turn.event)) own lands;
-      reads = record { stands = stands; reading = reading };
-    }
-
--- an idle bus
-pub idle_advances : (old : Reader) (spelling : Spelling) (now : ℕ) (errors : ErrorState) → Advances Idling old spelling now errors true (quiet Idling) old
-idle_advances old spelling now errors = other_advances Idling old old spelling now errors true (quiet Idling) refl (idle_on now errors) (λ is. absurd (cc is)) (λ is. absurd (cc is))
-
--- in bus off a dominant bit breaks a run of recessive ones, and a recessive one makes it longer
-pub broken_advances : (runs ones : ℕ) (old : Reader) (spelling : Spelling) (now : ℕ) (errors : ErrorState) → Advances (Recovering runs ones) old spelling now errors false (quiet (Recovering runs 0)) old
-broken_advances runs ones old spelling now errors =
-    other_advances (Recovering runs ones) old old spelling now errors false (quiet (Recovering runs 0)) refl (off_broken runs ones now errors) (λ is. absurd (cc is)) (λ is. absurd (cc is))
-
-pub longer_advances : (runs ones : ℕ) (old : Reader) (spelling : Spelling) (now : ℕ) (errors : ErrorState) → ones < 10 → Advances (Recovering runs ones) old spelling now errors true (quiet (Recovering runs (ones + 1))) old
-longer_advances runs ones old spelling now errors few =
-    other_advances (Recovering runs ones) old old spelling now errors true (quiet (Recovering runs (ones + 1))) refl (off_longer runs ones now errors few) (λ is. absurd (cc is)) (λ is. absurd (cc is))
+use Rattle.can_node.proofs.Bits.{agrees_begun, in_state_history, course_quiet, stands_on, stands_over, outside}
+use Rattle.can_node.proofs.Bits.{lands_on, lands_off}
 
 -- either the counts are not those of bus off, or the node is in bus off
 pub on_or_off : (phase : Phase) (events : List ErrorEvent) → IsOnOutside phase events → AreOn events ⊎ (phase ≡ BusOff)
@@ -128,43 +60,58 @@ on_or_off Suspend events on = inl on
 on_or_off BusOff events on = inr refl
 
 -- bus off counts its end, and nothing before
-course_off : {at : ℕ} {before : List ErrorEvent} {pairs : List Pair} {events : List ErrorEvent} {outcome : Outcome} {next : Phase} →
+course_off : {at : ℕ} {before : List ErrorEvent} {pairs : List Pair} {events : List ErrorEvent} {outcome : Outcome}
+    {next : Phase} →
     Course at before BusOff pairs events outcome next → events ≡ Recovered ∷ []
 course_off (recovered text whole) = refl
 
-agrees_off : {state : State} {text : List Bool} {at : ℕ} {pairs : List Pair} {events : List ErrorEvent} → Agrees state text at BusOff pairs events → events ≡ []
+agrees_off : {state : State} {text : List Bool} {at : ℕ} {pairs : List Pair} {events : List ErrorEvent} →
+    Agrees state text at BusOff pairs events → events ≡ []
 agrees_off (in_off rest broken below counted b short) = refl
 
 -- a bit that counts nothing
-quiet_bit : (old new : State) (spelling : Spelling) (text after : List Bool) (past : Past) (pair : Pair) (outcome : Outcome) (st : InState old spelling text past) →
-    Lands new outcome after (st.done.first + length st.done.pairs) st.done.events st.phase (st.part ++ pair ∷ []) (st.counting ++ []) →
+quiet_bit : (old new : State) (spelling : Spelling) (text after : List Bool) (past : Past) (pair : Pair)
+    (outcome : Outcome) (st : InState old spelling text past) →
+    Lands new outcome after (st.done.first + length st.done.pairs) st.done.events st.phase (st.part ++ pair ∷ [])
+    (st.counting ++ []) →
     InState new spelling after (with_bit past pair None outcome)
 quiet_bit old new spelling text after past pair outcome st (goes_on agrees nothing) =
-    let same : st.done.events ++ st.counting ≡ st.done.events ++ (st.counting ++ []) = ap (λ es. st.done.events ++ es) (sym (append-nil st.counting)) in
+    let same : st.done.events ++ st.counting ≡ st.done.events ++ (st.counting ++ []) =
+        ap (λ es. st.done.events ++ es) (sym (append-nil st.counting)) in
     subst (λ o. InState new spelling after (with_bit past pair None o)) (sym nothing)
     (stands_on old new spelling text after past pair None st agrees (subst (IsOnOutside st.phase) same st.on))
-quiet_bit old new spelling text after past pair outcome st (is_over next course agrees) = elim (on_or_off st.phase (st.done.events ++ st.counting) st.on) [
+quiet_bit old new spelling text after past pair outcome st (is_over next course agrees) =
+    elim (on_or_off st.phase (st.done.events ++ st.counting) st.on) [
   | inl on ↦
-      let same : st.done.events ++ st.counting ≡ st.done.events ++ (st.counting ++ []) = ap (λ es. st.done.events ++ es) (sym (append-nil st.counting)) in
+      let same : st.done.events ++ st.counting ≡ st.done.events ++ (st.counting ++ []) =
+          ap (λ es. st.done.events ++ es) (sym (append-nil st.counting)) in
       let still : AreOn (st.done.events ++ (st.counting ++ [])) = subst AreOn same on in
-      stands_over old new spelling text after past pair None outcome next st (course_quiet course) (ends course still) agrees (outside next _ still)
+      stands_over old new spelling text after past pair None outcome next st (course_quiet course)
+          (ends course still) agrees (outside next _ still)
   | inr off ↦
       let at = st.done.first + length st.done.pairs in
-      let nothing : st.counting ≡ [] = agrees_off (subst (λ p. Agrees old text at p st.part st.counting) off st.agrees) in
-      let one : st.counting ++ [] ≡ Recovered ∷ [] = course_off (subst (λ p. Course at st.done.events p (st.part ++ pair ∷ []) (st.counting ++ []) outcome next) off course) in
+      let nothing : st.counting ≡ [] =
+          agrees_off (subst (λ p. Agrees old text at p st.part st.counting) off st.agrees) in
+      let one : st.counting ++ [] ≡ Recovered ∷ [] = course_off
+          (subst (λ p. Course at st.done.events p (st.part ++ pair ∷ []) (st.counting ++ []) outcome next) off
+          course) in
       let no_length : length (st.counting ++ []) ≡ 0 = ap (λ es. length (es ++ [])) nothing in
       absurd (omega (arith, no_length, ap length one))
 ]
 
-so_far : (old : State) (spelling : Spelling) (text : List Bool) (past : Past) (st : InState old spelling text past) (event : ErrorEvent) →
+so_far : (old : State) (spelling : Spelling) (text : List Bool) (past : Past) (st : InState old spelling text past)
+    (event : ErrorEvent) →
     past.events ++ event ∷ [] ≡ (st.done.events ++ st.counting) ++ event ∷ []
 so_far old spelling text past st event = ap (λ p. p.events ++ event ∷ []) st.past_is
 
 -- a bit that does not lead to bus off
-bit_on : (old new : State) (spelling : Spelling) (text after : List Bool) (past : Past) (pair : Pair) (event : Option ErrorEvent) (outcome : Outcome) (st : InState old spelling text past) →
-    Lands new outcome after (st.done.first + length st.done.pairs) st.done.events st.phase (st.part ++ pair ∷ []) (st.counting ++ listed event) →
+bit_on : (old new : State) (spelling : Spelling) (text after : List Bool) (past : Past) (pair : Pair)
+    (event : Option ErrorEvent) (outcome : Outcome) (st : InState old spelling text past) →
+    Lands new outcome after (st.done.first + length st.done.pairs) st.done.events st.phase (st.part ++ pair ∷ [])
+    (st.counting ++ listed event) →
     LeadsTo past.events event false → InState new spelling after (with_bit past pair event outcome)
-bit_on old new spelling text after past pair event outcome st lands no_event = quiet_bit old new spelling text after past pair outcome st lands
+bit_on old new spelling text after past pair event outcome st lands no_event =
+    quiet_bit old new spelling text after past pair outcome st lands
 bit_on old new spelling text after past pair event outcome st lands (stays_on counted on) =
     lands_on old new spelling text after past pair (Some counted) outcome st lands
     (subst AreOn (so_far old spelling text past st counted ∙ append_assoc st.done.events st.counting (counted ∷ [])) on)
@@ -172,108 +119,144 @@ bit_on old new spelling text after past pair event outcome st lands (stays_on co
 -- behind the recovery both counts are 0
 recovered_on : (events : List ErrorEvent) → AreOff (events ++ Recovered ∷ []) → ⊥
 recovered_on events off =
-    let counts : counts_after (events ++ Recovered ∷ []) ≡ no_counts = fold-append after_event no_counts events (Recovered ∷ []) in
+    let counts : counts_after (events ++ Recovered ∷ []) ≡ no_counts =
+        fold-append after_event no_counts events (Recovered ∷ []) in
     let is : true ≡ false = sym off ∙ ap is_off counts in
     cc
 
 -- no event of bus off leads to bus off
-not_again : (old new : State) (spelling : Spelling) (text after : List Bool) (past : Past) (pair : Pair) (event : ErrorEvent) (outcome : Outcome) (st : InState old spelling text past) →
-    Lands new outcome after (st.done.first + length st.done.pairs) st.done.events st.phase (st.part ++ pair ∷ []) (st.counting ++ event ∷ []) →
+not_again : (old new : State) (spelling : Spelling) (text after : List Bool) (past : Past) (pair : Pair)
+    (event : ErrorEvent) (outcome : Outcome) (st : InState old spelling text past) →
+    Lands new outcome after (st.done.first + length st.done.pairs) st.done.events st.phase (st.part ++ pair ∷ [])
+    (st.counting ++ event ∷ []) →
     AreOff ((st.done.events ++ st.counting) ++ event ∷ []) → st.phase ≡ BusOff → ⊥
 not_again old new spelling text after past pair event outcome st (goes_on agrees nothing) counts off =
-    let nothing = agrees_off (subst (λ p. Agrees new after (st.done.first + length st.done.pairs) p (st.part ++ pair ∷ []) (st.counting ++ event ∷ [])) off agrees) in
+    let nothing = agrees_off
+        (subst (λ p. Agrees new after (st.done.first + length st.done.pairs) p (st.part ++ pair ∷ [])
+          (st.counting ++ event ∷ [])) off agrees) in
     omega (arith, ap length nothing, length-append st.counting (event ∷ []))
 not_again old new spelling text after past pair event outcome st (is_over next course agrees) counts off =
-    let one = course_off (subst (λ p. Course (st.done.first + length st.done.pairs) st.done.events p (st.part ++ pair ∷ []) (st.counting ++ event ∷ []) outcome next) off course) in
-    recovered_on st.done.events (subst AreOff (append_assoc st.done.events st.counting (event ∷ []) ∙ ap (λ es. st.done.events ++ es) one) counts)
+    let one = course_off
+        (subst (λ p. Course (st.done.first + length st.done.pairs) st.done.events p (st.part ++ pair ∷ [])
+          (st.counting ++ event ∷ []) outcome next) off course) in
+    recovered_on st.done.events
+        (subst AreOff (append_assoc st.done.events st.counting (event ∷ []) ∙ ap (λ es. st.done.events ++ es) one)
+        counts)
 
 -- a bit that leads to bus off
-bit_off : (old new : State) (spelling : Spelling) (text after : List Bool) (past : Past) (pair : Pair) (event : Option ErrorEvent) (outcome : Outcome) (st : InState old spelling text past) →
-    Lands new outcome after (st.done.first + length st.done.pairs) st.done.events st.phase (st.part ++ pair ∷ []) (st.counting ++ listed event) →
+bit_off : (old new : State) (spelling : Spelling) (text after : List Bool) (past : Past) (pair : Pair)
+    (event : Option ErrorEvent) (outcome : Outcome) (st : InState old spelling text past) →
+    Lands new outcome after (st.done.first + length st.done.pairs) st.done.events st.phase (st.part ++ pair ∷ [])
+    (st.counting ++ listed event) →
     LeadsTo past.events event true → InState (Recovering 0 0) spelling after (with_bit past pair event WentOff)
 bit_off old new spelling text after past pair event outcome st lands (goes_off counted off) =
-    let counts : AreOff ((st.done.events ++ st.counting) ++ counted ∷ []) = subst AreOff (so_far old spelling text past st counted) off in
+    let counts : AreOff ((st.done.events ++ st.counting) ++ counted ∷ []) =
+        subst AreOff (so_far old spelling text past st counted) off in
     elim (on_or_off st.phase (st.done.events ++ st.counting) st.on) [
       | inl on ↦ lands_off old new spelling text after past pair counted outcome st lands on counts
       | inr is ↦ absurd (not_again old new spelling text after past pair counted outcome st lands counts is)
     ]
 
 -- the number of a bit that is still to come is that of the episode and of its bits
-clock_here : (node : Node) (past : Past) (h : StandsAfter node past) → node.clock ≡ (h.in_state.done.first + length h.in_state.done.pairs) + length h.in_state.part
+clock_here : (node : Node) (past : Past) (h : StandsAfter node past) →
+    node.clock ≡ (h.in_state.done.first + length h.in_state.done.pairs) + length h.in_state.part
 clock_here node past h =
     let st = h.in_state in
     omega (arith, h.clock_is, ap (λ p. p.first + length p.pairs) st.past_is, length-append st.done.pairs st.part)
 
 -- one bit more
-clock_next : (node : Node) (past : Past) (pair : Pair) → StandsAfter node past → node.clock + 1 ≡ past.first + length (past.pairs ++ pair ∷ [])
+clock_next : (node : Node) (past : Past) (pair : Pair) → StandsAfter node past →
+    node.clock + 1 ≡ past.first + length (past.pairs ++ pair ∷ [])
 clock_next node past pair h = omega (arith, h.clock_is, length-append past.pairs (pair ∷ []))
 
 -- the error state before a bit
-errors_here : (node : Node) (past : Past) (errors : ErrorState) (h : StandsAfter node past) → ((events : List ErrorEvent) → CountersStandAfter node.counters events → errors ≡ state_after events) →
+errors_here : (node : Node) (past : Past) (errors : ErrorState) (h : StandsAfter node past) →
+    ((events : List ErrorEvent) → CountersStandAfter node.counters events → errors ≡ state_after events) →
     errors ≡ state_after (h.in_state.done.events ++ h.in_state.counting)
 errors_here node past errors h shows = shows past.events h.counted ∙ ap (λ p. state_after p.events) h.in_state.past_is
 
-pub samples_on : (old new : Node) (level : Bool) (turn : Turn) (errors : ErrorState) → ((events : List ErrorEvent) → CountersStandAfter old.counters events → errors ≡ state_after events) →
-    Advances old.state old.reader old.spelling old.clock errors level turn new.reader → ((events : List ErrorEvent) → Counts old.counters new.counters turn.event false events) →
-    new.state ≡ turn.state → new.spelling ≡ old.spelling → new.clock ≡ old.clock + 1 → IsSample old level turn.outcome new
+pub samples_on : (old new : Node) (level : Bool) (turn : Turn) (errors : ErrorState) →
+    ((events : List ErrorEvent) → CountersStandAfter old.counters events → errors ≡ state_after events) →
+    Advances old.state old.reader old.spelling old.clock errors level turn new.reader →
+    ((events : List ErrorEvent) → Counts old.counters new.counters turn.event false events) →
+    new.state ≡ turn.state → new.spelling ≡ old.spelling → new.clock ≡ old.clock + 1 →
+    IsSample old level turn.outcome new
 samples_on old new level turn errors shows advances counts state_is same clock_is = record {
   event = turn.event;
   stands = λ past h.
       let st = h.in_state in
       let pair : Pair = record { driven = level_in old.state old.spelling; sampled = level } in
-      let left = advances h.text (st.done.first + length st.done.pairs) st.done.events st.phase st.part st.counting (clock_here old past h) (errors_here old past errors h shows) st.agrees st.holds h.reads in
+      let left = advances h.text (st.done.first + length st.done.pairs) st.done.events st.phase st.part st.counting
+          (clock_here old past h) (errors_here old past errors h shows) st.agrees st.holds h.reads in
       record {
         text = left.after;
-        in_state = subst (λ s. InState s new.spelling left.after (with_bit past pair turn.event turn.outcome)) (sym state_is)
+        in_state =
+            subst (λ s. InState s new.spelling left.after (with_bit past pair turn.event turn.outcome)) (sym state_is)
             (subst (λ s. InState turn.state s left.after (with_bit past pair turn.event turn.outcome)) (sym same)
-            (bit_on old.state turn.state old.spelling h.text left.after past pair turn.event turn.outcome st left.lands ((counts past.events).leads h.counted)));
+            (bit_on old.state turn.state old.spelling h.text left.after past pair turn.event turn.outcome st left.lands
+                ((counts past.events).leads h.counted)));
         reads = subst (λ s. ReaderStands s new.reader left.after) (sym state_is) left.reads;
         clock_is = clock_is ∙ clock_next old past pair h;
         counted = (counts past.events).stands h.counted;
       };
 }
 
-pub samples_off : (old new : Node) (level : Bool) (turn : Turn) (errors : ErrorState) → ((events : List ErrorEvent) → CountersStandAfter old.counters events → errors ≡ state_after events) →
-    Advances old.state old.reader old.spelling old.clock errors level turn new.reader → ((events : List ErrorEvent) → Counts old.counters new.counters turn.event true events) →
-    new.state ≡ Recovering 0 0 → new.spelling ≡ old.spelling → new.clock ≡ old.clock + 1 → IsSample old level WentOff new
+pub samples_off : (old new : Node) (level : Bool) (turn : Turn) (errors : ErrorState) →
+    ((events : List ErrorEvent) → CountersStandAfter old.counters events → errors ≡ state_after events) →
+    Advances old.state old.reader old.spelling old.clock errors level turn new.reader →
+    ((events : List ErrorEvent) → Counts old.counters new.counters turn.event true events) →
+    new.state ≡ Recovering 0 0 → new.spelling ≡ old.spelling → new.clock ≡ old.clock + 1 →
+    IsSample old level WentOff new
 samples_off old new level turn errors shows advances counts state_is same clock_is = record {
   event = turn.event;
   stands = λ past h.
       let st = h.in_state in
       let pair : Pair = record { driven = level_in old.state old.spelling; sampled = level } in
-      let left = advances h.text (st.done.first + length st.done.pairs) st.done.events st.phase st.part st.counting (clock_here old past h) (errors_here old past errors h shows) st.agrees st.holds h.reads in
+      let left = advances h.text (st.done.first + length st.done.pairs) st.done.events st.phase st.part st.counting
+          (clock_here old past h) (errors_here old past errors h shows) st.agrees st.holds h.reads in
       record {
         text = left.after;
         in_state = subst (λ s. InState s new.spelling left.after (with_bit past pair turn.event WentOff)) (sym state_is)
             (subst (λ s. InState (Recovering 0 0) s left.after (with_bit past pair turn.event WentOff)) (sym same)
-            (bit_off old.state turn.state old.spelling h.text left.after past pair turn.event turn.outcome st left.lands ((counts past.events).leads h.counted)));
-        reads = subst (λ s. ReaderStands s new.reader left.after) (sym state_is) (record { stands = λ is. absurd (cc is); reading = λ is. absurd (cc is) });
+            (bit_off old.state turn.state old.spelling h.text left.after past pair turn.event turn.outcome st left.lands
+                ((counts past.events).leads h.counted)));
+        reads = subst (λ s. ReaderStands s new.reader left.after) (sym state_is)
+            (record { stands = λ is. absurd (cc is); reading = λ is. absurd (cc is) });
         clock_is = clock_is ∙ clock_next old past pair h;
         counted = (counts past.events).stands h.counted;
       };
 }
 
-samples_by : (off : Bool) (old new : Node) (level : Bool) (outcome : Outcome) (turn : Turn) (errors : ErrorState) → ((events : List ErrorEvent) → CountersStandAfter old.counters events → errors ≡ state_after events) →
-    Advances old.state old.reader old.spelling old.clock errors level turn new.reader → ((events : List ErrorEvent) → Counts old.counters new.counters turn.event off events) →
-    EndsIn off turn new.state outcome → new.spelling ≡ old.spelling → new.clock ≡ old.clock + 1 → IsSample old level outcome new
+samples_by : (off : Bool) (old new : Node) (level : Bool) (outcome : Outcome) (turn : Turn) (errors : ErrorState) →
+    ((events : List ErrorEvent) → CountersStandAfter old.counters events → errors ≡ state_after events) →
+    Advances old.state old.reader old.spelling old.clock errors level turn new.reader →
+    ((events : List ErrorEvent) → Counts old.counters new.counters turn.event off events) →
+    EndsIn off turn new.state outcome → new.spelling ≡ old.spelling → new.clock ≡ old.clock + 1 →
+    IsSample old level outcome new
 samples_by true old new level outcome turn errors shows advances counts leaves same clock_is =
-    subst (λ o. IsSample old level o new) (sym leaves.1) (samples_off old new level turn errors shows advances counts leaves.0 same clock_is)
+    subst (λ o. IsSample old level o new) (sym leaves.1)
+        (samples_off old new level turn errors shows advances counts leaves.0 same clock_is)
 samples_by false old new level outcome turn errors shows advances counts leaves same clock_is =
-    subst (λ o. IsSample old level o new) (sym leaves.1) (samples_on old new level turn errors shows advances counts leaves.0 same clock_is)
+    subst (λ o. IsSample old level o new) (sym leaves.1)
+        (samples_on old new level turn errors shows advances counts leaves.0 same clock_is)
 
-pub samples : (old new : Node) (level : Bool) (outcome : Outcome) → Steps old.state old.counters old.reader old.spelling old.clock level outcome new.state new.counters new.reader →
+pub samples : (old new : Node) (level : Bool) (outcome : Outcome) →
+    Steps old.state old.counters old.reader old.spelling old.clock level outcome new.state new.counters new.reader →
     new.spelling ≡ old.spelling → new.clock ≡ old.clock + 1 → IsSample old level outcome new
-samples old new level outcome h same clock_is = samples_by h.is_made.off old new level outcome h.turn h.errors h.shows h.advances h.is_made.counts h.is_made.ends_in same clock_is
+samples old new level outcome h same clock_is = samples_by h.is_made.off old new level outcome h.turn h.errors h.shows
+    h.advances h.is_made.counts h.is_made.ends_in same clock_is
 
 -- a reader that was pushed SOF reads on
-pub sof_reading : (old new : Reader) (step : Step) → ReaderStandsAfter old [] → IsReading old → IsPush old false step new → IsReading new
+pub sof_reading : (old new : Reader) (step : Step) → ReaderStandsAfter old [] → IsReading old →
+    IsPush old false step new → IsReading new
 sof_reading old new step stands reading push =
     let next = push.next [] reading stands in
     let more : Answers More [] false = (completes (false ∷ []) (false ∷ []) sof_inside, refl) in
     subst (λ s. Leaves s new) (one_answer step More [] false next.answer more) next.leaves
 
 -- a node that was switched on
-pub new_stands : (node : Node) → node.state ≡ Syncing 0 → CountersStandAfter node.counters [] → StandsAfter node (no_past node.clock)
+pub new_stands : (node : Node) → node.state ≡ Syncing 0 → CountersStandAfter node.counters [] →
+    StandsAfter node (no_past node.clock)
 new_stands node state_is counted = record {
   text = [];
   in_state = subst (λ s. InState s node.spelling [] (no_past node.clock)) (sym state_is) (record {
@@ -287,13 +270,15 @@ new_stands node state_is counted = record {
     on = refl;
     past_is = refl;
   });
-  reads = subst (λ s. ReaderStands s node.reader []) (sym state_is) (record { stands = λ is. absurd (cc is); reading = λ is. absurd (cc is) });
+  reads = subst (λ s. ReaderStands s node.reader []) (sym state_is)
+      (record { stands = λ is. absurd (cc is); reading = λ is. absurd (cc is) });
   clock_is = omega arith;
   counted = counted;
 }
 
 -- whether the node wants to start, in the history that it stands after
-wants_by : {state : State} {text : List Bool} {at : ℕ} {phase : Phase} {part : List Pair} {events : List ErrorEvent} → Agrees state text at phase part events → may_start state ≡ wants_start phase part
+wants_by : {state : State} {text : List Bool} {at : ℕ} {phase : Phase} {part : List Pair} {events : List ErrorEvent} →
+    Agrees state text at phase part events → may_start state ≡ wants_start phase part
 wants_by (in_sync broken b below) = refl
 wants_by (in_idle n) = refl
 wants_by (in_take given levels may_begin pairs events is on reads may sof place) = may
@@ -308,11 +293,13 @@ wants_by (in_rest below) = refl
 wants_by (in_suspend below) = refl
 wants_by (in_off rest broken below counted b short) = refl
 
-pub wanting : (node : Node) (wants : Bool) → wants ≡ may_start node.state → (past : Past) → StandsAfter node past → IsWanting past wants
+pub wanting : (node : Node) (wants : Bool) → wants ≡ may_start node.state → (past : Past) → StandsAfter node past →
+    IsWanting past wants
 wanting node wants e past h =
     let st = h.in_state in
     record {
-      history = record { done = st.done; phase = st.phase; part = st.part; counting = st.counting; whole = st.whole; goes_on = agrees_begun st.agrees; on = st.on; past_is = st.past_is };
+      history = record { done = st.done; phase = st.phase; part = st.part; counting = st.counting; whole = st.whole;
+          goes_on = agrees_begun st.agrees; on = st.on; past_is = st.past_is };
       wants_is = e ∙ wants_by st.agrees;
     }
 
@@ -320,12 +307,16 @@ pub stands_history : (node : Node) (past : Past) → StandsAfter node past → I
 stands_history node past h = in_state_history node.state node.spelling h.text past h.in_state
 
 -- one event is counted, or none
-pub counts_none : (counters : Counters) (event : Option ErrorEvent) → event ≡ None → (events : List ErrorEvent) → Counts counters counters event false events
-counts_none counters event is events = subst (λ e. Counts counters counters e false events) (sym is) (record { stands = λ h. h ∙ ap counts_after (sym (append-nil events)); leads = λ h. no_event })
+pub counts_none : (counters : Counters) (event : Option ErrorEvent) → event ≡ None → (events : List ErrorEvent) →
+    Counts counters counters event false events
+counts_none counters event is events = subst (λ e. Counts counters counters e false events) (sym is)
+    (record { stands = λ h. h ∙ ap counts_after (sym (append-nil events)); leads = λ h. no_event })
 
 -- a bit that counts nothing and tells nothing
-pub quiet_steps_now : (state next : State) (counters : Counters) (old new : Reader) (spelling : Spelling) (now : ℕ) (level : Bool) →
-    Advances state old spelling now (state_of (counts_of counters)) level (quiet next) new → Steps state counters old spelling now level Nothing next counters new
+pub quiet_steps_now : (state next : State) (counters : Counters) (old new : Reader) (spelling : Spelling) (now : ℕ)
+    (level : Bool) →
+    Advances state old spelling now (state_of (counts_of counters)) level (quiet next) new →
+    Steps state counters old spelling now level Nothing next counters new
 quiet_steps_now state next counters old new spelling now level advances = record {
   turn = quiet next;
   errors = state_of (counts_of counters);
@@ -334,16 +325,22 @@ quiet_steps_now state next counters old new spelling now level advances = record
   is_made = record { off = false; counts = counts_none counters None refl; ends_in = (refl, refl) };
 }
 
-pub quiet_steps : (state next : State) (counters : Counters) (old new : Reader) (spelling : Spelling) (now : ℕ) (level : Bool) →
-    ((errors : ErrorState) → Advances state old spelling now errors level (quiet next) new) → Steps state counters old spelling now level Nothing next counters new
-quiet_steps state next counters old new spelling now level advances = quiet_steps_now state next counters old new spelling now level (advances (state_of (counts_of counters)))
+pub quiet_steps : (state next : State) (counters : Counters) (old new : Reader) (spelling : Spelling) (now : ℕ)
+    (level : Bool) →
+    ((errors : ErrorState) → Advances state old spelling now errors level (quiet next) new) →
+    Steps state counters old spelling now level Nothing next counters new
+quiet_steps state next counters old new spelling now level advances =
+    quiet_steps_now state next counters old new spelling now level (advances (state_of (counts_of counters)))
 
-leads_by : (events : List ErrorEvent) (event : ErrorEvent) (off b : Bool) → off ≡ b → is_off (counts_after (events ++ event ∷ [])) ≡ b → LeadsTo events (Some event) off
+leads_by : (events : List ErrorEvent) (event : ErrorEvent) (off b : Bool) → off ≡ b →
+    is_off (counts_after (events ++ event ∷ [])) ≡ b → LeadsTo events (Some event) off
 leads_by events event off true e is = subst (LeadsTo events (Some event)) (sym e) (goes_off event is)
 leads_by events event off false e is = subst (LeadsTo events (Some event)) (sym e) (stays_on event is)
 
-pub counts_some : (old new : Counters) (given : Option ErrorEvent) (event : ErrorEvent) (off : Bool) → given ≡ Some event →
-    ((events : List ErrorEvent) → CountersStandAfter old events → CountersStandAfter new (events ++ event ∷ [])) → off ≡ is_off (counts_of new) →
+pub counts_some : (old new : Counters) (given : Option ErrorEvent) (event : ErrorEvent) (off : Bool) →
+    given ≡ Some event →
+    ((events : List ErrorEvent) → CountersStandAfter old events → CountersStandAfter new (events ++ event ∷ [])) →
+    off ≡ is_off (counts_of new) →
     (events : List ErrorEvent) → Counts old new given off events
 counts_some old new given event off is applies e events = subst (λ g. Counts old new g off events) (sym is) (record {
   stands = applies events;
@@ -351,7 +348,8 @@ counts_some old new given event off is applies e events = subst (λ g. Counts ol
 })
 
 -- the SOF of the frame that the node sends
-sof_by : {state : State} {text : List Bool} {at : ℕ} {phase : Phase} {part : List Pair} {events : List ErrorEvent} → Agrees state text at phase part events → sof_of state ≡ sent_from phase
+sof_by : {state : State} {text : List Bool} {at : ℕ} {phase : Phase} {part : List Pair} {events : List ErrorEvent} →
+    Agrees state text at phase part events → sof_of state ≡ sent_from phase
 sof_by (in_sync broken b below) = refl
 sof_by (in_idle n) = refl
 sof_by (in_take given levels may_begin pairs events is on reads may sof place) = refl
@@ -366,10 +364,12 @@ sof_by (in_rest below) = refl
 sof_by (in_suspend below) = refl
 sof_by (in_off rest broken below counted b short) = refl
 
-pub sending : (node : Node) (start : Option ℕ) → start ≡ sof_of node.state → (past : Past) → StandsAfter node past → IsSending past start
+pub sending : (node : Node) (start : Option ℕ) → start ≡ sof_of node.state → (past : Past) → StandsAfter node past →
+    IsSending past start
 sending node start e past h =
     let st = h.in_state in
     record {
-      history = record { done = st.done; phase = st.phase; part = st.part; counting = st.counting; whole = st.whole; goes_on = agrees_begun st.agrees; on = st.on; past_is = st.past_is };
+      history = record { done = st.done; phase = st.phase; part = st.part; counting = st.counting; whole = st.whole;
+          goes_on = agrees_begun st.agrees; on = st.on; past_is = st.past_is };
       start_is = e ∙ sof_by st.agrees;
     }

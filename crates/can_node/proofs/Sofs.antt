@@ -1,7 +1,8 @@
 -- The SOF of a frame that a node sends: its own first bit, where it sampled a recessive level before; and the bit
 -- before,
 -- where that was a dominant one.
-use Rattle.std.proofs.Common.{◌≡◌, inl, inr, ◌⊎◌, ℕ, zero, suc, ◌+◌, ◌-◌, ◌<◌, Bool, true, false, Some, List, [], ◌∷◌, ◌++◌, length, slice_get, refl, sym, ap, subst, arith, ◌∙◌}
+use Rattle.std.proofs.Common.{◌≡◌, inl, inr, ◌⊎◌, ℕ, zero, suc, ◌+◌, ◌-◌, ◌<◌, Bool, true, false, Some, List, [], ◌∷◌}
+use Rattle.std.proofs.Common.{◌++◌, length, slice_get, refl, sym, ap, subst, arith, ◌∙◌}
 use Rattle.std.proofs.lemmas.List.{append-nil, append_assoc, length-append, length-map}
 use Rattle.can_frame.specs.Frames.{FrameValue}
 use Rattle.can_confinement.specs.declared.confinement.Role.{Role}
@@ -11,11 +12,15 @@ use Rattle.can_confinement.specs.declared.confinement.ErrorState.TheVariants.{Ac
 use Rattle.can_node.specs.declared.outcome.Outcome.{Outcome}
 use Rattle.can_node.specs.Pairs.{Pair, listening, recessive}
 use Rattle.can_node.specs.Phases.{Phase, flag_of, sent_from}
-use Rattle.can_node.specs.Phases.Phase.{Sync, Idle, Send, Take, LastBit, ActiveFlag, OverloadFlag, PassiveFlag, Delimiter, Intermission, Suspend, BusOff}
+use Rattle.can_node.specs.Phases.Phase.{Sync, Idle, Send, Take, LastBit, ActiveFlag, OverloadFlag, PassiveFlag}
+use Rattle.can_node.specs.Phases.Phase.{Delimiter, Intermission, Suspend, BusOff}
 use Rattle.can_node.specs.Waits.{Recoveries}
 use Rattle.can_node.specs.Waits.Recoveries.{no_run, one_more}
 use Rattle.can_node.specs.Episodes.{Course, Episode}
-use Rattle.can_node.specs.Episodes.Course.{synced, woken, completed, lost, stuff_lost, unacknowledged, bit_differs, took, spoiled, quiet_end, late_overload, flagged, overload_flagged, passive_flagged, delimited, cut_short, overloaded, rested, rested_sender, pressed, hurried, waited, overtaken, recovered}
+use Rattle.can_node.specs.Episodes.Course.{synced, woken, completed, lost, stuff_lost, unacknowledged, bit_differs}
+use Rattle.can_node.specs.Episodes.Course.{took, spoiled, quiet_end, late_overload, flagged, overload_flagged}
+use Rattle.can_node.specs.Episodes.Course.{passive_flagged, delimited, cut_short, overloaded, rested, rested_sender}
+use Rattle.can_node.specs.Episodes.Course.{pressed, hurried, waited, overtaken, recovered}
 use Rattle.can_node.specs.Episodes.Episode.{begun, joined, ends, off_within, off_at_end}
 use Rattle.can_node.specs.Histories.{Past, Whole, begins}
 use Rattle.can_node.specs.Histories.Whole.{switched_on, then}

@@ -1,15 +1,18 @@
 -- The bits with which a history notes what it begins and what it tells: each stands inside of its episode.
-use Rattle.std.proofs.Common.{◌≡◌, inl, inr, ◌⊎◌, ℕ, zero, suc, ◌+◌, ◌-◌, ◌≤◌, Bool, true, List, [], ◌∷◌, ◌++◌, length, sym, ap, subst, arith, ◌∙◌}
+use Rattle.std.proofs.Common.{◌≡◌, inl, inr, ◌⊎◌, ℕ, zero, suc, ◌+◌, ◌-◌, ◌≤◌, Bool, true, List, [], ◌∷◌, ◌++◌, length}
+use Rattle.std.proofs.Common.{sym, ap, subst, arith, ◌∙◌}
 use Rattle.std.specs.List.{Contains}
 use Rattle.std.proofs.lemmas.List.{append-nil, length-append, length-map}
 use Rattle.std.proofs.lemmas.List.Elements.{Contains-append_cases}
 use Rattle.can_frame.specs.Frames.{FrameValue}
 use Rattle.can_confinement.specs.declared.confinement.ErrorEvent.{ErrorEvent}
 use Rattle.can_node.specs.declared.outcome.Outcome.{Outcome}
-use Rattle.can_node.specs.declared.outcome.Outcome.TheVariants.{Nothing, Took, Completed, Lost, Errored, WentOff, CameBack}
+use Rattle.can_node.specs.declared.outcome.Outcome.TheVariants.{Nothing, Took, Completed, Lost, Errored, WentOff}
+use Rattle.can_node.specs.declared.outcome.Outcome.TheVariants.{CameBack}
 use Rattle.can_node.specs.Pairs.{Pair, recessive}
 use Rattle.can_node.specs.Phases.{Phase}
-use Rattle.can_node.specs.Phases.Phase.{Sync, Idle, Send, Take, LastBit, ActiveFlag, OverloadFlag, PassiveFlag, Delimiter, Intermission, Suspend, BusOff}
+use Rattle.can_node.specs.Phases.Phase.{Sync, Idle, Send, Take, LastBit, ActiveFlag, OverloadFlag, PassiveFlag}
+use Rattle.can_node.specs.Phases.Phase.{Delimiter, Intermission, Suspend, BusOff}
 use Rattle.can_node.specs.Episodes.{Episode}
 use Rattle.can_node.specs.Episodes.Course.{synced}
 use Rattle.can_node.specs.Episodes.Episode.{ends, off_within, off_at_end}

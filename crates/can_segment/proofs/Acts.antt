@@ -1,5 +1,6 @@
 -- Each node's bit is an act of the trace.
-use Rattle.std.proofs.Common.{◌≡◌, inl, inr, ℕ, ◌<◌, ◌≤◌, nat_le, cond, Bool, true, false, Option, Some, None, List, [], ◌∷◌, ◌++◌, length, refl, sym, ap, subst, arith, ◌∙◌}
+use Rattle.std.proofs.Common.{◌≡◌, inl, inr, ℕ, ◌<◌, ◌≤◌, nat_le, cond, Bool, true, false, Option, Some, None, List, []}
+use Rattle.std.proofs.Common.{◌∷◌, ◌++◌, length, refl, sym, ap, subst, arith, ◌∙◌}
 use Rattle.std.proofs.lemmas.Bool.{cases_lt}
 use Rattle.std.proofs.lemmas.Bool.Decides.{leb_tells}
 use Rattle.can_frame.specs.Frames.{FrameValue}
@@ -17,9 +18,11 @@ use Rattle.can_segment.proofs.Talks.{talked}
 use Rattle.can_segment.proofs.Controls.{controlled}
 
 -- what a node did at a bit is this act, and is told as such
-pub record Acted (Rules : Act → Type 0) (on k : ℕ) (trace : List Bit) (level : Bool) (mid after : Member) (act : Option Act) : Type 0 where
+pub record Acted (Rules : Act → Type 0) (on k : ℕ) (trace : List Bit) (level : Bool) (mid after : Member)
+    (act : Option Act) : Type 0 where
   pub starts : starts_of act ≡ told_start (begun_by after.deed)
-  pub rest : rest_of (sending_of k trace) act ≡ told_outcome after.deed.sent after.deed.outcome ++ told_reaped after.deed.reaped
+  pub rest : rest_of (sending_of k trace) act ≡ told_outcome after.deed.sent after.deed.outcome
+      ++ told_reaped after.deed.reaped
   pub drives_is : drives act ≡ drives_at (length trace) mid
   pub stands : (bit : Bit) → act_of k bit ≡ act → StandsBehind on k (trace ++ bit ∷ []) after
   pub before : length trace < on → act ≡ None
@@ -32,27 +35,33 @@ is_off_now : (on bit : ℕ) → bit < on → nat_le on bit ≡ false
 is_off_now on bit h = elim (leb_tells on bit) [ inl is ↦ absurd (omega (arith, is.1, h)) | inr isnt ↦ isnt.0 ]
 
 -- a node that is not on
-pub acted_off : (Rules : Act → Type 0) (on k : ℕ) (trace : List Bit) (level : Bool) (old mid after : Member) → StandsBehind on k trace old → length trace < on → mid ≡ old → after ≡ old →
+pub acted_off : (Rules : Act → Type 0) (on k : ℕ) (trace : List Bit) (level : Bool) (old mid after : Member) →
+    StandsBehind on k trace old → length trace < on → mid ≡ old → after ≡ old →
     Acted Rules on k trace level mid after None
 acted_off Rules on k trace level old mid after h early same_mid same_after =
     let quiet : after.deed ≡ no_deed = ap (λ m. m.deed) same_after ∙ h.quiet (omega (arith, early)) in
     record {
       starts = ap (λ d. told_start (begun_by d)) (sym quiet);
       rest = ap (λ d. told_outcome d.sent d.outcome ++ told_reaped d.reaped) (sym quiet);
-      drives_is = sym (ap (λ b. cond b (driven_by mid.station.node) true) (is_off_now mid.on (length trace) (omega (arith, early, h.on_is, ap (λ m. m.on) same_mid))));
-      stands = λ bit is. subst (StandsBehind on k (trace ++ bit ∷ [])) (sym same_after) (stays_off on k trace bit old h early is);
+      drives_is = sym (ap (λ b. cond b (driven_by mid.station.node) true)
+          (is_off_now mid.on (length trace) (omega (arith, early, h.on_is, ap (λ m. m.on) same_mid))));
+      stands = λ bit is. subst (StandsBehind on k (trace ++ bit ∷ [])) (sym same_after)
+          (stays_off on k trace bit old h early is);
       before = λ is. refl;
       from_there_on = λ late. absurd (omega (arith, early, late));
     }
 
 -- one that is on
-acted_on : (Rules : Act → Type 0) (on k : ℕ) (trace : List Bit) (level : Bool) (mid after : Member) → on ≤ length trace → mid.on ≡ on → (d : Done on k trace level mid after) →
-    let act : Act = record { begun = begun_by after.deed; driven = driven_by mid.station.node; sampled = level; event = d.event; outcome = after.deed.outcome; reaped = after.deed.reaped } in
+acted_on : (Rules : Act → Type 0) (on k : ℕ) (trace : List Bit) (level : Bool) (mid after : Member) →
+    on ≤ length trace → mid.on ≡ on → (d : Done on k trace level mid after) →
+    let act : Act = record { begun = begun_by after.deed; driven = driven_by mid.station.node; sampled = level;
+        event = d.event; outcome = after.deed.outcome; reaped = after.deed.reaped } in
     IsAct (past_of on k trace) level act → Rules act → Acted Rules on k trace level mid after (Some act)
 acted_on Rules on k trace level mid after late on_is d is_act rules = record {
   starts = refl;
   rest = ap (λ ts. ts ++ told_reaped after.deed.reaped) d.told;
-  drives_is = sym (ap (λ b. cond b (driven_by mid.station.node) true) (is_on_now mid.on (length trace) (omega (arith, late, on_is))));
+  drives_is = sym (ap (λ b. cond b (driven_by mid.station.node) true)
+      (is_on_now mid.on (length trace) (omega (arith, late, on_is))));
   stands = d.stands;
   before = λ early. absurd (omega (arith, early, late));
   from_there_on = λ now. (_, refl, is_act, rules);
@@ -62,20 +71,24 @@ acted_on Rules on k trace level mid after late on_is d is_act rules = record {
 abbrev pub Talks : List Bit → List FrameValue → ℕ → ℕ → Act → Type 0
 Talks trace frames on k act = IsTalking frames (completed_of k trace) (past_of on k trace) act
 
-pub talker_acts : (on k : ℕ) (trace : List Bit) (frames : List FrameValue) (level : Bool) (old mid after : Member) → StandsBehind on k trace old → StartsTalking (length trace) old mid frames →
-    Samples (length trace) level mid after → (act : Option Act) × Acted (Talks trace frames on k) on k trace level mid after act
+pub talker_acts : (on k : ℕ) (trace : List Bit) (frames : List FrameValue) (level : Bool) (old mid after : Member) →
+    StandsBehind on k trace old → StartsTalking (length trace) old mid frames →
+    Samples (length trace) level mid after → (act : Option Act)
+    × Acted (Talks trace frames on k) on k trace level mid after act
 talker_acts on k trace frames level old mid after h starts samples = elim (cases_lt (length trace) on) [
   | inl early ↦
       let same_mid = starts.off (omega (arith, early, h.on_is)) in
       let same_after = samples.off (omega (arith, early, h.on_is, starts.on_is)) in
-      (None, acted_off (Talks trace frames on k) on k trace level old mid after h early same_mid (same_after ∙ same_mid))
+      (None, acted_off (Talks trace frames on k) on k trace level old mid after h early same_mid
+          (same_after ∙ same_mid))
   | inr late ↦
       let t = talked on k trace frames level old mid after h (omega (arith, late)) starts samples in
       let d = t.made in (
         Some _,
         acted_on (Talks trace frames on k) on k trace level mid after (omega (arith, late)) (starts.on_is ∙ h.on_is) d
             (record { history = d.history; samples = refl; begins = t.begins })
-            (record { wants = t.wants; is_wanting = t.is_wanting; begins = t.rule; no_label = t.no_label; no_reaping = samples.reaps_none (omega (arith, late, h.on_is, starts.on_is)) }),
+            (record { wants = t.wants; is_wanting = t.is_wanting; begins = t.rule; no_label = t.no_label;
+                  no_reaping = samples.reaps_none (omega (arith, late, h.on_is, starts.on_is)) }),
       )
 ]
 
@@ -83,8 +96,10 @@ talker_acts on k trace frames level old mid after h starts samples = elim (cases
 abbrev pub Controls : List Bit → ℕ → Act → Type 0
 Controls trace k act = IsControlling (sending_of k trace) act
 
-pub controller_acts : (on k : ℕ) (trace : List Bit) (level : Bool) (old mid after : Member) → StandsBehind on k trace old → StartsRequest (length trace) old mid →
-    SamplesAndSettles (length trace) level mid after → (act : Option Act) × Acted (Controls trace k) on k trace level mid after act
+pub controller_acts : (on k : ℕ) (trace : List Bit) (level : Bool) (old mid after : Member) →
+    StandsBehind on k trace old → StartsRequest (length trace) old mid →
+    SamplesAndSettles (length trace) level mid after → (act : Option Act)
+    × Acted (Controls trace k) on k trace level mid after act
 controller_acts on k trace level old mid after h starts samples = elim (cases_lt (length trace) on) [
   | inl early ↦
       let same_mid = starts.off (omega (arith, early, h.on_is)) in
@@ -98,7 +113,9 @@ controller_acts on k trace level old mid after h starts samples = elim (cases_lt
             (record { history = d.history; samples = refl; begins = t.begins })
             (record {
               labelled = t.labelled;
-              reaps = λ label is. let r = t.reaps label is in record { sent = r.sent; sends = sym d.now_is ∙ sym (t.names label is) ∙ r.sends; is_its_label = r.label_is; fails = r.fails };
+              reaps = λ label is. let r = t.reaps label is in
+                  record { sent = r.sent; sends = sym d.now_is ∙ sym (t.names label is) ∙ r.sends; is_its_label =
+                  r.label_is; fails = r.fails };
             }),
       )
 ]

@@ -1,5 +1,6 @@
 -- What the lines tell of attempts.
-use Rattle.std.proofs.Common.{◌≡◌, inl, inr, ◌⊎◌, ℕ, zero, suc, ◌+◌, ◌-◌, ◌<◌, ◌≤◌, Bool, true, false, cond, Option, Some, None, List, [], ◌∷◌, ◌++◌, take, slice_get, refl, sym, ap, subst, arith, ◌∙◌}
+use Rattle.std.proofs.Common.{◌≡◌, inl, inr, ◌⊎◌, ℕ, zero, suc, ◌+◌, ◌-◌, ◌<◌, ◌≤◌, Bool, true, false, cond, Option}
+use Rattle.std.proofs.Common.{Some, None, List, [], ◌∷◌, ◌++◌, take, slice_get, refl, sym, ap, subst, arith, ◌∙◌}
 use Rattle.std.specs.Prelude.{option_and_then}
 use Rattle.std.specs.List.{Contains}
 use Rattle.std.proofs.lemmas.Bool.{cases_lt}
@@ -7,7 +8,8 @@ use Rattle.std.proofs.lemmas.List.Sums.{fold-append}
 use Rattle.can_frame.specs.Frames.{FrameValue}
 use Rattle.can_confinement.specs.declared.confinement.ErrorState.{ErrorState}
 use Rattle.can_node.specs.declared.outcome.Outcome.{Outcome}
-use Rattle.can_node.specs.declared.outcome.Outcome.TheVariants.{Nothing, Took, Completed, Lost, Errored, WentOff, CameBack}
+use Rattle.can_node.specs.declared.outcome.Outcome.TheVariants.{Nothing, Took, Completed, Lost, Errored, WentOff}
+use Rattle.can_node.specs.declared.outcome.Outcome.TheVariants.{CameBack}
 use Rattle.can_node.specs.Histories.{Past, no_past, noted}
 use Rattle.can_node.specs.Cuts.{IsAttempt}
 use Rattle.can_node.specs.Attempts.{first_bit, IsAttemptFrom}
@@ -18,7 +20,8 @@ use Rattle.can_node.proofs.Sofs.{starts_are_sofs}
 use Rattle.can_station.specs.declared.event.Event.{Event}
 use Rattle.can_station.specs.declared.plan.SegmentPlan.{SegmentPlan}
 use Rattle.can_station.specs.declared.transmission.Transmission.{Transmission}
-use Rattle.can_segment.specs.Attempts.{act_at, begun_at, sending_at, outcome_at, IsTold, AttemptsAreTold, EndsAreOfAttempts}
+use Rattle.can_segment.specs.Attempts.{act_at, begun_at, sending_at, outcome_at, IsTold, AttemptsAreTold}
+use Rattle.can_segment.specs.Attempts.{EndsAreOfAttempts}
 use Rattle.can_segment.specs.Traces.{Act, Bit, act_of, past_of, sending_of, sending_now, sending_behind}
 use Rattle.can_station.specs.Outcomes.{sending_after, ends_sending}
 use Rattle.can_segment.specs.Runs.{Run, firsts}
@@ -111,10 +114,12 @@ act_ends node trace b e = elim (act_or_none (act_at node trace b)) [
 pub record SendsFrom (node : ℕ) (trace : List Bit) (first last : ℕ) (sent : Transmission) : Type 0 where
   pub in_order : first ≤ last
   pub begins : begun_at node trace first ≡ Some sent
-  pub none_begun : (bit : ℕ) (other : Transmission) → first < bit → bit ≤ last → begun_at node trace bit ≡ Some other → ⊥
+  pub none_begun : (bit : ℕ) (other : Transmission) → first < bit → bit ≤ last → begun_at node trace bit ≡ Some other →
+      ⊥
   pub none_ended : (bit : ℕ) → first ≤ bit → bit < last → ends_sending (outcome_at node trace bit) ≡ true → ⊥
 
-after_more : (sending : Option Transmission) (outcome : Outcome) (b : Bool) → ends_sending outcome ≡ b → (b ≡ true → ⊥) →
+after_more : (sending : Option Transmission) (outcome : Outcome) (b : Bool) → ends_sending outcome ≡ b →
+    (b ≡ true → ⊥) →
     sending_after sending outcome ≡ sending
 after_more sending outcome true e not = absurd (not refl)
 after_more sending outcome false e not = ap (λ c. cond c None sending) e
@@ -131,13 +136,15 @@ behind_more node trace k not = elim (act_or_none (act_at node trace k)) [
       ∙ sym (ap (λ f. sending_now (sending_of node (take k trace)) (option_and_then (λ (a : Act). a.begun) f)) some.1))
 ]
 
-now_none : (before begun : Option Transmission) (sent : Transmission) → before ≡ Some sent → ((other : Transmission) → begun ≡ Some other → ⊥) →
+now_none : (before begun : Option Transmission) (sent : Transmission) → before ≡ Some sent →
+    ((other : Transmission) → begun ≡ Some other → ⊥) →
     sending_now before begun ≡ Some sent
 now_none before None sent e none = e
 now_none before (Some other) sent e none = absurd (none other refl)
 
 -- so it still sends it at that other bit
-sends_still : (node : ℕ) (trace : List Bit) (first k : ℕ) (sent : Transmission) → SendsFrom node trace first (first + k) sent →
+sends_still : (node : ℕ) (trace : List Bit) (first k : ℕ) (sent : Transmission) →
+    SendsFrom node trace first (first + k) sent →
     sending_at node trace (first + k) ≡ Some sent
 sends_still node trace first zero sent s =
     ap (λ n. sending_at node trace n) (omega arith) ∙ ap (sending_now (sending_of node (take first trace))) s.begins
@@ -162,7 +169,8 @@ began : (before begun : Option Transmission) (sent : Transmission) → sending_n
 began before None sent e = inr (refl, e)
 began before (Some other) sent e = inl e
 
-after_sends : (sending : Option Transmission) (outcome : Outcome) (b : Bool) (sent : Transmission) → ends_sending outcome ≡ b →
+after_sends : (sending : Option Transmission) (outcome : Outcome) (b : Bool) (sent : Transmission) →
+    ends_sending outcome ≡ b →
     sending_after sending outcome ≡ Some sent → (b ≡ true → ⊥) × (sending ≡ Some sent)
 after_sends sending outcome true sent is e =
     absurd (let none : sending_after sending outcome ≡ None = ap (λ c. cond c None sending) is in cc (none, e))
@@ -172,7 +180,8 @@ record SendsBehind (node : ℕ) (trace : List Bit) (k : ℕ) (sent : Transmissio
   before : sending_at node trace k ≡ Some sent
   goes_on : ends_sending (outcome_at node trace k) ≡ true → ⊥
 
-sends_behind : (node : ℕ) (trace : List Bit) (k : ℕ) (sent : Transmission) → sending_of node (take (suc k) trace) ≡ Some sent →
+sends_behind : (node : ℕ) (trace : List Bit) (k : ℕ) (sent : Transmission) →
+    sending_of node (take (suc k) trace) ≡ Some sent →
     SendsBehind node trace k sent
 sends_behind node trace k sent e = elim (act_or_none (act_at node trace k)) [
   | inl none ↦ record {

@@ -1,148 +1,104 @@
 -- What a port is brought at a bit is what the lines of that bit tell of its node.
-use Rattle.std.proofs.Common.{◌≡◌, ◌≢◌, ℕ, ◌+◌, ◌<◌, ◌≤◌, ◌==◌, Bool, true, false, cond, Option, Some, None, IfSome, List, [], ◌∷◌, ◌++◌, length, slice_get, nat_le, inl, inr, refl, sym, ap, subst, arith, ◌∙◌, append_assoc, eq-eqb, ne_eqb, zero, suc}
+use Rattle.std.proofs.Common.{◌≡◌, ℕ, ◌+◌, ◌<◌, ◌≤◌, Bool, true, false, cond, Option, Some, None, IfSome, List, [], ◌∷◌}
+use Rattle.std.proofs.Common.{◌++◌, length, nat_le, inl, inr, refl, sym, ap, subst, arith, ◌∙◌, append_assoc}
 use Rattle.std.proofs.lemmas.List.{append-nil}
 use Rattle.std.specs.Prelude.{option_to_list}
 use Rattle.can_frame.specs.Frames.{FrameValue}
 use Rattle.can_node.specs.declared.outcome.Outcome.{Outcome}
-use Rattle.can_node.specs.declared.outcome.Outcome.TheVariants.{Nothing, Took, Completed, Lost, Errored, WentOff, CameBack}
+use Rattle.can_node.specs.declared.outcome.Outcome.TheVariants.{Nothing, Took, Completed, Lost, Errored, WentOff}
+use Rattle.can_node.specs.declared.outcome.Outcome.TheVariants.{CameBack}
 use Rattle.bx_core.specs.Lists.{Each}
 use Rattle.bx_core.specs.TxBus.{Item, BusPast, BusCall, IsUndone}
-use Rattle.can_station.specs.declared.event.Event.{Event}
 use Rattle.can_station.specs.declared.event.Label.{Label}
 use Rattle.can_station.specs.declared.event.Told.{Told}
 use Rattle.can_station.specs.declared.event.Told.TheVariants as told
 use Rattle.can_station.specs.declared.member.Deed.{Deed}
 use Rattle.can_station.specs.declared.member.Member.{Member}
 use Rattle.can_station.specs.declared.transmission.Transmission.{Transmission}
-use Rattle.can_station.specs.Lines.{lines, told_start, told_outcome, told_reaped}
-use Rattle.can_station.specs.Tellings.{start_of, rest_by, told_by, bit_lines}
+use Rattle.can_station.specs.Lines.{told_start, told_outcome, told_reaped}
+use Rattle.can_station.specs.Tellings.{start_of, rest_by}
 use Rattle.can_station.specs.Outcomes.{is_failure}
 use Rattle.can_station.specs.Ports.{item_of, item_with, Undone, started, completed, failed, settled, taken_by, Reaps}
-use Rattle.can_segment.specs.Brought.{StartsUndone, told_of, start_in, sent_in, reaped_in, taken_in, all_in, grown, IsBrought}
+use Rattle.can_segment.specs.Brought.{StartsUndone, start_in, sent_in, reaped_in, taken_in, all_in, grown, IsBrought}
 use Rattle.can_station.specs.Deeds.{no_deed, begun_by}
 use Rattle.can_station.specs.Members.{is_on, settled_at, taken_at}
 use Rattle.can_segment.specs.Moves.{PortMoves}
 use Rattle.std.proofs.lemmas.Bool.Decides.{leb_tells}
 
-pub of-append : (node : ℕ) (xs ys : List Event) → told_of node (xs ++ ys) ≡ told_of node xs ++ told_of node ys
-of-append node [] ys = refl
-of-append node (x ∷ xs) ys = by_test (x.node == node) (of-append node xs ys)
-  where
-    by_test : (b : Bool) → told_of node (xs ++ ys) ≡ told_of node xs ++ told_of node ys →
-        cond b (x.told ∷ told_of node (xs ++ ys)) (told_of node (xs ++ ys)) ≡ cond b (x.told ∷ told_of node xs) (told_of node xs) ++ told_of node ys
-    by_test true e = ap (λ ts. x.told ∷ ts) e
-    by_test false e = e
-
-pub of-same : (node bit : ℕ) (ts : List Told) → told_of node (lines bit node ts) ≡ ts
-of-same node bit [] = refl
-of-same node bit (t ∷ ts) =
-    ap (λ b. cond b (t ∷ told_of node (lines bit node ts)) (told_of node (lines bit node ts))) (eq-eqb node node refl) ∙ ap (λ xs. t ∷ xs) (of-same node bit ts)
-
-pub of-other : (node bit n : ℕ) (ts : List Told) → n ≢ node → told_of node (lines bit n ts) ≡ []
-of-other node bit n [] ne = refl
-of-other node bit n (t ∷ ts) ne =
-    ap (λ b. cond b (t ∷ told_of node (lines bit n ts)) (told_of node (lines bit n ts))) (ne_eqb n node ne) ∙ of-other node bit n ts ne
-
--- nodes behind this one tell nothing of it
-of-behind : (tells : Deed → List Told) (bit first node : ℕ) (members : List Member) → node < first → told_of node (told_by tells bit first members) ≡ []
-unfolding told_by
-of-behind tells bit first node [] less = refl
-of-behind tells bit first node (m ∷ ms) less =
-    of-append node (lines bit first (tells m.deed)) (told_by tells bit (first + 1) ms)
-    ∙ ap (λ xs. xs ++ told_of node (told_by tells bit (first + 1) ms)) (of-other node bit first (tells m.deed) (λ e. omega (arith, e, less)))
-    ∙ of-behind tells bit (first + 1) node ms (omega (arith, less))
-
--- nor do nodes in front of it
-of-front : (tells : Deed → List Told) (bit first node : ℕ) (members : List Member) → first + length members ≤ node → told_of node (told_by tells bit first members) ≡ []
-unfolding told_by
-of-front tells bit first node [] more = refl
-of-front tells bit first node (m ∷ ms) more =
-    of-append node (lines bit first (tells m.deed)) (told_by tells bit (first + 1) ms)
-    ∙ ap (λ xs. xs ++ told_of node (told_by tells bit (first + 1) ms)) (of-other node bit first (tells m.deed) (λ e. omega (arith, e, more)))
-    ∙ of-front tells bit (first + 1) node ms (omega (arith, more))
-
--- and each node tells its own
-of-its_own : (tells : Deed → List Told) (bit first k : ℕ) (members : List Member) (m : Member) → slice_get members k ≡ Some m → told_of (first + k) (told_by tells bit first members) ≡ tells m.deed
-unfolding told_by
-of-its_own tells bit first k [] m e = absurd (cc e)
-of-its_own tells bit first zero (x ∷ ms) m e =
-    let here : first + 0 ≡ first = omega arith in
-    let same : x ≡ m = cc e in
-    ap (λ n. told_of n (lines bit first (tells x.deed) ++ told_by tells bit (first + 1) ms)) here
-    ∙ of-append first (lines bit first (tells x.deed)) (told_by tells bit (first + 1) ms)
-    ∙ ap (λ xs. xs ++ told_of first (told_by tells bit (first + 1) ms)) (of-same first bit (tells x.deed))
-    ∙ ap (λ xs. tells x.deed ++ xs) (of-behind tells bit (first + 1) first ms (omega arith))
-    ∙ append-nil (tells x.deed) ∙ ap (λ y. tells y.deed) same
-of-its_own tells bit first (suc k) (x ∷ ms) m e =
-    let here : first + suc k ≡ first + 1 + k = omega arith in
-    of-append (first + suc k) (lines bit first (tells x.deed)) (told_by tells bit (first + 1) ms)
-    ∙ ap (λ xs. xs ++ told_of (first + suc k) (told_by tells bit (first + 1) ms)) (of-other (first + suc k) bit first (tells x.deed) (λ e. omega (arith, e)))
-    ∙ ap (λ n. told_of n (told_by tells bit (first + 1) ms)) here ∙ of-its_own tells bit (first + 1) k ms m e
-
--- what the lines of a bit tell of a controller
-pub of_controller : (bit : ℕ) (talkers controllers : List Member) (k : ℕ) (m : Member) → slice_get controllers k ≡ Some m →
-    told_of (length talkers + k) (bit_lines bit talkers controllers) ≡ start_of m.deed ++ rest_by m.deed
-of_controller bit talkers controllers k m e =
-    let n = length talkers + k in
-    let half : (tells : Deed → List Told) → told_of n (told_by tells bit 0 talkers ++ told_by tells bit (length talkers) controllers) ≡ tells m.deed =
-    λ tells. of-append n (told_by tells bit 0 talkers) (told_by tells bit (length talkers) controllers)
-    ∙ ap (λ xs. xs ++ told_of n (told_by tells bit (length talkers) controllers)) (of-front tells bit 0 n talkers (omega arith))
-    ∙ of-its_own tells bit (length talkers) k controllers m e in
-    of-append n (told_by start_of bit 0 talkers ++ told_by start_of bit (length talkers) controllers) (told_by rest_by bit 0 talkers ++ told_by rest_by bit (length talkers) controllers)
-    ∙ ap (λ xs. xs ++ told_of n (told_by rest_by bit 0 talkers ++ told_by rest_by bit (length talkers) controllers)) (half start_of)
-    ∙ ap (λ xs. start_of m.deed ++ xs) (half rest_by)
-
-pub all-append : {X : Type 0} (names : Told → List X) (xs ys : List Told) → all_in names (xs ++ ys) ≡ all_in names xs ++ all_in names ys
+pub all-append : {X : Type 0} (names : Told → List X) (xs ys : List Told) → all_in names (xs ++ ys) ≡ all_in names xs
+    ++ all_in names ys
 all-append names [] ys = refl
-all-append names (x ∷ xs) ys = ap (λ ts. names x ++ ts) (all-append names xs ys) ∙ sym (append_assoc (names x) (all_in names xs) (all_in names ys))
+all-append names (x ∷ xs) ys =
+    ap (λ ts. names x ++ ts) (all-append names xs ys) ∙ sym (append_assoc (names x) (all_in names xs) (all_in names ys))
 
 same_past : (a b : BusPast) → a.started ≡ b.started → a.done ≡ b.done → a.reaped ≡ b.reaped → a ≡ b
 same_past a b s d r =
-    ap (λ xs. record { started = xs; done = a.done; reaped = a.reaped }) s ∙ ap (λ xs. record { started = b.started; done = xs; reaped = a.reaped }) d
+    ap (λ xs. record { started = xs; done = a.done; reaped = a.reaped }) s
+        ∙ ap (λ xs. record { started = b.started; done = xs; reaped = a.reaped }) d
     ∙ ap (λ xs. record { started = b.started; done = b.done; reaped = xs }) r
 
 -- a past with these lists behind its own
 abbrev with_lists : BusPast → List Item → List Item → List (ℕ × ℕ) → BusPast
-with_lists past started_too sent_too reaped_too = record { started = past.started ++ started_too; done = past.done ++ sent_too; reaped = past.reaped ++ reaped_too }
+with_lists past started_too sent_too reaped_too =
+    record { started = past.started ++ started_too; done = past.done ++ sent_too; reaped = past.reaped ++ reaped_too }
 
-same_lists : (past : BusPast) (s t : List Item) (d e : List Item) (q r : List (ℕ × ℕ)) → s ≡ t → d ≡ e → q ≡ r → with_lists past s d q ≡ with_lists past t e r
-same_lists past s t d e q r es ed er = ap (λ xs. with_lists past xs d q) es ∙ ap (λ xs. with_lists past t xs q) ed ∙ ap (λ xs. with_lists past t e xs) er
+same_lists : (past : BusPast) (s t : List Item) (d e : List Item) (q r : List (ℕ × ℕ)) → s ≡ t → d ≡ e → q ≡ r →
+    with_lists past s d q ≡ with_lists past t e r
+same_lists past s t d e q r es ed er =
+    ap (λ xs. with_lists past xs d q) es ∙ ap (λ xs. with_lists past t xs q) ed ∙ ap (λ xs. with_lists past t e xs) er
 
 plain_lists : (past : BusPast) → with_lists past [] [] [] ≡ past
-plain_lists past = same_past (with_lists past [] [] []) past (append-nil past.started) (append-nil past.done) (append-nil past.reaped)
+plain_lists past =
+    same_past (with_lists past [] [] []) past (append-nil past.started) (append-nil past.done) (append-nil past.reaped)
 
 pub grown-nil : (past : BusPast) → grown past [] ≡ past
 grown-nil past = plain_lists past
 
 pub grown-append : (past : BusPast) (xs ys : List Told) → grown past (xs ++ ys) ≡ grown (grown past xs) ys
-grown-append past xs ys = same_past (grown past (xs ++ ys)) (grown (grown past xs) ys) (more start_in past.started) (more sent_in past.done) (more reaped_in past.reaped)
+grown-append past xs ys = same_past (grown past (xs ++ ys)) (grown (grown past xs) ys) (more start_in past.started)
+    (more sent_in past.done) (more reaped_in past.reaped)
   where
-    more : {X : Type 0} (names : Told → List X) (before : List X) → before ++ all_in names (xs ++ ys) ≡ (before ++ all_in names xs) ++ all_in names ys
-    more names before = ap (λ zs. before ++ zs) (all-append names xs ys) ∙ sym (append_assoc before (all_in names xs) (all_in names ys))
+    more : {X : Type 0} (names : Told → List X) (before : List X) → before
+        ++ all_in names (xs ++ ys) ≡ (before ++ all_in names xs) ++ all_in names ys
+    more names before =
+        ap (λ zs. before ++ zs) (all-append names xs ys) ∙ sym (append_assoc before (all_in names xs) (all_in names ys))
 
 -- one line
-grown-one : (past : BusPast) (one : Told) → grown past (one ∷ []) ≡ with_lists past (start_in one) (sent_in one) (reaped_in one)
-grown-one past one = same_lists past (all_in start_in (one ∷ [])) (start_in one) (all_in sent_in (one ∷ [])) (sent_in one) (all_in reaped_in (one ∷ [])) (reaped_in one) (append-nil (start_in one)) (append-nil (sent_in one)) (append-nil (reaped_in one))
+grown-one : (past : BusPast) (one : Told) → grown past (one ∷ []) ≡ with_lists past (start_in one) (sent_in one)
+    (reaped_in one)
+grown-one past one = same_lists past (all_in start_in (one ∷ [])) (start_in one) (all_in sent_in (one ∷ []))
+    (sent_in one) (all_in reaped_in (one ∷ [])) (reaped_in one) (append-nil (start_in one)) (append-nil (sent_in one))
+    (append-nil (reaped_in one))
 
 -- lines that name nothing
-grown-idle : (past : BusPast) (one : Told) → start_in one ≡ [] → sent_in one ≡ [] → reaped_in one ≡ [] → grown past (one ∷ []) ≡ past
-grown-idle past one s d r = grown-one past one ∙ same_lists past (start_in one) [] (sent_in one) [] (reaped_in one) [] s d r ∙ plain_lists past
+grown-idle : (past : BusPast) (one : Told) → start_in one ≡ [] → sent_in one ≡ [] → reaped_in one ≡ [] →
+    grown past (one ∷ []) ≡ past
+grown-idle past one s d r =
+    grown-one past one ∙ same_lists past (start_in one) [] (sent_in one) [] (reaped_in one) [] s d r ∙ plain_lists past
 
-start_label : (past : BusPast) (frame : FrameValue) (label : Option Label) → with_lists past (option_to_list (item_with frame label)) [] [] ≡ started past (item_with frame label)
+start_label : (past : BusPast) (frame : FrameValue) (label : Option Label) →
+    with_lists past (option_to_list (item_with frame label)) [] [] ≡ started past (item_with frame label)
 start_label past frame None = plain_lists past
-start_label past frame (Some label) = same_past (with_lists past ((label.route, label.number, frame) ∷ []) [] []) (started past (Some (label.route, label.number, frame))) refl (append-nil past.done) (append-nil past.reaped)
+start_label past frame (Some label) = same_past (with_lists past ((label.route, label.number, frame) ∷ []) [] [])
+    (started past (Some (label.route, label.number, frame))) refl (append-nil past.done) (append-nil past.reaped)
 
-grown_start : (past : BusPast) (begun : Option Transmission) → grown past (told_start begun) ≡ started past (item_of begun)
+grown_start : (past : BusPast) (begun : Option Transmission) →
+    grown past (told_start begun) ≡ started past (item_of begun)
 grown_start past None = grown-nil past
-grown_start past (Some sent) = grown-one past (told.Started sent.frame sent.label) ∙ start_label past sent.frame sent.label
+grown_start past (Some sent) =
+    grown-one past (told.Started sent.frame sent.label) ∙ start_label past sent.frame sent.label
 
-sent_label : (past : BusPast) (frame : FrameValue) (label : Option Label) → with_lists past [] (option_to_list (item_with frame label)) [] ≡ completed past (item_with frame label)
+sent_label : (past : BusPast) (frame : FrameValue) (label : Option Label) →
+    with_lists past [] (option_to_list (item_with frame label)) [] ≡ completed past (item_with frame label)
 sent_label past frame None = plain_lists past
-sent_label past frame (Some label) = same_past (with_lists past [] ((label.route, label.number, frame) ∷ []) []) (completed past (Some (label.route, label.number, frame))) (append-nil past.started) refl (append-nil past.reaped)
+sent_label past frame (Some label) = same_past (with_lists past [] ((label.route, label.number, frame) ∷ []) [])
+    (completed past (Some (label.route, label.number, frame))) (append-nil past.started) refl (append-nil past.reaped)
 
-grown_sent : (past : BusPast) (sending : Option Transmission) → grown past (told_outcome sending Completed) ≡ completed past (item_of sending)
+grown_sent : (past : BusPast) (sending : Option Transmission) →
+    grown past (told_outcome sending Completed) ≡ completed past (item_of sending)
 grown_sent past None = grown-nil past
-grown_sent past (Some sent) = grown-one past (told.Completed sent.start sent.frame sent.label) ∙ sent_label past sent.frame sent.label
+grown_sent past (Some sent) =
+    grown-one past (told.Completed sent.start sent.frame sent.label) ∙ sent_label past sent.frame sent.label
 
 -- a failure without a reaped request brings nothing new
 idle_failure : (past : BusPast) (item : Option Item) → failed past item None ≡ past
@@ -154,21 +110,27 @@ lost_idle past None = grown-nil past
 lost_idle past (Some sent) = grown-idle past (told.Lost sent.start) refl refl refl
 
 -- without a reaped request
-settles_plain : (past : BusPast) (sending : Option Transmission) (outcome : Outcome) → grown past (told_outcome sending outcome) ≡ settled past (item_of sending) outcome None
+settles_plain : (past : BusPast) (sending : Option Transmission) (outcome : Outcome) →
+    grown past (told_outcome sending outcome) ≡ settled past (item_of sending) outcome None
 settles_plain past sending Nothing = grown-nil past
 settles_plain past sending (Took start frame) = grown-idle past (told.Took start frame) refl refl refl
 settles_plain past sending Completed = grown_sent past sending
 settles_plain past sending Lost = lost_idle past sending ∙ sym (idle_failure past (item_of sending))
-settles_plain past sending (Errored kind) = grown-idle past (told.Error kind) refl refl refl ∙ sym (idle_failure past (item_of sending))
+settles_plain past sending (Errored kind) =
+    grown-idle past (told.Error kind) refl refl refl ∙ sym (idle_failure past (item_of sending))
 settles_plain past sending WentOff = grown-idle past told.Off refl refl refl ∙ sym (idle_failure past (item_of sending))
 settles_plain past sending CameBack = grown-idle past told.Back refl refl refl
 
 -- a failed request was reaped
-reaps_one : (past : BusPast) (item : Item) (label : Label) → grown past (told_reaped (Some label)) ≡ failed past (Some item) (Some label)
+reaps_one : (past : BusPast) (item : Item) (label : Label) → grown past (told_reaped (Some label))
+    ≡ failed past (Some item) (Some label)
 reaps_one past item label =
-    grown-one past (told.Reaped label) ∙ same_past (with_lists past [] [] ((label.route, label.number) ∷ [])) (failed past (Some item) (Some label)) (append-nil past.started) (append-nil past.done) refl
+    grown-one past (told.Reaped label) ∙ same_past (with_lists past [] [] ((label.route, label.number) ∷ []))
+        (failed past (Some item) (Some label)) (append-nil past.started) (append-nil past.done) refl
 
-failure_alike : (outcome : Outcome) → is_failure outcome ≡ true → (past : BusPast) (item : Option Item) (reaped : Option Label) → settled past item outcome reaped ≡ failed past item reaped
+failure_alike : (outcome : Outcome) → is_failure outcome ≡ true →
+    (past : BusPast) (item : Option Item) (reaped : Option Label) →
+    settled past item outcome reaped ≡ failed past item reaped
 failure_alike Nothing f past item reaped = absurd (cc f)
 failure_alike (Took start frame) f past item reaped = absurd (cc f)
 failure_alike Completed f past item reaped = absurd (cc f)
@@ -177,23 +139,31 @@ failure_alike (Errored kind) f past item reaped = refl
 failure_alike WentOff f past item reaped = refl
 failure_alike CameBack f past item reaped = absurd (cc f)
 
-settles_reaped : (past : BusPast) (sending : Option Transmission) (outcome : Outcome) (label : Label) → Reaps sending outcome label →
-    grown past (told_outcome sending outcome ++ told_reaped (Some label)) ≡ settled past (item_of sending) outcome (Some label)
+settles_reaped : (past : BusPast) (sending : Option Transmission) (outcome : Outcome) (label : Label) →
+    Reaps sending outcome label →
+    grown past (told_outcome sending outcome ++ told_reaped (Some label))
+    ≡ settled past (item_of sending) outcome (Some label)
 settles_reaped past sending outcome label r =
-    let item : item_of sending ≡ Some (label.route, label.number, r.sent.frame) = ap item_of r.sends ∙ ap (item_with r.sent.frame) r.label_is in
+    let item : item_of sending ≡ Some (label.route, label.number, r.sent.frame) =
+        ap item_of r.sends ∙ ap (item_with r.sent.frame) r.label_is in
     grown-append past (told_outcome sending outcome) (told_reaped (Some label))
-    ∙ ap (λ p. grown p (told_reaped (Some label))) (settles_plain past sending outcome ∙ failure_alike outcome r.fails past (item_of sending) None ∙ idle_failure past (item_of sending))
+    ∙ ap (λ p. grown p (told_reaped (Some label))) (settles_plain past sending outcome
+        ∙ failure_alike outcome r.fails past (item_of sending) None ∙ idle_failure past (item_of sending))
     ∙ reaps_one past (label.route, label.number, r.sent.frame) label ∙ ap (λ i. failed past i (Some label)) (sym item)
     ∙ sym (failure_alike outcome r.fails past (item_of sending) (Some label))
 
-grown_settled : (past : BusPast) (sending : Option Transmission) (outcome : Outcome) (reaped : Option Label) → IfSome reaped (λ label. Reaps sending outcome label) →
+grown_settled : (past : BusPast) (sending : Option Transmission) (outcome : Outcome) (reaped : Option Label) →
+    IfSome reaped (λ label. Reaps sending outcome label) →
     grown past (told_outcome sending outcome ++ told_reaped reaped) ≡ settled past (item_of sending) outcome reaped
-grown_settled past sending outcome None h = ap (grown past) (append-nil (told_outcome sending outcome)) ∙ settles_plain past sending outcome
+grown_settled past sending outcome None h =
+    ap (grown past) (append-nil (told_outcome sending outcome)) ∙ settles_plain past sending outcome
 grown_settled past sending outcome (Some label) h = settles_reaped past sending outcome label h
 
 -- what a deed brings to the bus side is what is told of it
-pub brings : (past : BusPast) (begun : Option Transmission) (deed : Deed) → IfSome deed.reaped (λ label. Reaps deed.sent deed.outcome label) →
-    grown past (told_start begun ++ rest_by deed) ≡ settled (started past (item_of begun)) (item_of deed.sent) deed.outcome deed.reaped
+pub brings : (past : BusPast) (begun : Option Transmission) (deed : Deed) →
+    IfSome deed.reaped (λ label. Reaps deed.sent deed.outcome label) →
+    grown past (told_start begun ++ rest_by deed) ≡ settled (started past (item_of begun))
+    (item_of deed.sent) deed.outcome deed.reaped
 brings past begun deed h =
     grown-append past (told_start begun) (rest_by deed) ∙ ap (λ p. grown p (rest_by deed)) (grown_start past begun)
     ∙ grown_settled (started past (item_of begun)) deed.sent deed.outcome deed.reaped h
@@ -206,7 +176,8 @@ taken_reaped : (reaped : Option Label) → all_in taken_in (told_reaped reaped) 
 taken_reaped None = refl
 taken_reaped (Some label) = refl
 
-taken_outcome : (sending : Option Transmission) (outcome : Outcome) → all_in taken_in (told_outcome sending outcome) ≡ taken_by outcome
+taken_outcome : (sending : Option Transmission) (outcome : Outcome) →
+    all_in taken_in (told_outcome sending outcome) ≡ taken_by outcome
 taken_outcome sending Nothing = refl
 taken_outcome sending (Took start frame) = refl
 taken_outcome None Completed = refl
@@ -218,11 +189,14 @@ taken_outcome sending WentOff = refl
 taken_outcome sending CameBack = refl
 
 -- and so it is with the sink
-pub takes : (begun : Option Transmission) (deed : Deed) → all_in taken_in (told_start begun ++ rest_by deed) ≡ taken_by deed.outcome
+pub takes : (begun : Option Transmission) (deed : Deed) → all_in taken_in (told_start begun ++ rest_by deed)
+    ≡ taken_by deed.outcome
 takes begun deed =
-    all-append taken_in (told_start begun) (rest_by deed) ∙ ap (λ xs. xs ++ all_in taken_in (rest_by deed)) (taken_start begun)
+    all-append taken_in (told_start begun) (rest_by deed)
+        ∙ ap (λ xs. xs ++ all_in taken_in (rest_by deed)) (taken_start begun)
     ∙ all-append taken_in (told_outcome deed.sent deed.outcome) (told_reaped deed.reaped)
-    ∙ ap (λ xs. all_in taken_in (told_outcome deed.sent deed.outcome) ++ xs) (taken_reaped deed.reaped) ∙ append-nil _ ∙ taken_outcome deed.sent deed.outcome
+    ∙ ap (λ xs. all_in taken_in (told_outcome deed.sent deed.outcome) ++ xs) (taken_reaped deed.reaped) ∙ append-nil _
+    ∙ taken_outcome deed.sent deed.outcome
 
 one_taken : (outcome : Outcome) → length (taken_by outcome) ≤ 1
 one_taken Nothing = omega arith
@@ -237,7 +211,8 @@ start_started : (begun : Option Transmission) → all_in start_in (told_start be
 start_started None = refl
 start_started (Some sent) = append-nil (option_to_list (item_with sent.frame sent.label))
 
-start_outcome : (sending : Option Transmission) (outcome : Outcome) → all_in start_in (told_outcome sending outcome) ≡ []
+start_outcome : (sending : Option Transmission) (outcome : Outcome) →
+    all_in start_in (told_outcome sending outcome) ≡ []
 start_outcome sending Nothing = refl
 start_outcome sending (Took start frame) = refl
 start_outcome None Completed = refl
@@ -253,19 +228,26 @@ start_reaped None = refl
 start_reaped (Some label) = refl
 
 -- the line of a start names what began
-starts_told : (begun : Option Transmission) (deed : Deed) → all_in start_in (told_start begun ++ rest_by deed) ≡ option_to_list (item_of begun)
+starts_told : (begun : Option Transmission) (deed : Deed) → all_in start_in (told_start begun ++ rest_by deed)
+    ≡ option_to_list (item_of begun)
 starts_told begun deed =
     all-append start_in (told_start begun) (rest_by deed)
-    ∙ ap (λ xs. all_in start_in (told_start begun) ++ xs) (all-append start_in (told_outcome deed.sent deed.outcome) (told_reaped deed.reaped)
-    ∙ ap (λ xs. xs ++ all_in start_in (told_reaped deed.reaped)) (start_outcome deed.sent deed.outcome) ∙ start_reaped deed.reaped)
+    ∙ ap (λ xs. all_in start_in (told_start begun) ++ xs)
+        (all-append start_in (told_outcome deed.sent deed.outcome) (told_reaped deed.reaped)
+    ∙ ap (λ xs. xs ++ all_in start_in (told_reaped deed.reaped)) (start_outcome deed.sent deed.outcome)
+    ∙ start_reaped deed.reaped)
     ∙ append-nil _ ∙ start_started begun
 
 -- the only lines that name a start are those of what begins
-pub starts_undone-append : (past : BusPast) (xs ys : List Told) → StartsUndone past xs → StartsUndone (grown past xs) ys → StartsUndone past (xs ++ ys)
+pub starts_undone-append : (past : BusPast) (xs ys : List Told) → StartsUndone past xs →
+    StartsUndone (grown past xs) ys → StartsUndone past (xs ++ ys)
 starts_undone-append past [] ys h k = subst (λ p. StartsUndone p ys) (grown-nil past) k
-starts_undone-append past (x ∷ xs) ys h k = (h.0, starts_undone-append (grown past (x ∷ [])) xs ys h.1 (subst (λ p. StartsUndone p ys) (grown-append past (x ∷ []) xs) k))
+starts_undone-append past (x ∷ xs) ys h k =
+    (h.0, starts_undone-append (grown past (x ∷ [])) xs ys h.1
+    (subst (λ p. StartsUndone p ys) (grown-append past (x ∷ []) xs) k))
 
-none_started : (past : BusPast) (sending : Option Transmission) (outcome : Outcome) → StartsUndone past (told_outcome sending outcome)
+none_started : (past : BusPast) (sending : Option Transmission) (outcome : Outcome) →
+    StartsUndone past (told_outcome sending outcome)
 none_started past sending Nothing = tt
 none_started past sending (Took start frame) = (tt, tt)
 none_started past None Completed = tt
@@ -284,23 +266,29 @@ each_undone : (past : BusPast) (item : Option Item) → Undone past item → Eac
 each_undone past None h = tt
 each_undone past (Some x) h = (h, tt)
 
-one_started : (past : BusPast) (begun : Option Transmission) → Undone past (item_of begun) → StartsUndone past (told_start begun)
+one_started : (past : BusPast) (begun : Option Transmission) → Undone past (item_of begun) →
+    StartsUndone past (told_start begun)
 one_started past None h = tt
 one_started past (Some sent) h = (each_undone past (item_with sent.frame sent.label) h, tt)
 
-undone_told : (past : BusPast) (begun : Option Transmission) (deed : Deed) → Undone past (item_of begun) → StartsUndone past (told_start begun ++ rest_by deed)
+undone_told : (past : BusPast) (begun : Option Transmission) (deed : Deed) → Undone past (item_of begun) →
+    StartsUndone past (told_start begun ++ rest_by deed)
 undone_told past begun deed h =
     starts_undone-append past (told_start begun) (rest_by deed) (one_started past begun h)
-    (starts_undone-append (grown past (told_start begun)) (told_outcome deed.sent deed.outcome) (told_reaped deed.reaped) (none_started (grown past (told_start begun)) deed.sent deed.outcome)
+    (starts_undone-append (grown past (told_start begun)) (told_outcome deed.sent deed.outcome)
+        (told_reaped deed.reaped) (none_started (grown past (told_start begun)) deed.sent deed.outcome)
     (none_reaped (grown (grown past (told_start begun)) (told_outcome deed.sent deed.outcome)) deed.reaped))
 
 -- a node that is not on yet
 early : (on bit : ℕ) → nat_le on bit ≡ false → bit < on
 early on bit e = elim (leb_tells on bit) [ inl is ↦ absurd (cc (e, is.0)) | inr isnt ↦ isnt.1 ]
 
-pub port_brought : {P : Type 0} (after : P → BusPast → Type 0) (asked : P → List BusCall → Type 0) (transmitting : P → Option Item) (sink : P → List FrameValue → Type 0) (stays : P → P → Type 0)
-    (bit : ℕ) (wants : Bool) (tells : List Told) (m : Member) (p q : P) → tells ≡ start_of m.deed ++ rest_by m.deed → (bit < m.on → m.deed ≡ no_deed) →
-    PortMoves after asked transmitting sink stays bit wants m p q → IsBrought after asked transmitting sink stays tells wants (item_of m.station.sending) p q
+pub port_brought : {P : Type 0} (after : P → BusPast → Type 0) (asked : P → List BusCall → Type 0)
+    (transmitting : P → Option Item) (sink : P → List FrameValue → Type 0) (stays : P → P → Type 0)
+    (bit : ℕ) (wants : Bool) (tells : List Told) (m : Member) (p q : P) → tells ≡ start_of m.deed ++ rest_by m.deed →
+        (bit < m.on → m.deed ≡ no_deed) →
+    PortMoves after asked transmitting sink stays bit wants m p q →
+        IsBrought after asked transmitting sink stays tells wants (item_of m.station.sending) p q
 port_brought after asked transmitting sink stays bit wants tells m p q told quiet moves = record {
   bus = λ past h. subst (λ ts. after q (grown past ts)) (sym told) (bus_by past (is_on bit m) refl (moves.bus past h));
   undone = λ past h. subst (StartsUndone past) (sym told) (undone_by past (is_on bit m) refl (moves.undone past h));
@@ -308,28 +296,36 @@ port_brought after asked transmitting sink stays bit wants tells m p q told quie
   begins_is = ap (all_in start_in) told ∙ begins_by (is_on bit m) refl;
   asks = moves.asks;
   transmits = moves.transmits;
-  offers = λ past h. subst (λ ts. sink q (past ++ all_in taken_in ts)) (sym told) (sink_by past (is_on bit m) refl (moves.offers past h));
-  one_at_most = subst (λ ts. length (all_in taken_in ts) ≤ 1) (sym told) (subst (λ fs. length fs ≤ 1) (sym (takes (begun_by m.deed) m.deed)) (one_taken m.deed.outcome));
+  offers = λ past h. subst (λ ts. sink q (past ++ all_in taken_in ts)) (sym told)
+      (sink_by past (is_on bit m) refl (moves.offers past h));
+  one_at_most = subst (λ ts. length (all_in taken_in ts) ≤ 1) (sym told)
+      (subst (λ fs. length fs ≤ 1) (sym (takes (begun_by m.deed) m.deed)) (one_taken m.deed.outcome));
   stays_on = moves.stays_on;
 }
   where
-    begins_by : (on : Bool) → is_on bit m ≡ on → all_in start_in (start_of m.deed ++ rest_by m.deed) ≡ option_to_list (item_of (cond on (begun_by m.deed) None))
+    begins_by : (on : Bool) → is_on bit m ≡ on → all_in start_in (start_of m.deed ++ rest_by m.deed)
+        ≡ option_to_list (item_of (cond on (begun_by m.deed) None))
     begins_by true e = starts_told (begun_by m.deed) m.deed
     begins_by false e = ap (λ d. all_in start_in (start_of d ++ rest_by d)) (quiet (early m.on bit e))
 
-    bus_by : (past : BusPast) (on : Bool) → is_on bit m ≡ on → after q (settled_at on (started past (item_of (cond on (begun_by m.deed) None))) m.deed) → after q (grown past (start_of m.deed ++ rest_by m.deed))
+    bus_by : (past : BusPast) (on : Bool) → is_on bit m ≡ on →
+        after q (settled_at on (started past (item_of (cond on (begun_by m.deed) None))) m.deed) →
+        after q (grown past (start_of m.deed ++ rest_by m.deed))
     bus_by past true e h = subst (after q) (sym (brings past (begun_by m.deed) m.deed (moves.reaps e))) h
     bus_by past false e h =
         let idle : m.deed ≡ no_deed = quiet (early m.on bit e) in
-        subst (λ d. after q (grown past (start_of d ++ rest_by d))) (sym idle) (subst (after q) (sym (grown-nil past)) h)
+        subst (λ d. after q (grown past (start_of d ++ rest_by d))) (sym idle)
+            (subst (after q) (sym (grown-nil past)) h)
 
-    sink_by : (past : List FrameValue) (on : Bool) → is_on bit m ≡ on → sink q (past ++ taken_at on m.deed) → sink q (past ++ all_in taken_in (start_of m.deed ++ rest_by m.deed))
+    sink_by : (past : List FrameValue) (on : Bool) → is_on bit m ≡ on → sink q (past ++ taken_at on m.deed) →
+        sink q (past ++ all_in taken_in (start_of m.deed ++ rest_by m.deed))
     sink_by past true e h = subst (λ fs. sink q (past ++ fs)) (sym (takes (begun_by m.deed) m.deed)) h
     sink_by past false e h =
         let idle : m.deed ≡ no_deed = quiet (early m.on bit e) in
         subst (λ d. sink q (past ++ all_in taken_in (start_of d ++ rest_by d))) (sym idle) h
 
-    undone_by : (past : BusPast) (on : Bool) → is_on bit m ≡ on → Undone past (item_of (cond on (begun_by m.deed) None)) → StartsUndone past (start_of m.deed ++ rest_by m.deed)
+    undone_by : (past : BusPast) (on : Bool) → is_on bit m ≡ on →
+        Undone past (item_of (cond on (begun_by m.deed) None)) → StartsUndone past (start_of m.deed ++ rest_by m.deed)
     undone_by past true e h = undone_told past (begun_by m.deed) m.deed h
     undone_by past false e h =
         let idle : m.deed ≡ no_deed = quiet (early m.on bit e) in

@@ -1,5 +1,6 @@
 -- The acts of all nodes at a bit, collected from what is known of each.
-use Rattle.std.proofs.Common.{◌≡◌, ℕ, zero, suc, ◌+◌, Bool, ◌&&◌, Option, Some, List, [], ◌∷◌, ◌++◌, length, slice_get, refl, sym, ap, subst, arith, ◌∙◌, append_assoc}
+use Rattle.std.proofs.Common.{◌≡◌, ℕ, zero, suc, ◌+◌, Bool, ◌&&◌, Option, Some, List, [], ◌∷◌, ◌++◌, length, slice_get}
+use Rattle.std.proofs.Common.{refl, sym, ap, subst, arith, ◌∙◌, append_assoc}
 use Rattle.std.specs.List.{list_all}
 use Rattle.can_station.specs.declared.event.Told.{Told}
 use Rattle.can_station.specs.declared.member.Deed.{Deed}
@@ -10,17 +11,21 @@ use Rattle.can_segment.specs.Tells.{lines_from}
 use Rattle.can_station.specs.Tellings.{told_by}
 
 -- an act for each node, of which this is known
-pub record Collected {X : Type 0} (A : X → ℕ → Member → Member → Option Act → Type 0) (k : ℕ) (xs : List X) (mids afters : List Member) : Type 0 where
+pub record Collected {X : Type 0} (A : X → ℕ → Member → Member → Option Act → Type 0) (k : ℕ) (xs : List X)
+    (mids afters : List Member) : Type 0 where
   pub acts : List (Option Act)
   pub size : length acts ≡ length xs
-  pub at : (i : ℕ) (x : X) (mid after : Member) → slice_get xs i ≡ Some x → slice_get mids i ≡ Some mid → slice_get afters i ≡ Some after →
+  pub at : (i : ℕ) (x : X) (mid after : Member) → slice_get xs i ≡ Some x → slice_get mids i ≡ Some mid →
+      slice_get afters i ≡ Some after →
       (act : Option Act) × (slice_get acts i ≡ Some act) × A x (k + i) mid after act
 
 first_of : {X : Type 0} (a b : X) → Some a ≡ Some b → a ≡ b
 first_of a b e = cc e
 
-pub collect : {X : Type 0} (A : X → ℕ → Member → Member → Option Act → Type 0) (k : ℕ) (xs : List X) (mids afters : List Member) → length mids ≡ length xs → length afters ≡ length xs →
-    ((i : ℕ) (x : X) (mid after : Member) → slice_get xs i ≡ Some x → slice_get mids i ≡ Some mid → slice_get afters i ≡ Some after → (act : Option Act) × A x (k + i) mid after act) →
+pub collect : {X : Type 0} (A : X → ℕ → Member → Member → Option Act → Type 0) (k : ℕ) (xs : List X)
+    (mids afters : List Member) → length mids ≡ length xs → length afters ≡ length xs →
+    ((i : ℕ) (x : X) (mid after : Member) → slice_get xs i ≡ Some x → slice_get mids i ≡ Some mid →
+        slice_get afters i ≡ Some after → (act : Option Act) × A x (k + i) mid after act) →
     Collected A k xs mids afters
 collect A k [] mids afters em ea h = record { acts = []; size = refl; at = λ i x mid after p q r. absurd (cc p) }
 collect A k (x ∷ xs) [] afters em ea h = absurd (omega (arith, em))
@@ -28,16 +33,20 @@ collect A k (x ∷ xs) (m ∷ mids) [] em ea h = absurd (omega (arith, ea))
 collect {X = X} A k (x ∷ xs) (m ∷ mids) (a ∷ afters) em ea h =
     let first = h zero x m a refl refl refl in
     let rest = collect A (k + 1) xs mids afters (omega (arith, em)) (omega (arith, ea))
-    (λ i y mid after p q r. let next = h (suc i) y mid after p q r in (next.0, subst (λ n. A y n mid after next.0) (omega arith) next.1)) in
+    (λ i y mid after p q r. let next = h (suc i) y mid after p q r in
+        (next.0, subst (λ n. A y n mid after next.0) (omega arith) next.1)) in
     record { acts = first.0 ∷ rest.acts; size = omega (arith, rest.size); at = at_of first rest }
   where
-    at_of : (first : (act : Option Act) × A x (k + 0) m a act) (rest : Collected A (k + 1) xs mids afters) (i : ℕ) (y : X) (mid after : Member) → slice_get (x ∷ xs) i ≡ Some y →
-        slice_get (m ∷ mids) i ≡ Some mid → slice_get (a ∷ afters) i ≡ Some after → (act : Option Act) × (slice_get (first.0 ∷ rest.acts) i ≡ Some act) × A y (k + i) mid after act
+    at_of : (first : (act : Option Act) × A x (k + 0) m a act) (rest : Collected A (k + 1) xs mids afters) (i : ℕ)
+        (y : X) (mid after : Member) → slice_get (x ∷ xs) i ≡ Some y →
+        slice_get (m ∷ mids) i ≡ Some mid → slice_get (a ∷ afters) i ≡ Some after → (act : Option Act)
+        × (slice_get (first.0 ∷ rest.acts) i ≡ Some act) × A y (k + i) mid after act
     at_of first rest zero y mid after p q r =
         let ex : x ≡ y = first_of x y p in
         let eq : m ≡ mid = first_of m mid q in
         let er : a ≡ after = first_of a after r in
-        (first.0, refl, subst (λ z. A y (k + 0) mid z first.0) er (subst (λ z. A y (k + 0) z a first.0) eq (subst (λ z. A z (k + 0) m a first.0) ex first.1)))
+        (first.0, refl, subst (λ z. A y (k + 0) mid z first.0) er
+            (subst (λ z. A y (k + 0) z a first.0) eq (subst (λ z. A z (k + 0) m a first.0) ex first.1)))
     at_of first rest (suc i) y mid after p q r =
         let next = rest.at i y mid after p q r in
         (next.0, next.1, subst (λ n. A y n mid after next.0) (omega arith) next.2)
@@ -56,30 +65,38 @@ get_right (y ∷ xs) ys i = ap (slice_get (y ∷ (xs ++ ys))) (next i) ∙ get_r
 
 -- two lists of the same length on which two tests agree, place by place
 pub same_all : {X Y : Type 0} (p : X → Bool) (q : Y → Bool) (xs : List X) (ys : List Y) → length xs ≡ length ys →
-    ((i : ℕ) (x : X) (y : Y) → slice_get xs i ≡ Some x → slice_get ys i ≡ Some y → p x ≡ q y) → list_all p xs ≡ list_all q ys
+    ((i : ℕ) (x : X) (y : Y) → slice_get xs i ≡ Some x → slice_get ys i ≡ Some y → p x ≡ q y) →
+    list_all p xs ≡ list_all q ys
 same_all p q [] [] e h = refl
 same_all p q [] (y ∷ ys) e h = absurd (omega (arith, e))
 same_all p q (x ∷ xs) [] e h = absurd (omega (arith, e))
 same_all p q (x ∷ xs) (y ∷ ys) e h =
-    ap (λ b. b && list_all p xs) (h zero x y refl refl) ∙ ap (λ b. q y && b) (same_all p q xs ys (omega (arith, e)) (λ i a b ea eb. h (suc i) a b ea eb))
+    ap (λ b. b && list_all p xs) (h zero x y refl refl)
+        ∙ ap (λ b. q y && b) (same_all p q xs ys (omega (arith, e)) (λ i a b ea eb. h (suc i) a b ea eb))
 
 -- what is told of nodes by their places, and by their deeds
 pub lines_told : (tells : ℕ → List Told) (by : Deed → List Told) (bit node : ℕ) (members : List Member) →
-    ((i : ℕ) (m : Member) → slice_get members i ≡ Some m → tells (node + i) ≡ by m.deed) → lines_from tells bit node (length members) ≡ told_by by bit node members
+    ((i : ℕ) (m : Member) → slice_get members i ≡ Some m → tells (node + i) ≡ by m.deed) →
+    lines_from tells bit node (length members) ≡ told_by by bit node members
 unfolding told_by
 lines_told tells by bit node [] h = refl
 lines_told tells by bit node (m ∷ members) h =
-    ap (λ t. lines bit node t ++ lines_from tells bit (suc node) (length members)) (ap tells (omega arith) ∙ h zero m refl)
+    ap (λ t. lines bit node t ++ lines_from tells bit (suc node) (length members))
+        (ap tells (omega arith) ∙ h zero m refl)
     ∙ ap (λ es. lines bit node (by m.deed) ++ es) (ap (λ n. lines_from tells bit n (length members)) (omega arith)
     ∙ lines_told tells by bit (node + 1) members (λ i x e. ap tells (omega arith) ∙ h (suc i) x e))
 
-pub lines_split : (tells : ℕ → List Told) (bit node n m : ℕ) → lines_from tells bit node (n + m) ≡ lines_from tells bit node n ++ lines_from tells bit (node + n) m
-lines_split tells bit node zero m = ap (λ k. lines_from tells bit node k) (omega arith) ∙ ap (λ k. lines_from tells bit k m) (omega arith)
+pub lines_split : (tells : ℕ → List Told) (bit node n m : ℕ) →
+    lines_from tells bit node (n + m) ≡ lines_from tells bit node n ++ lines_from tells bit (node + n) m
+lines_split tells bit node zero m =
+    ap (λ k. lines_from tells bit node k) (omega arith) ∙ ap (λ k. lines_from tells bit k m) (omega arith)
 lines_split tells bit node (suc n) m =
     ap (λ k. lines_from tells bit node k) (next n m)
     ∙ ap (λ es. lines bit node (tells node) ++ es) (lines_split tells bit (suc node) n m)
-    ∙ sym (append_assoc (lines bit node (tells node)) (lines_from tells bit (suc node) n) (lines_from tells bit (suc node + n) m))
-    ∙ ap (λ k. (lines bit node (tells node) ++ lines_from tells bit (suc node) n) ++ lines_from tells bit k m) (omega arith)
+    ∙ sym (append_assoc (lines bit node (tells node)) (lines_from tells bit (suc node) n)
+        (lines_from tells bit (suc node + n) m))
+    ∙ ap (λ k. (lines bit node (tells node) ++ lines_from tells bit (suc node) n) ++ lines_from tells bit k m)
+        (omega arith)
   where
     next : (n m : ℕ) → suc n + m ≡ suc (n + m)
     next n m = omega arith

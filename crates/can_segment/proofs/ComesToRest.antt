@@ -1,5 +1,6 @@
 -- Nodes that come to rest between two bits.
-use Rattle.std.proofs.Common.{◌≡◌, ◌≢◌, ℕ, ◌+◌, ◌<◌, ◌≤◌, inl, inr, Bool, true, false, Some, None, List, length, map, slice_get, set, refl, sym, ap, subst, arith, ◌∙◌}
+use Rattle.std.proofs.Common.{◌≡◌, ◌≢◌, ℕ, ◌+◌, ◌<◌, ◌≤◌, inl, inr, Bool, true, false, Some, None, List, length, map}
+use Rattle.std.proofs.Common.{slice_get, set, refl, sym, ap, subst, arith, ◌∙◌}
 use Rattle.std.proofs.lemmas.Bool.{cases_lt}
 use Rattle.std.proofs.lemmas.List.{length-map}
 use Rattle.std.proofs.lemmas.Option.{slice_get_within}
@@ -13,7 +14,8 @@ use Rattle.can_segment.specs.declared.rest.Rest.{Rest}
 use Rattle.can_station.specs.declared.span.Span.{Span}
 use Rattle.can_station.specs.Deeds.{IsQuiet, no_deed}
 use Rattle.can_station.specs.Places.{AtPlaces, AtPlacesBelow}
-use Rattle.can_station.specs.RestingNodes.{AreAlike, AwakeWithin, IfAwake, IsAlike, MayFallSilent, MayLieDown, MayRest, NoneRests, laid_down, woken}
+use Rattle.can_station.specs.RestingNodes.{AreAlike, AwakeWithin, IfAwake, IsAlike, MayFallSilent, MayLieDown, MayRest}
+use Rattle.can_station.specs.RestingNodes.{NoneRests, laid_down, woken}
 use Rattle.can_segment.specs.Rests.{AreResting, AreSpent, Chooses, IsLess, IsResting, Lulls, members_at}
 use Rattle.can_segment.proofs.Holds.{not_resting, same_rests}
 use Rattle.can_station.proofs.Places.{some_there, get_set_other, get_set_same, places_step, same_some}
@@ -21,7 +23,8 @@ use Rattle.can_segment.proofs.Shown.{map_at}
 use Rattle.can_segment.proofs.Woken.{awake_woken, none_resting}
 
 -- each is like one of which something else is told, or nothing
-like_told : (m : Member) (deed : Deed) → (m.deed ≡ no_deed → deed ≡ no_deed) → IsAlike m (record { on = m.on; rests = m.rests; station = m.station; deed = deed })
+like_told : (m : Member) (deed : Deed) → (m.deed ≡ no_deed → deed ≡ no_deed) →
+    IsAlike m (record { on = m.on; rests = m.rests; station = m.station; deed = deed })
 like_told m deed none = record {
   on_is = refl;
   sending_is = refl;
@@ -63,29 +66,37 @@ all_alike_on old mid new one other = record {
 }
 
 -- those of which nothing is told any more
-alike_silent : (listener : Listener) (bit : ℕ) (old new : Member) → MayFallSilent old new → IsAlike (woken listener bit old) (woken listener bit new)
-alike_silent listener bit old new (inl same) = subst (λ m. IsAlike (woken listener bit old) (woken listener bit m)) (sym same) (like_itself (woken listener bit old))
-alike_silent listener bit old new (inr silent) = subst (λ m. IsAlike (woken listener bit old) (woken listener bit m)) (sym silent)
+alike_silent : (listener : Listener) (bit : ℕ) (old new : Member) → MayFallSilent old new →
+    IsAlike (woken listener bit old) (woken listener bit new)
+alike_silent listener bit old new (inl same) = subst (λ m. IsAlike (woken listener bit old) (woken listener bit m))
+    (sym same) (like_itself (woken listener bit old))
+alike_silent listener bit old new (inr silent) =
+    subst (λ m. IsAlike (woken listener bit old) (woken listener bit m)) (sym silent)
     (like_told (woken listener bit old) no_deed (λ h. refl))
 
-if_alike_silent : (listener : Listener) (bit : ℕ) (old new : Member) → IfAwake MayFallSilent old new → IsAlike (woken listener bit old) (woken listener bit new)
+if_alike_silent : (listener : Listener) (bit : ℕ) (old new : Member) → IfAwake MayFallSilent old new →
+    IsAlike (woken listener bit old) (woken listener bit new)
 if_alike_silent listener bit old new s = by old.rests refl
   where
     by : (b : Bool) → old.rests ≡ b → IsAlike (woken listener bit old) (woken listener bit new)
     by true is = alike_silent listener bit old new (inl (s.rests_on is))
     by false is = alike_silent listener bit old new (s.steps is)
 
-pub all_silent : (listener : Listener) (bit : ℕ) (old new : List Member) → AtPlaces (λ k. IfAwake MayFallSilent) old new → AreAlike (map (woken listener bit) old) (map (woken listener bit) new)
+pub all_silent : (listener : Listener) (bit : ℕ) (old new : List Member) →
+    AtPlaces (λ k. IfAwake MayFallSilent) old new → AreAlike (map (woken listener bit) old)
+    (map (woken listener bit) new)
 all_silent listener bit old new moves = record {
   at = λ k a b p q.
       let x = map_at (woken listener bit) old k a p in
       let y = map_at (woken listener bit) new k b q in
-      subst (λ m. IsAlike m b) x.2 (subst (IsAlike (woken listener bit x.0)) y.2 (if_alike_silent listener bit x.0 y.0 (moves.at k x.0 y.0 x.1 y.1)));
+      subst (λ m. IsAlike m b) x.2 (subst (IsAlike (woken listener bit x.0)) y.2
+          (if_alike_silent listener bit x.0 y.0 (moves.at k x.0 y.0 x.1 y.1)));
   size = length-map new (woken listener bit) ∙ moves.size ∙ sym (length-map old (woken listener bit));
 }
 
 -- one that has come to rest
-alike_resting : (listener : Listener) (bit : ℕ) (m : Member) → MayRest listener bit m → IsAlike m (woken listener bit (laid_down m))
+alike_resting : (listener : Listener) (bit : ℕ) (m : Member) → MayRest listener bit m →
+    IsAlike m (woken listener bit (laid_down m))
 alike_resting listener bit m h = record {
   on_is = refl;
   sending_is = refl;
@@ -93,23 +104,29 @@ alike_resting listener bit m h = record {
   bit_is = sym h.bit_is;
   counters_are = refl;
   begins = ap (λ n. may_begin (node_caught_up m.station.node listener n)) (sym h.bit_is) ∙ h.stands.begins;
-  stands = λ past stood. subst (λ n. StandsAfter (node_caught_up m.station.node listener n) past) h.bit_is (h.stands.stands past stood);
+  stands = λ past stood. subst (λ n. StandsAfter (node_caught_up m.station.node listener n) past) h.bit_is
+      (h.stands.stands past stood);
   quiet = λ none. refl;
 }
 
-alike_lying : (listener : Listener) (bit : ℕ) (old new : Member) → MayLieDown listener bit old new → IsAlike (woken listener bit old) (woken listener bit new)
-alike_lying listener bit old new (inl same) = subst (λ m. IsAlike (woken listener bit old) (woken listener bit m)) (sym same) (like_itself (woken listener bit old))
+alike_lying : (listener : Listener) (bit : ℕ) (old new : Member) → MayLieDown listener bit old new →
+    IsAlike (woken listener bit old) (woken listener bit new)
+alike_lying listener bit old new (inl same) = subst (λ m. IsAlike (woken listener bit old) (woken listener bit m))
+    (sym same) (like_itself (woken listener bit old))
 alike_lying listener bit old new (inr lies) =
-    subst (λ m. IsAlike m (woken listener bit new)) (sym (awake_woken listener bit old lies.0.awake)) (subst (λ m. IsAlike old (woken listener bit m)) (sym lies.1) (alike_resting listener bit old lies.0))
+    subst (λ m. IsAlike m (woken listener bit new)) (sym (awake_woken listener bit old lies.0.awake))
+        (subst (λ m. IsAlike old (woken listener bit m)) (sym lies.1) (alike_resting listener bit old lies.0))
 
-pub alike_at_rest : (one other : Listener) (bit : ℕ) (old new : List Member) → other ≡ one → AtPlaces (λ k. MayLieDown one bit) old new → AreAlike (map (woken one bit) old) (map (woken other bit) new)
+pub alike_at_rest : (one other : Listener) (bit : ℕ) (old new : List Member) → other ≡ one →
+    AtPlaces (λ k. MayLieDown one bit) old new → AreAlike (map (woken one bit) old) (map (woken other bit) new)
 alike_at_rest one other bit old new same lie =
     subst (λ listener. AreAlike (map (woken one bit) old) (map (woken listener bit) new)) (sym same)
     (record {
       at = λ k a b p q.
           let x = map_at (woken one bit) old k a p in
           let y = map_at (woken one bit) new k b q in
-          subst (λ m. IsAlike m b) x.2 (subst (IsAlike (woken one bit x.0)) y.2 (alike_lying one bit x.0 y.0 (lie.at k x.0 y.0 x.1 y.1)));
+          subst (λ m. IsAlike m b) x.2 (subst (IsAlike (woken one bit x.0)) y.2
+              (alike_lying one bit x.0 y.0 (lie.at k x.0 y.0 x.1 y.1)));
       size = length-map new (woken one bit) ∙ lie.size ∙ sym (length-map old (woken one bit));
     })
 
@@ -117,7 +134,8 @@ quiet_undone : IsQuiet no_deed
 quiet_undone = record { no_start = refl; no_end = refl; no_reaping = refl }
 
 -- where more rest less is known of all
-less_resting : (before after : Rest) (bit : ℕ) (m : Member) → IsLess before after → IsResting before bit m → IsResting after bit m
+less_resting : (before after : Rest) (bit : ℕ) (m : Member) → IsLess before after → IsResting before bit m →
+    IsResting after bit m
 less_resting before after bit m less h = record {
   some_rest = less.resting_is ∙ h.some_rest;
   is_on = h.is_on;
@@ -126,7 +144,8 @@ less_resting before after bit m less h = record {
   listening = subst IsListening (sym less.listener_is) h.listening;
 }
 
-pub less_rests : (before after : Rest) (bit : ℕ) (members : List Member) → IsLess before after → AreResting before bit members → AreResting after bit members
+pub less_rests : (before after : Rest) (bit : ℕ) (members : List Member) → IsLess before after →
+    AreResting before bit members → AreResting after bit members
 less_rests before after bit members less rests k m e is = less_resting before after bit m less (rests k m e is)
 
 less_too : (before mid after : Rest) → IsLess before mid → IsLess mid after → IsLess before after
@@ -141,7 +160,8 @@ less_too before mid after one other = record {
 }
 
 less_itself : (rest : Rest) → IsLess rest rest
-less_itself rest = record { listener_is = refl; resting_is = refl; knows = λ counters h. h; spends = λ s. s; talkers_is = refl; controllers_is = refl; few_is = refl }
+less_itself rest = record { listener_is = refl; resting_is = refl; knows = λ counters h. h; spends = λ s. s;
+    talkers_is = refl; controllers_is = refl; few_is = refl }
 
 -- the first of these may have come to rest
 pub record LullsBelow (before now : Rest) (bit : ℕ) (old new : List Member) (i : ℕ) : Type 0 where
@@ -149,18 +169,22 @@ pub record LullsBelow (before now : Rest) (bit : ℕ) (old new : List Member) (i
   pub lie : AtPlacesBelow (λ k. MayLieDown before.listener bit) old new i
   pub rests : AreResting now bit new
 
-pub lulls_start : (rest : Rest) (bit : ℕ) (members : List Member) (from : ℕ) → AreResting rest bit members → LullsBelow rest rest bit members members from
+pub lulls_start : (rest : Rest) (bit : ℕ) (members : List Member) (from : ℕ) → AreResting rest bit members →
+    LullsBelow rest rest bit members members from
 lulls_start rest bit members from rests = record {
   less = less_itself rest;
   lie = record { below = λ k a b less p q. inl (same_some b a (sym q ∙ p)); above = λ k more. refl; size = refl };
   rests = rests;
 }
 
-lulled_resting : (spent : Bool) (before after : Rest) (bit : ℕ) (old new : Member) → Lulls bit spent before after old new → (old.rests ≡ true → IsResting before bit old) → new.rests ≡ true → IsResting after bit new
+lulled_resting : (spent : Bool) (before after : Rest) (bit : ℕ) (old new : Member) →
+    Lulls bit spent before after old new → (old.rests ≡ true → IsResting before bit old) → new.rests ≡ true →
+    IsResting after bit new
 lulled_resting spent before after bit old new h rested is = by h.lies
   where
     by : MayLieDown before.listener bit old new → IsResting after bit new
-    by (inl same) = subst (IsResting after bit) (sym same) (less_resting before after bit old h.less (rested (ap (λ m. m.rests) (sym same) ∙ is)))
+    by (inl same) = subst (IsResting after bit) (sym same)
+        (less_resting before after bit old h.less (rested (ap (λ m. m.rests) (sym same) ∙ is)))
     by (inr lies) = record {
       some_rest = h.some_rest lies.0.awake is;
       is_on = subst (λ m. m.on ≤ bit) (sym lies.1) lies.0.is_on;
@@ -169,18 +193,22 @@ lulled_resting spent before after bit old new h rested is = by h.lies
       listening = subst IsListening (sym h.less.listener_is) lies.0.stands.listening;
     }
 
-pub lulls_step : (spent : Bool) (before now next : Rest) (bit : ℕ) (old new : List Member) (i : ℕ) (a b : Member) → i < length old → slice_get new i ≡ Some a → Lulls bit spent now next a b → LullsBelow before now bit old new i →
+pub lulls_step : (spent : Bool) (before now next : Rest) (bit : ℕ) (old new : List Member) (i : ℕ) (a b : Member) →
+    i < length old → slice_get new i ≡ Some a → Lulls bit spent now next a b → LullsBelow before now bit old new i →
     LullsBelow before next bit old (set new i b) (i + 1)
 lulls_step spent before now next bit old new i a b room here h so_far = record {
   less = less_too before now next so_far.less h.less;
-  lie = places_step (λ k. MayLieDown before.listener bit) old new i a b room here (subst (λ listener. MayLieDown listener bit a b) so_far.less.listener_is h.lies) so_far.lie;
+  lie = places_step (λ k. MayLieDown before.listener bit) old new i a b room here
+      (subst (λ listener. MayLieDown listener bit a b) so_far.less.listener_is h.lies) so_far.lie;
   rests = λ k m e is. elim (cases_lt k i) [
     | inl less ↦ (let ne : k ≢ i = omega arith in other k m ne e is)
     | inr more ↦ elim (cases_lt i k) [
       | inl less ↦ (let ne : k ≢ i = omega arith in other k m ne e is)
       | inr same_place ↦ (let at : k ≡ i = omega arith in
-          let same : b ≡ m = same_some b m (sym (get_set_same new i b (omega (arith, room, so_far.lie.size))) ∙ ap (slice_get (set new i b)) (sym at) ∙ e) in
-          subst (IsResting next bit) same (lulled_resting spent now next bit a b h (so_far.rests i a here) (ap (λ x. x.rests) same ∙ is)))
+          let same : b ≡ m = same_some b m (sym (get_set_same new i b (omega (arith, room, so_far.lie.size)))
+              ∙ ap (slice_get (set new i b)) (sym at) ∙ e) in
+          subst (IsResting next bit) same (lulled_resting spent now next bit a b h (so_far.rests i a here)
+              (ap (λ x. x.rests) same ∙ is)))
     ]
   ];
 }
@@ -188,7 +216,8 @@ lulls_step spent before now next bit old new i a b room here h so_far = record {
     other : (k : ℕ) (m : Member) → k ≢ i → slice_get (set new i b) k ≡ Some m → m.rests ≡ true → IsResting next bit m
     other k m ne e is = less_resting now next bit m h.less (so_far.rests k m (sym (get_set_other new i k b ne) ∙ e) is)
 
-pub lulls_end : (before now : Rest) (bit : ℕ) (old new : List Member) (i : ℕ) → LullsBelow before now bit old new i → AtPlaces (λ k. MayLieDown before.listener bit) old new
+pub lulls_end : (before now : Rest) (bit : ℕ) (old new : List Member) (i : ℕ) → LullsBelow before now bit old new i →
+    AtPlaces (λ k. MayLieDown before.listener bit) old new
 lulls_end before now bit old new i h = record {
   at = λ k a b p q. elim (cases_lt k i) [
     | inl less ↦ h.lie.below k a b less p q
@@ -198,31 +227,45 @@ lulls_end before now bit old new i h = record {
 }
 
 -- those talkers that have come to rest have no frame left, where that is known
-pub spent_step : (spent : Bool) (now next : Rest) (bit : ℕ) (plan : List Talker) (new : List Member) (i : ℕ) (a b : Member) (talker : Talker) → i < length new → slice_get new i ≡ Some a → slice_get plan i ≡ Some talker → Lulls bit spent now next a b →
-    (spent ≡ true → slice_get talker.frames.items a.station.completed ≡ None) → AreSpent now plan new → AreSpent next plan (set new i b)
-spent_step spent now next bit plan new i a b talker room here planned h none so_far is_spent k m t e f is = elim (cases_lt k i) [
-  | inl less ↦ (let ne : k ≢ i = omega arith in so_far (h.less.spends is_spent) k m t (sym (get_set_other new i k b ne) ∙ e) f is)
+pub spent_step : (spent : Bool) (now next : Rest) (bit : ℕ) (plan : List Talker) (new : List Member) (i : ℕ)
+    (a b : Member) (talker : Talker) → i < length new → slice_get new i ≡ Some a → slice_get plan i ≡ Some talker →
+    Lulls bit spent now next a b →
+    (spent ≡ true → slice_get talker.frames.items a.station.completed ≡ None) → AreSpent now plan new →
+    AreSpent next plan (set new i b)
+spent_step spent now next bit plan new i a b talker room here planned h none so_far is_spent k m t e f is =
+    elim (cases_lt k i) [
+  | inl less ↦ (let ne : k ≢ i = omega arith in
+      so_far (h.less.spends is_spent) k m t (sym (get_set_other new i k b ne) ∙ e) f is)
   | inr more ↦ elim (cases_lt i k) [
-    | inl less ↦ (let ne : k ≢ i = omega arith in so_far (h.less.spends is_spent) k m t (sym (get_set_other new i k b ne) ∙ e) f is)
+    | inl less ↦ (let ne : k ≢ i = omega arith in
+        so_far (h.less.spends is_spent) k m t (sym (get_set_other new i k b ne) ∙ e) f is)
     | inr same_place ↦ (let at : k ≡ i = omega arith in
-        let same : b ≡ m = same_some b m (sym (get_set_same new i b room) ∙ ap (slice_get (set new i b)) (sym at) ∙ e) in
+        let same : b ≡ m =
+            same_some b m (sym (get_set_same new i b room) ∙ ap (slice_get (set new i b)) (sym at) ∙ e) in
         let same_talker : talker ≡ t = same_some talker t (sym planned ∙ ap (slice_get plan) (sym at) ∙ f) in
-        subst (λ x. slice_get x.frames.items m.station.completed ≡ None) same_talker (subst (λ x. slice_get talker.frames.items x.station.completed ≡ None) same (by h.lies (ap (λ x. x.rests) same ∙ is))))
+        subst (λ x. slice_get x.frames.items m.station.completed ≡ None) same_talker
+            (subst (λ x. slice_get talker.frames.items x.station.completed ≡ None) same
+            (by h.lies (ap (λ x. x.rests) same ∙ is))))
   ]
 ]
   where
     by : MayLieDown now.listener bit a b → b.rests ≡ true → slice_get talker.frames.items b.station.completed ≡ None
-    by (inl same) on = subst (λ x. slice_get talker.frames.items x.station.completed ≡ None) (sym same) (so_far (h.less.spends is_spent) i a talker here planned (ap (λ x. x.rests) (sym same) ∙ on))
-    by (inr lies) on = subst (λ x. slice_get talker.frames.items x.station.completed ≡ None) (sym lies.1) (none (h.spent lies.0.awake on is_spent))
+    by (inl same) on = subst (λ x. slice_get talker.frames.items x.station.completed ≡ None) (sym same)
+        (so_far (h.less.spends is_spent) i a talker here planned (ap (λ x. x.rests) (sym same) ∙ on))
+    by (inr lies) on = subst (λ x. slice_get talker.frames.items x.station.completed ≡ None) (sym lies.1)
+        (none (h.spent lies.0.awake on is_spent))
 
 -- nor does a controller rest then
-pub awake_step : (now next : Rest) (bit : ℕ) (new : List Member) (i : ℕ) (a b : Member) → i < length new → slice_get new i ≡ Some a → Lulls bit false now next a b → (now.spent ≡ true → NoneRests new) → next.spent ≡ true → NoneRests (set new i b)
+pub awake_step : (now next : Rest) (bit : ℕ) (new : List Member) (i : ℕ) (a b : Member) → i < length new →
+    slice_get new i ≡ Some a → Lulls bit false now next a b → (now.spent ≡ true → NoneRests new) → next.spent ≡ true →
+    NoneRests (set new i b)
 awake_step now next bit new i a b room here h so_far is_spent k m e = elim (cases_lt k i) [
   | inl less ↦ (let ne : k ≢ i = omega arith in none k m (sym (get_set_other new i k b ne) ∙ e))
   | inr more ↦ elim (cases_lt i k) [
     | inl less ↦ (let ne : k ≢ i = omega arith in none k m (sym (get_set_other new i k b ne) ∙ e))
     | inr same_place ↦ (let at : k ≡ i = omega arith in
-        let same : b ≡ m = same_some b m (sym (get_set_same new i b room) ∙ ap (slice_get (set new i b)) (sym at) ∙ e) in
+        let same : b ≡ m =
+            same_some b m (sym (get_set_same new i b room) ∙ ap (slice_get (set new i b)) (sym at) ∙ e) in
         subst (λ x. x.rests ≡ false) same (by b.rests refl))
   ]
 ]
@@ -235,32 +278,39 @@ awake_step now next bit new i a b room here h so_far is_spent k m e = elim (case
     by true on = let never = h.spent (none i a here) on is_spent in absurd (cc never)
 
 -- Another listener, where none rests, changes nothing.
-pub chosen_same : (old new : Rest) (bit : ℕ) (members : List Member) → Chooses old new → AreResting old bit members → members_at new bit members ≡ members_at old bit members
+pub chosen_same : (old new : Rest) (bit : ℕ) (members : List Member) → Chooses old new → AreResting old bit members →
+    members_at new bit members ≡ members_at old bit members
 chosen_same old new bit members h rests = elim h.chosen [
   | inl same ↦ ap (λ listener. map (woken listener bit) members) same.listener_is
-  | inr none ↦ (let awake = not_resting old bit members none rests in none_resting new.listener bit members awake ∙ sym (none_resting old.listener bit members awake))
+  | inr none ↦ (let awake = not_resting old bit members none rests in
+      none_resting new.listener bit members awake ∙ sym (none_resting old.listener bit members awake))
 ]
 
-pub chosen_rests : (old new : Rest) (bit : ℕ) (members : List Member) → Chooses old new → AreResting old bit members → AreResting new bit members
+pub chosen_rests : (old new : Rest) (bit : ℕ) (members : List Member) → Chooses old new → AreResting old bit members →
+    AreResting new bit members
 chosen_rests old new bit members h rests = elim h.chosen [
   | inl same ↦ same_rests old new bit members same rests
   | inr none ↦ (λ k m e is. absurd (let awake = not_resting old bit members none rests k m e in cc (is, awake)))
 ]
 
-pub chosen_spent : (old new : Rest) (bit : ℕ) (plan : List Talker) (members : List Member) → Chooses old new → AreResting old bit members → AreSpent old plan members → AreSpent new plan members
+pub chosen_spent : (old new : Rest) (bit : ℕ) (plan : List Talker) (members : List Member) → Chooses old new →
+    AreResting old bit members → AreSpent old plan members → AreSpent new plan members
 chosen_spent old new bit plan members h rests spent = elim h.chosen [
   | inl same ↦ (λ s. spent (sym same.spent_is ∙ s))
-  | inr none ↦ (λ s k m talker e f is. absurd (let awake = not_resting old bit members none rests k m e in cc (is, awake)))
+  | inr none ↦ (λ s k m talker e f is. absurd (let awake = not_resting old bit members none rests k m e in
+        cc (is, awake)))
 ]
 
-pub chosen_awake : (old new : Rest) (bit : ℕ) (members : List Member) → Chooses old new → AreResting old bit members → (old.spent ≡ true → NoneRests members) → new.spent ≡ true → NoneRests members
+pub chosen_awake : (old new : Rest) (bit : ℕ) (members : List Member) → Chooses old new → AreResting old bit members →
+    (old.spent ≡ true → NoneRests members) → new.spent ≡ true → NoneRests members
 chosen_awake old new bit members h rests awake = elim h.chosen [
   | inl same ↦ (λ s. awake (sym same.spent_is ∙ s))
   | inr none ↦ (λ s. not_resting old bit members none rests)
 ]
 
 -- no more nodes are awake where some have come to rest
-pub lain_within : (listener : Listener) (bit : ℕ) (old new : List Member) (span : Span) → AtPlaces (λ k. MayLieDown listener bit) old new → AwakeWithin span old → AwakeWithin span new
+pub lain_within : (listener : Listener) (bit : ℕ) (old new : List Member) (span : Span) →
+    AtPlaces (λ k. MayLieDown listener bit) old new → AwakeWithin span old → AwakeWithin span new
 lain_within listener bit old new span lie h = record {
   within = omega (arith, h.within, lie.size);
   outside = λ k m e out.

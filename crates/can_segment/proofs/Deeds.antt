@@ -1,5 +1,6 @@
 -- What one node does at a bit makes an act of it.
-use Rattle.std.proofs.Common.{◌≡◌, ℕ, ◌+◌, ◌<◌, ◌≤◌, Bool, true, inl, inr, Option, Some, None, List, [], ◌∷◌, ◌++◌, length, cond, sym, ap, subst, arith, ◌∙◌, length-append}
+use Rattle.std.proofs.Common.{◌≡◌, ℕ, ◌+◌, ◌<◌, ◌≤◌, Bool, true, inl, inr, Option, Some, None, List, [], ◌∷◌, ◌++◌}
+use Rattle.std.proofs.Common.{length, cond, sym, ap, subst, arith, ◌∙◌, length-append}
 use Rattle.std.proofs.lemmas.List.Sums.{fold-append}
 use Rattle.can_confinement.specs.declared.confinement.ErrorEvent.{ErrorEvent}
 use Rattle.can_node.specs.Histories.{no_past, IsHistory}
@@ -8,7 +9,8 @@ use Rattle.can_station.specs.declared.event.Label.{Label}
 use Rattle.can_station.specs.declared.transmission.Transmission.{Transmission}
 use Rattle.can_station.specs.declared.member.Deed.{Deed}
 use Rattle.can_station.specs.declared.member.Member.{Member}
-use Rattle.can_segment.specs.Traces.{Act, Bit, act_of, with_start, with_act, past_of, sending_now, sending_behind, sending_of, completed_in, completed_of}
+use Rattle.can_segment.specs.Traces.{Act, Bit, act_of, with_start, with_act, past_of, sending_now, sending_behind}
+use Rattle.can_segment.specs.Traces.{sending_of, completed_in, completed_of}
 use Rattle.can_station.specs.Outcomes.{sending_after}
 use Rattle.can_station.specs.Members.{SamplesOn}
 use Rattle.can_station.specs.Lines.{told_outcome}
@@ -16,20 +18,25 @@ use Rattle.can_station.specs.Deeds.{begun_by, Names}
 use Rattle.can_segment.specs.Kept.{StandsBehind}
 
 -- the lists of a node behind one more bit
-pub past_next : (on k : ℕ) (trace : List Bit) (bit : Bit) → past_of on k (trace ++ bit ∷ []) ≡ with_act (past_of on k trace) (act_of k bit)
+pub past_next : (on k : ℕ) (trace : List Bit) (bit : Bit) → past_of on k (trace ++ bit ∷ [])
+    ≡ with_act (past_of on k trace) (act_of k bit)
 past_next on k trace bit = fold-append (λ past b. with_act past (act_of k b)) (no_past on) trace (bit ∷ [])
 
-pub sending_next : (k : ℕ) (trace : List Bit) (bit : Bit) → sending_of k (trace ++ bit ∷ []) ≡ sending_behind (sending_of k trace) (act_of k bit)
+pub sending_next : (k : ℕ) (trace : List Bit) (bit : Bit) → sending_of k (trace ++ bit ∷ [])
+    ≡ sending_behind (sending_of k trace) (act_of k bit)
 sending_next k trace bit = fold-append (λ before b. sending_behind before (act_of k b)) None trace (bit ∷ [])
 
-pub completed_next : (k : ℕ) (trace : List Bit) (bit : Bit) → completed_of k (trace ++ bit ∷ []) ≡ completed_of k trace + completed_in (act_of k bit)
+pub completed_next : (k : ℕ) (trace : List Bit) (bit : Bit) →
+    completed_of k (trace ++ bit ∷ []) ≡ completed_of k trace + completed_in (act_of k bit)
 completed_next k trace bit = fold-append (λ n b. n + completed_in (act_of k b)) 0 trace (bit ∷ [])
 
 -- a node that is not on stands behind one more bit as it stood
-pub stays_off : (on k : ℕ) (trace : List Bit) (bit : Bit) (member : Member) → StandsBehind on k trace member → length trace < on → act_of k bit ≡ None → StandsBehind on k (trace ++ bit ∷ []) member
+pub stays_off : (on k : ℕ) (trace : List Bit) (bit : Bit) (member : Member) → StandsBehind on k trace member →
+    length trace < on → act_of k bit ≡ None → StandsBehind on k (trace ++ bit ∷ []) member
 stays_off on k trace bit member h early none_there = record {
   on_is = h.on_is;
-  stands = subst (StandsAfter member.station.node) (sym (past_next on k trace bit ∙ ap (with_act (past_of on k trace)) none_there)) h.stands;
+  stands = subst (StandsAfter member.station.node)
+      (sym (past_next on k trace bit ∙ ap (with_act (past_of on k trace)) none_there)) h.stands;
   sending_is = h.sending_is ∙ sym (sending_next k trace bit ∙ ap (sending_behind (sending_of k trace)) none_there);
   completed_is = omega (arith, h.completed_is, completed_next k trace bit, ap completed_in none_there);
   bit_is = omega (arith, h.bit_is, early, length-append trace (bit ∷ []));
@@ -40,11 +47,14 @@ stays_off on k trace bit member h early none_there = record {
 pub named_start : (deed : Deed) (sent : Option Transmission) → Names deed sent → deed.began ≡ true → deed.sent ≡ sent
 named_start deed sent names began = elim names [ inl quiet ↦ absurd (cc (began, quiet.no_start)) | inr named ↦ named ]
 
-pub named_reaping : (deed : Deed) (sent : Option Transmission) (label : Label) → Names deed sent → deed.reaped ≡ Some label → deed.sent ≡ sent
-named_reaping deed sent label names reaped = elim names [ inl quiet ↦ absurd (cc (reaped, quiet.no_reaping)) | inr named ↦ named ]
+pub named_reaping : (deed : Deed) (sent : Option Transmission) (label : Label) → Names deed sent →
+    deed.reaped ≡ Some label → deed.sent ≡ sent
+named_reaping deed sent label names reaped =
+    elim names [ inl quiet ↦ absurd (cc (reaped, quiet.no_reaping)) | inr named ↦ named ]
 
 -- and nothing is told of an outcome where it is not
-told_named : (deed : Deed) (sent : Option Transmission) → Names deed sent → told_outcome sent deed.outcome ≡ told_outcome deed.sent deed.outcome
+told_named : (deed : Deed) (sent : Option Transmission) → Names deed sent →
+    told_outcome sent deed.outcome ≡ told_outcome deed.sent deed.outcome
 told_named deed sent names = elim names [
   | inl quiet ↦ ap (told_outcome sent) quiet.no_end ∙ sym (ap (told_outcome deed.sent) quiet.no_end)
   | inr named ↦ ap (λ s. told_outcome s deed.outcome) (sym named)
@@ -54,22 +64,31 @@ told_named deed sent names = elim names [
 pub record Done (on k : ℕ) (trace : List Bit) (level : Bool) (mid after : Member) : Type 0 where
   pub event : Option ErrorEvent
   pub now_is : mid.station.sending ≡ sending_now (sending_of k trace) (begun_by after.deed)
-  pub told : told_outcome (sending_now (sending_of k trace) (begun_by after.deed)) after.deed.outcome ≡ told_outcome after.deed.sent after.deed.outcome
+  pub told : told_outcome (sending_now (sending_of k trace) (begun_by after.deed)) after.deed.outcome
+      ≡ told_outcome after.deed.sent after.deed.outcome
   pub history : IsHistory (with_act (past_of on k trace)
-      (Some (record { begun = begun_by after.deed; driven = driven_by mid.station.node; sampled = level; event = event; outcome = after.deed.outcome; reaped = after.deed.reaped })))
+      (Some (record { begun = begun_by after.deed; driven = driven_by mid.station.node; sampled = level; event = event;
+              outcome = after.deed.outcome; reaped = after.deed.reaped })))
   pub stands : (bit : Bit) →
-      act_of k bit ≡ Some (record { begun = begun_by after.deed; driven = driven_by mid.station.node; sampled = level; event = event; outcome = after.deed.outcome; reaped = after.deed.reaped }) →
+      act_of k bit ≡ Some (record { begun = begun_by after.deed; driven = driven_by mid.station.node; sampled = level;
+            event = event; outcome = after.deed.outcome; reaped = after.deed.reaped }) →
       StandsBehind on k (trace ++ bit ∷ []) after
 
-pub done : (on k : ℕ) (trace : List Bit) (level : Bool) (old mid after : Member) (begun : Option Transmission) → StandsBehind on k trace old → on ≤ length trace →
-    after.on ≡ on → StandsAfter mid.station.node (with_start (past_of on k trace) begun) → mid.station.sending ≡ sending_now old.station.sending begun →
-    mid.station.completed ≡ old.station.completed → bit_of mid.station.node ≡ bit_of old.station.node → begun_by after.deed ≡ begun →
+pub done : (on k : ℕ) (trace : List Bit) (level : Bool) (old mid after : Member) (begun : Option Transmission) →
+    StandsBehind on k trace old → on ≤ length trace →
+    after.on ≡ on → StandsAfter mid.station.node (with_start (past_of on k trace) begun) →
+    mid.station.sending ≡ sending_now old.station.sending begun →
+    mid.station.completed ≡ old.station.completed → bit_of mid.station.node ≡ bit_of old.station.node →
+    begun_by after.deed ≡ begun →
     SamplesOn level mid after → Done on k trace level mid after
 done on k trace level old mid after begun h late on_is stands sending completed bit_same begun_is s =
     let here = s.stands in
     let past = past_of on k trace in
-    let act : Act = record { begun = begun_by after.deed; driven = driven_by mid.station.node; sampled = level; event = here.event; outcome = after.deed.outcome; reaped = after.deed.reaped } in
-    let behind : StandsAfter after.station.node (with_act past (Some act)) = here.stands (with_start past (begun_by after.deed)) (subst (λ b. StandsAfter mid.station.node (with_start past b)) (sym begun_is) stands) in
+    let act : Act = record { begun = begun_by after.deed; driven = driven_by mid.station.node; sampled = level;
+        event = here.event; outcome = after.deed.outcome; reaped = after.deed.reaped } in
+    let behind : StandsAfter after.station.node (with_act past (Some act)) =
+        here.stands (with_start past (begun_by after.deed))
+        (subst (λ b. StandsAfter mid.station.node (with_start past b)) (sym begun_is) stands) in
     let now : mid.station.sending ≡ sending_now (sending_of k trace) (begun_by after.deed) =
     sending ∙ ap (λ x. sending_now x begun) h.sending_is ∙ ap (sending_now (sending_of k trace)) (sym begun_is) in
     record {
@@ -82,12 +101,14 @@ done on k trace level old mid after begun h late on_is stands sending completed 
         stands = subst (StandsAfter after.station.node) (sym (past_next on k trace bit ∙ ap (with_act past) is)) behind;
         sending_is = s.sending_is ∙ ap (λ x. sending_after x after.deed.outcome) now
             ∙ sym (sending_next k trace bit ∙ ap (sending_behind (sending_of k trace)) is);
-        completed_is = omega (arith, s.completed_is, completed, h.completed_is, completed_next k trace bit, ap completed_in is);
+        completed_is =
+            omega (arith, s.completed_is, completed, h.completed_is, completed_next k trace bit, ap completed_in is);
         bit_is = omega (arith, s.bit_is, bit_same, h.bit_is, late, length-append trace (bit ∷ []));
         quiet = λ early. absurd (omega (arith, early, late, length-append trace (bit ∷ [])));
       };
     }
 
 -- what a deed began, by its two parts
-pub begun_is : (deed : Deed) (b : Bool) (sent : Option Transmission) → deed.began ≡ b → deed.sent ≡ sent → begun_by deed ≡ cond b sent None
+pub begun_is : (deed : Deed) (b : Bool) (sent : Option Transmission) → deed.began ≡ b → deed.sent ≡ sent →
+    begun_by deed ≡ cond b sent None
 begun_is deed b sent eb es = ap (λ c. cond c deed.sent None) eb ∙ ap (λ s. cond b s None) es

@@ -1,5 +1,6 @@
 -- A segment before its first bit.
-use Rattle.std.proofs.Common.{◌≡◌, ℕ, ◌+◌, inl, inr, Some, None, Option, List, [], ◌∷◌, ◌++◌, length, slice_get, refl, sym, ap, subst, arith, ◌∙◌, length-append}
+use Rattle.std.proofs.Common.{◌≡◌, ℕ, ◌+◌, inl, inr, Some, None, Option, List, [], ◌∷◌, ◌++◌, length, slice_get, refl}
+use Rattle.std.proofs.Common.{sym, ap, subst, arith, ◌∙◌, length-append}
 use Rattle.std.proofs.lemmas.Option.{slice_get_within}
 use Rattle.can_station.specs.declared.member.Member.{Member}
 use Rattle.can_station.specs.declared.plan.SegmentPlan.{SegmentPlan}
@@ -17,13 +18,15 @@ use Rattle.can_segment.proofs.Shown.{map_at}
 
 -- nodes so far
 pub record FreshBelow {X : Type 0} (on : X → ℕ) (xs : List X) (members : List Member) (i : ℕ) : Type 0 where
-  pub at : (k : ℕ) (x : X) (member : Member) → slice_get xs k ≡ Some x → slice_get members k ≡ Some member → IsFresh (on x) member
+  pub at : (k : ℕ) (x : X) (member : Member) → slice_get xs k ≡ Some x → slice_get members k ≡ Some member →
+      IsFresh (on x) member
   pub size : length members ≡ i
 
 pub fresh_start : {X : Type 0} (on : X → ℕ) (xs : List X) → FreshBelow on xs [] 0
 fresh_start on xs = record { at = λ k x m e f. absurd (cc f); size = refl }
 
-pub fresh_step : {X : Type 0} (on : X → ℕ) (xs : List X) (members : List Member) (i : ℕ) (x : X) (m : Member) → slice_get xs i ≡ Some x → IsFresh (on x) m →
+pub fresh_step : {X : Type 0} (on : X → ℕ) (xs : List X) (members : List Member) (i : ℕ) (x : X) (m : Member) →
+    slice_get xs i ≡ Some x → IsFresh (on x) m →
     FreshBelow on xs members i → FreshBelow on xs (members ++ m ∷ []) (i + 1)
 fresh_step on xs members i x m here fresh b = record {
   at = λ k y n e f. elim (pushed members m k n f) [
@@ -35,13 +38,17 @@ fresh_step on xs members i x m here fresh b = record {
   size = omega (arith, length-append members (m ∷ []), b.size);
 }
 
-pub fresh_end : {X : Type 0} (on : X → ℕ) (xs : List X) (members : List Member) (i : ℕ) → i ≡ length xs → FreshBelow on xs members i → AreFresh on xs members
+pub fresh_end : {X : Type 0} (on : X → ℕ) (xs : List X) (members : List Member) (i : ℕ) → i ≡ length xs →
+    FreshBelow on xs members i → AreFresh on xs members
 fresh_end on xs members i all b = record { at = b.at; size = omega (arith, b.size, all) }
 
 behind_nothing : (on k : ℕ) (m : Member) → IsFresh on m → StandsBehind on k [] m
-behind_nothing on k m f = record { on_is = f.on_is; stands = f.stands; sending_is = f.idle; completed_is = f.none_sent; bit_is = omega (arith, f.bit_is); quiet = λ early. f.quiet }
+behind_nothing on k m f = record { on_is = f.on_is; stands = f.stands; sending_is = f.idle; completed_is = f.none_sent;
+    bit_is = omega (arith, f.bit_is); quiet = λ early. f.quiet }
 
-pub kept_fresh : (plan : SegmentPlan) (talkers controllers : List Member) → AreFresh (λ talker. talker.on) plan.talkers.items talkers → AreFresh (λ controller. controller.on) plan.controllers.items controllers →
+pub kept_fresh : (plan : SegmentPlan) (talkers controllers : List Member) →
+    AreFresh (λ talker. talker.on) plan.talkers.items talkers →
+    AreFresh (λ controller. controller.on) plan.controllers.items controllers →
     SegmentKept plan [] [] talkers controllers
 kept_fresh plan talkers controllers t c = record {
   trace = [];
@@ -50,11 +57,13 @@ kept_fresh plan talkers controllers t c = record {
     talkers_size = t.size;
     controllers_size = c.size;
     talkers_stand = λ k talker m e f. behind_nothing talker.on k m (t.at k talker m e f);
-    controllers_stand = λ k controller m e f. behind_nothing controller.on (length plan.talkers.items + k) m (c.at k controller m e f);
+    controllers_stand =
+        λ k controller m e f. behind_nothing controller.on (length plan.talkers.items + k) m (c.at k controller m e f);
   };
 }
 
-pub idle_fresh : {X : Type 0} (on : X → ℕ) (xs : List X) (members : List Member) → AreFresh on xs members → (k : ℕ) (sends : Option Item) → slice_get (sending_of_all members) k ≡ Some sends → sends ≡ None
+pub idle_fresh : {X : Type 0} (on : X → ℕ) (xs : List X) (members : List Member) → AreFresh on xs members →
+    (k : ℕ) (sends : Option Item) → slice_get (sending_of_all members) k ≡ Some sends → sends ≡ None
 idle_fresh on xs members fresh k sends e =
     let m = map_at (λ member. item_of member.station.sending) members k sends e in
     let within = slice_get_within members k m.0 m.1 in
@@ -62,11 +71,14 @@ idle_fresh on xs members fresh k sends e =
     sym m.2 ∙ ap item_of (fresh.at k x.0 m.0 x.1 m.1).idle
 
 -- none of them rests
-pub fresh_awake : {X : Type 0} (on : X → ℕ) (xs : List X) (members : List Member) → AreFresh on xs members → NoneRests members
+pub fresh_awake : {X : Type 0} (on : X → ℕ) (xs : List X) (members : List Member) → AreFresh on xs members →
+    NoneRests members
 fresh_awake on xs members fresh k m e =
     let within = slice_get_within members k m e in
     let x = some_there xs k (omega (arith, within, fresh.size)) in
     (fresh.at k x.0 m x.1 e).awake
 
-pub fresh_shown : {X : Type 0} (on : X → ℕ) (xs : List X) (first : ℕ) (members : List Member) (counters : List Counters) → AreFresh on xs members → AreFromResting first members counters
-fresh_shown on xs first members counters fresh k m shown is e f = absurd (let awake = fresh_awake on xs members fresh k m e in cc (is, awake))
+pub fresh_shown : {X : Type 0} (on : X → ℕ) (xs : List X) (first : ℕ) (members : List Member)
+    (counters : List Counters) → AreFresh on xs members → AreFromResting first members counters
+fresh_shown on xs first members counters fresh k m shown is e f =
+    absurd (let awake = fresh_awake on xs members fresh k m e in cc (is, awake))

@@ -12,7 +12,9 @@ use Rattle.can_station.specs.RestingNodes.{AwakeWithin, LeavesResting, NoneRests
 use Rattle.can_segment.proofs.Rests.{next_rests}
 
 -- where none rests
-pub none_rests : (rest : Rest) (bit : ℕ) (plan : List Talker) (talkers controllers : List Member) → rest.few ≡ false → AwakeWithin rest.talkers talkers → AwakeWithin rest.controllers controllers → NoneRests talkers → NoneRests controllers →
+pub none_rests : (rest : Rest) (bit : ℕ) (plan : List Talker) (talkers controllers : List Member) → rest.few ≡ false →
+    AwakeWithin rest.talkers talkers → AwakeWithin rest.controllers controllers → NoneRests talkers →
+    NoneRests controllers →
     RestHolds rest bit plan talkers controllers
 none_rests rest bit plan talkers controllers many w w_too t c = record {
   talkers_rest = λ k m e is. absurd (let awake = t k m e in cc (is, awake));
@@ -24,7 +26,9 @@ none_rests rest bit plan talkers controllers many w w_too t c = record {
   few_are = λ few. absurd (cc (few, many));
 }
 
-pub none_rests_on : (rest : Rest) (bit next : ℕ) (plan : List Talker) (talkers controllers : List Member) → NoneRests talkers → NoneRests controllers → RestHolds rest bit plan talkers controllers → RestHolds rest next plan talkers controllers
+pub none_rests_on : (rest : Rest) (bit next : ℕ) (plan : List Talker) (talkers controllers : List Member) →
+    NoneRests talkers → NoneRests controllers → RestHolds rest bit plan talkers controllers →
+    RestHolds rest next plan talkers controllers
 none_rests_on rest bit next plan talkers controllers t c h = record {
   talkers_rest = λ k m e is. absurd (let awake = t k m e in cc (is, awake));
   controllers_rest = λ k m e is. absurd (let awake = c k m e in cc (is, awake));
@@ -36,7 +40,8 @@ none_rests_on rest bit next plan talkers controllers t c h = record {
 }
 
 -- where it is known that none does
-pub not_resting : (rest : Rest) (bit : ℕ) (members : List Member) → rest.resting ≡ false → AreResting rest bit members → NoneRests members
+pub not_resting : (rest : Rest) (bit : ℕ) (members : List Member) → rest.resting ≡ false → AreResting rest bit members →
+    NoneRests members
 not_resting rest bit members is rests k m e = by m.rests refl
   where
     by : (b : Bool) → m.rests ≡ b → m.rests ≡ false
@@ -44,7 +49,8 @@ not_resting rest bit members is rests k m e = by m.rests refl
     by false off = off
 
 -- where the same is held of all that rest
-pub same_rests : (old new : Rest) (bit : ℕ) (members : List Member) → IsSame old new → AreResting old bit members → AreResting new bit members
+pub same_rests : (old new : Rest) (bit : ℕ) (members : List Member) → IsSame old new → AreResting old bit members →
+    AreResting new bit members
 same_rests old new bit members same rests k m e is =
     let h = rests k m e is in
     record {
@@ -55,10 +61,12 @@ same_rests old new bit members same rests k m e is =
       listening = subst IsListening (sym same.listener_is) h.listening;
     }
 
-pub left_rests : (rest : Rest) (bit : ℕ) (old new : List Member) → LeavesResting old new → AreResting rest bit old → AreResting rest bit new
+pub left_rests : (rest : Rest) (bit : ℕ) (old new : List Member) → LeavesResting old new → AreResting rest bit old →
+    AreResting rest bit new
 left_rests rest bit old new left rests k m e is = rests k m (left k m e is) is
 
-pub left_spent : (rest : Rest) (plan : List Talker) (old new : List Member) → LeavesResting old new → AreSpent rest plan old → AreSpent rest plan new
+pub left_spent : (rest : Rest) (plan : List Talker) (old new : List Member) → LeavesResting old new →
+    AreSpent rest plan old → AreSpent rest plan new
 left_spent rest plan old new left spent s k m talker e f is = spent s k m talker (left k m e is) f is
 
 pub left_awake : (old new : List Member) → LeavesResting old new → NoneRests old → NoneRests new
@@ -69,8 +77,11 @@ left_awake old new left none k m e = by m.rests refl
     by false off = off
 
 -- behind steps of those that are awake
-pub left_holds : (rest : Rest) (bit : ℕ) (plan : List Talker) (t0 t1 c0 c1 : List Member) → LeavesResting t0 t1 → LeavesResting c0 c1 →
-    ((span : Span) → AwakeWithin span t0 → AwakeWithin span t1) → ((span : Span) → AwakeWithin span c0 → AwakeWithin span c1) → RestHolds rest bit plan t0 c0 → RestHolds rest bit plan t1 c1
+pub left_holds : (rest : Rest) (bit : ℕ) (plan : List Talker) (t0 t1 c0 c1 : List Member) → LeavesResting t0 t1 →
+    LeavesResting c0 c1 →
+    ((span : Span) → AwakeWithin span t0 → AwakeWithin span t1) →
+    ((span : Span) → AwakeWithin span c0 → AwakeWithin span c1) → RestHolds rest bit plan t0 c0 →
+    RestHolds rest bit plan t1 c1
 left_holds rest bit plan t0 t1 c0 c1 t c w w_too h = record {
   talkers_rest = left_rests rest bit t0 t1 t h.talkers_rest;
   controllers_rest = left_rests rest bit c0 c1 c h.controllers_rest;
@@ -82,7 +93,9 @@ left_holds rest bit plan t0 t1 c0 c1 t c w w_too h = record {
 }
 
 -- where some woke
-pub woken_holds : (old new : Rest) (bit : ℕ) (plan : List Talker) (t0 t1 c0 c1 : List Member) → IsSame old new → new.few ≡ false → AwakeWithin new.talkers t1 → AwakeWithin new.controllers c1 → LeavesResting t0 t1 → LeavesResting c0 c1 →
+pub woken_holds : (old new : Rest) (bit : ℕ) (plan : List Talker) (t0 t1 c0 c1 : List Member) → IsSame old new →
+    new.few ≡ false → AwakeWithin new.talkers t1 → AwakeWithin new.controllers c1 → LeavesResting t0 t1 →
+    LeavesResting c0 c1 →
     RestHolds old bit plan t0 c0 → RestHolds new bit plan t1 c1
 woken_holds old new bit plan t0 t1 c0 c1 same many w w_too t c h = record {
   talkers_rest = same_rests old new bit t1 same (left_rests old bit t0 t1 t h.talkers_rest);
@@ -95,10 +108,12 @@ woken_holds old new bit plan t0 t1 c0 c1 same many w w_too t c h = record {
 }
 
 -- behind a bit through which they rest
-pub through_rests : (old new : Rest) (bit : ℕ) (level : Bool) (members : List Member) → RestsThrough bit level old new → AreResting old bit members → AreResting new (bit + 1) members
+pub through_rests : (old new : Rest) (bit : ℕ) (level : Bool) (members : List Member) → RestsThrough bit level old new →
+    AreResting old bit members → AreResting new (bit + 1) members
 through_rests old new bit level members through rests k m e is = next_rests old new bit level m through (rests k m e is)
 
-pub through_holds : (old new : Rest) (bit : ℕ) (level : Bool) (plan : List Talker) (t c : List Member) → RestsThrough bit level old new → RestHolds old bit plan t c → RestHolds new (bit + 1) plan t c
+pub through_holds : (old new : Rest) (bit : ℕ) (level : Bool) (plan : List Talker) (t c : List Member) →
+    RestsThrough bit level old new → RestHolds old bit plan t c → RestHolds new (bit + 1) plan t c
 through_holds old new bit level plan t c through h = record {
   talkers_rest = through_rests old new bit level t through h.talkers_rest;
   controllers_rest = through_rests old new bit level c through h.controllers_rest;

@@ -1,4 +1,5 @@
 pub mod Deeds
+pub mod LinesOfNodes
 pub mod Talks
 pub mod Controls
 pub mod Acts

@@ -1,5 +1,7 @@
 -- Two nodes of a run are on one line.
-use Rattle.std.proofs.Common.{◌≡◌, inl, inr, ℕ, zero, suc, ◌+◌, ◌-◌, ◌<◌, ◌≤◌, Bool, true, false, not, cond, eqb, ◌||◌, ◌&&◌, Option, Some, None, List, [], ◌∷◌, ◌++◌, fold, length, map, slice_get, option_map, refl, sym, ap, subst, arith, ◌∙◌, length-append}
+use Rattle.std.proofs.Common.{◌≡◌, inl, inr, ℕ, zero, suc, ◌+◌, ◌-◌, ◌<◌, ◌≤◌, Bool, true, false, not, cond, eqb, ◌||◌}
+use Rattle.std.proofs.Common.{◌&&◌, Option, Some, None, List, [], ◌∷◌, ◌++◌, fold, length, map, slice_get, option_map}
+use Rattle.std.proofs.Common.{refl, sym, ap, subst, arith, ◌∙◌, length-append}
 use Rattle.std.specs.List.{list_any, list_all}
 use Rattle.std.proofs.lemmas.Bool.{cases_lt}
 use Rattle.std.proofs.lemmas.List.{length-map}
@@ -257,7 +259,8 @@ driven_at plan node on trace bit x h s =
       h.size,
     )) in
     let place : s.place ≡ bit - on = omega (arith, s.bit_is, first) in
-    let found = sym (slice_get-map (λ (pair : Pair). pair.driven) (past_of on node trace).pairs s.place) ∙ s.level_is in (
+    let found = sym (slice_get-map (λ (pair : Pair). pair.driven) (past_of on node trace).pairs s.place) ∙ s.level_is in
+        (
       a,
       option_same (λ (pair : Pair). pair.driven) (slice_get (past_of on node trace).pairs s.place) _ x
           (ap (slice_get (past_of on node trace).pairs) place ∙ a.pair_is) found,

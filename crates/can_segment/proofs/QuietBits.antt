@@ -1,5 +1,6 @@
 -- A segment behind a bit at which all nodes rested, or all but one that sent on.
-use Rattle.std.proofs.Common.{◌≡◌, ℕ, ◌+◌, ◌<◌, ◌≤◌, ◌++◌, ◌∷◌, [], Bool, Some, List, length, slice_get, refl, sym, ap, subst, arith, ◌∙◌, length-append}
+use Rattle.std.proofs.Common.{◌≡◌, ℕ, ◌+◌, ◌<◌, ◌≤◌, ◌++◌, ◌∷◌, [], Bool, Some, List, length, slice_get, refl, sym, ap}
+use Rattle.std.proofs.Common.{subst, arith, ◌∙◌, length-append}
 use Rattle.std.proofs.lemmas.List.{append-nil, length-map}
 use Rattle.can_station.specs.declared.event.Event.{Event}
 use Rattle.can_station.specs.declared.member.Member.{Member}
@@ -23,29 +24,40 @@ use Rattle.can_station.proofs.Places.{same_some}
 use Rattle.can_segment.proofs.Quiet.{quiet_lines}
 use Rattle.can_segment.proofs.Rests.{members_length}
 use Rattle.can_segment.proofs.Shown.{map_there}
-use Rattle.can_segment.proofs.SoleSender.{controllers_settle_alone, controllers_start_alone, level_alone, quiet_alone, rests_alone, shown_alone, talkers_sample_alone, talkers_start_alone}
+use Rattle.can_segment.proofs.SoleSender.{controllers_settle_alone, controllers_start_alone, level_alone, quiet_alone}
+use Rattle.can_segment.proofs.SoleSender.{rests_alone, shown_alone, talkers_sample_alone, talkers_start_alone}
 use Rattle.can_segment.proofs.Wholes.{from_real, from_whole}
 
 -- what all nodes do at such a bit, whatever their ports are
-nodes_move_alone : (plan : SegmentPlan) (bit : ℕ) (level : Bool) (old new : Rest) (t0 t1 c0 c1 : List Member) → GoesQuietly bit level old new t0 t1 c0 c1 → RestHolds old bit plan.talkers.items t0 c0 → IsFaultless plan bit →
-    NodesMove plan bit level (members_at old bit t0) (members_at new (bit + 1) t1) (members_at old bit c0) (members_at new (bit + 1) c1)
+nodes_move_alone : (plan : SegmentPlan) (bit : ℕ) (level : Bool) (old new : Rest) (t0 t1 c0 c1 : List Member) →
+    GoesQuietly bit level old new t0 t1 c0 c1 → RestHolds old bit plan.talkers.items t0 c0 → IsFaultless plan bit →
+    NodesMove plan bit level (members_at old bit t0) (members_at new (bit + 1) t1) (members_at old bit c0)
+    (members_at new (bit + 1) c1)
 nodes_move_alone plan bit level old new t0 t1 c0 c1 h rests faultless =
     let whole = members_at old bit c0 in
     let ports = sending_of_all whole in
-    let port : (k : ℕ) (m : Member) → slice_get whole k ≡ Some m → slice_get ports k ≡ Some (item_of m.station.sending) = λ k m e. map_there (λ member. item_of member.station.sending) whole k m e in
-    let sends : TransmitsAll (λ p. p) whole ports = λ k m p e f. same_some p (item_of m.station.sending) (sym f ∙ port k m e) in
+    let port : (k : ℕ) (m : Member) → slice_get whole k ≡ Some m → slice_get ports k
+        ≡ Some (item_of m.station.sending) =
+        λ k m e. map_there (λ member. item_of member.station.sending) whole k m e in
+    let sends : TransmitsAll (λ p. p) whole ports =
+        λ k m p e f. same_some p (item_of m.station.sending) (sym f ∙ port k m e) in
     let sizes = length-map whole (λ member. item_of member.station.sending) ∙ members_length old bit c0 in
-    let starts = controllers_start_alone (λ p past. Unit {0}) (λ p calls. Unit {0}) (λ p. p) (λ p q. Unit {0}) plan.talkers.items bit level old new t0 t1 c0 c1 ports (λ p. tt) h rests sends sizes in
-    let settles = controllers_settle_alone (λ p past. Unit {0}) (λ p calls. Unit {0}) (λ p. p) (λ p past. Unit {0}) (λ p q. Unit {0}) plan.talkers.items bit level old new t0 t1 c0 c1 ports (λ p. tt) h rests sends sizes in
+    let starts = controllers_start_alone (λ p past. Unit {0}) (λ p calls. Unit {0}) (λ p. p)
+        (λ p q. Unit {0}) plan.talkers.items bit level old new t0 t1 c0 c1 ports (λ p. tt) h rests sends sizes in
+    let settles = controllers_settle_alone (λ p past. Unit {0}) (λ p calls. Unit {0}) (λ p. p) (λ p past. Unit {0})
+        (λ p q. Unit {0}) plan.talkers.items bit level old new t0 t1 c0 c1 ports (λ p. tt) h rests sends sizes in
     let samples = talkers_sample_alone plan.talkers.items bit level old new t0 t1 c0 c1 h rests in
     record {
       t1 = members_at old bit t0;
       c1 = whole;
       starts = talkers_start_alone plan.talkers.items bit level old new t0 t1 c0 c1 h rests;
-      samples = record { at = λ k a b e f. subst (λ l. Samples bit l a b) (sym (faultless.nodes k level)) (samples.at k a b e f); size = samples.size };
+      samples = record { at = λ k a b e f. subst (λ l. Samples bit l a b) (sym (faultless.nodes k level))
+          (samples.at k a b e f); size = samples.size };
       controls = record {
         starts = λ k a b ea eb. (starts.at k a b _ _ ea eb (port k a ea) (port k a ea)).member;
-        settles = λ k a b ea eb. subst (λ l. SamplesAndSettles bit l a b) (sym (faultless.nodes (length plan.talkers.items + k) level)) (settles.at k a b _ _ ea eb (port k a ea) (port k a ea)).member;
+        settles = λ k a b ea eb. subst (λ l. SamplesAndSettles bit l a b)
+            (sym (faultless.nodes (length plan.talkers.items + k) level))
+            (settles.at k a b _ _ ea eb (port k a ea) (port k a ea)).member;
         mid_size = refl;
         after_size = settles.size;
       };
@@ -53,71 +65,105 @@ nodes_move_alone plan bit level old new t0 t1 c0 c1 h rests faultless =
     }
 
 -- nothing is told, and the nodes stand behind one bit more
-pub record KeptQuietly (plan : SegmentPlan) (levels : List Bool) (events : List Event) (level : Bool) (new : Rest) (t c : List Member) : Type 0 where
-  pub no_lines : bit_lines (length levels) (members_at new (length levels + 1) t) (members_at new (length levels + 1) c) ≡ []
-  pub kept : SegmentKept plan (levels ++ level ∷ []) events (members_at new (length levels + 1) t) (members_at new (length levels + 1) c)
+pub record KeptQuietly (plan : SegmentPlan) (levels : List Bool) (events : List Event) (level : Bool) (new : Rest)
+    (t c : List Member) : Type 0 where
+  pub no_lines : bit_lines (length levels) (members_at new (length levels + 1) t) (members_at new (length levels + 1) c)
+      ≡ []
+  pub kept : SegmentKept plan (levels ++ level ∷ []) events (members_at new (length levels + 1) t)
+      (members_at new (length levels + 1) c)
 
-pub kept_quietly : (plan : SegmentPlan) (levels : List Bool) (events : List Event) (level : Bool) (old new : Rest) (t0 t1 c0 c1 : List Member) →
-    SegmentKept plan levels events (members_at old (length levels) t0) (members_at old (length levels) c0) → length levels < plan.bits → GoesQuietly (length levels) level old new t0 t1 c0 c1 →
-    RestHolds old (length levels) plan.talkers.items t0 c0 → IsFaultless plan (length levels) → KeptQuietly plan levels events level new t1 c1
+pub kept_quietly : (plan : SegmentPlan) (levels : List Bool) (events : List Event) (level : Bool) (old new : Rest)
+    (t0 t1 c0 c1 : List Member) →
+    SegmentKept plan levels events (members_at old (length levels) t0) (members_at old (length levels) c0) →
+    length levels < plan.bits → GoesQuietly (length levels) level old new t0 t1 c0 c1 →
+    RestHolds old (length levels) plan.talkers.items t0 c0 → IsFaultless plan (length levels) →
+    KeptQuietly plan levels events level new t1 c1
 kept_quietly plan levels events level old new t0 t1 c0 c1 kept still h rests faultless =
     let bit = length levels in
     let talkers = members_at new (bit + 1) t1 in
     let controllers = members_at new (bit + 1) c1 in
-    let next = kept_on plan levels events bit level (members_at old bit t0) talkers (members_at old bit c0) controllers kept refl still (nodes_move_alone plan bit level old new t0 t1 c0 c1 h rests faultless) in
+    let next = kept_on plan levels events bit level (members_at old bit t0) talkers
+        (members_at old bit c0) controllers kept refl still
+        (nodes_move_alone plan bit level old new t0 t1 c0 c1 h rests faultless) in
     let quiet = quiet_alone plan.talkers.items bit level old new t0 t1 c0 c1 h rests in
-    let none = quiet_lines plan (levels ++ level ∷ []) (events ++ bit_lines bit talkers controllers) bit talkers controllers next (length-append levels (level ∷ []) ∙ omega arith) quiet.0 quiet.1 in
+    let none = quiet_lines plan (levels ++ level ∷ []) (events ++ bit_lines bit talkers controllers) bit talkers
+        controllers next (length-append levels (level ∷ []) ∙ omega arith) quiet.0 quiet.1 in
     record {
       no_lines = none;
-      kept = subst (λ es. SegmentKept plan (levels ++ level ∷ []) es talkers controllers) (ap (λ ls. events ++ ls) none ∙ append-nil events) next;
+      kept = subst (λ es. SegmentKept plan (levels ++ level ∷ []) es talkers controllers)
+          (ap (λ ls. events ++ ls) none ∙ append-nil events) next;
     }
 
 -- and all else stands as it stood
-pub holds_quietly : (plan : SegmentPlan) (made next : Record) (level : Bool) (old new : Rest) (t0 t1 c0 c1 : List Member) →
-    SegmentHolds plan made (members_at old (length made.levels.items) t0) (members_at old (length made.levels.items) c0) → KeptQuietly plan made.levels.items made.events.items level new t1 c1 →
-    GoesQuietly (length made.levels.items) level old new t0 t1 c0 c1 → RestHolds old (length made.levels.items) plan.talkers.items t0 c0 → next.levels.items ≡ made.levels.items ++ level ∷ [] → next.events.items ≡ made.events.items → next.counters.items ≡ made.counters.items →
+pub holds_quietly : (plan : SegmentPlan) (made next : Record) (level : Bool) (old new : Rest)
+    (t0 t1 c0 c1 : List Member) →
+    SegmentHolds plan made (members_at old (length made.levels.items) t0)
+    (members_at old (length made.levels.items) c0) →
+    KeptQuietly plan made.levels.items made.events.items level new t1 c1 →
+    GoesQuietly (length made.levels.items) level old new t0 t1 c0 c1 →
+    RestHolds old (length made.levels.items) plan.talkers.items t0 c0 → next.levels.items ≡ made.levels.items
+    ++ level ∷ [] → next.events.items ≡ made.events.items → next.counters.items ≡ made.counters.items →
     SegmentHolds plan next (members_at new (length next.levels.items) t1) (members_at new (length next.levels.items) c1)
 holds_quietly plan made next level old new t0 t1 c0 c1 held quiet h rests levels_is events_are counters_are =
     let bit = length made.levels.items in
     let talkers = members_at new (bit + 1) t1 in
     let before = held.kept.stands in
     let behind = quiet.kept.stands in
-    let longer : bit + 1 ≡ length next.levels.items = sym (ap length levels_is ∙ length-append made.levels.items (level ∷ [])) in
+    let longer : bit + 1 ≡ length next.levels.items =
+        sym (ap length levels_is ∙ length-append made.levels.items (level ∷ [])) in
     let size : length (members_at old bit t0) ≡ length talkers = before.talkers_size ∙ sym behind.talkers_size in
     subst (λ n. SegmentHolds plan next (members_at new n t1) (members_at new n c1)) longer
     (record {
       kept = subst (λ ls. SegmentKept plan ls next.events.items talkers (members_at new (bit + 1) c1)) (sym levels_is)
-          (subst (λ es. SegmentKept plan (made.levels.items ++ level ∷ []) es talkers (members_at new (bit + 1) c1)) (sym events_are) quiet.kept);
-      few = omega (arith, held.few, before.talkers_size, before.controllers_size, behind.talkers_size, behind.controllers_size);
-      size = omega (arith, ap length counters_are, held.size, before.talkers_size, before.controllers_size, behind.talkers_size, behind.controllers_size);
+          (subst (λ es. SegmentKept plan (made.levels.items ++ level ∷ []) es talkers (members_at new (bit + 1) c1))
+              (sym events_are) quiet.kept);
+      few = omega (arith, held.few, before.talkers_size, before.controllers_size, behind.talkers_size,
+          behind.controllers_size);
+      size = omega (arith, ap length counters_are, held.size, before.talkers_size, before.controllers_size,
+          behind.talkers_size, behind.controllers_size);
       talkers_shown = subst (AreFrom 0 talkers) (sym counters_are)
           (from_real 0 new (bit + 1) t1 made.counters.items
-          ((shown_alone 0 plan.talkers.items bit level old new t0 t1 c0 c1 made.counters.items h rests).0 (from_whole 0 old bit t0 made.counters.items held.talkers_shown)));
+          ((shown_alone 0 plan.talkers.items bit level old new t0 t1 c0 c1 made.counters.items h rests).0
+              (from_whole 0 old bit t0 made.counters.items held.talkers_shown)));
       controllers_shown = subst (AreFrom (length talkers) (members_at new (bit + 1) c1)) (sym counters_are)
           (from_real (length talkers) new (bit + 1) c1 made.counters.items
           ((shown_alone (length talkers) plan.talkers.items bit level old new t0 t1 c0 c1 made.counters.items h rests).1
-          (subst (λ n. AreFrom n c0 made.counters.items) size (from_whole (length (members_at old bit t0)) old bit c0 made.counters.items held.controllers_shown))));
+          (subst (λ n. AreFrom n c0 made.counters.items) size
+              (from_whole (length (members_at old bit t0)) old bit c0 made.counters.items held.controllers_shown))));
     })
 
 -- so the record that grew quietly is that of a run, behind which all stands,
-pub grown_kept : (plan : SegmentPlan) (faults : FaultOrder) (made next : Record) (old new : Rest) (t0 t1 c0 c1 : List Member) (h : GrowsQuietly faults made next old new t0 t1 c0 c1) →
-    SegmentHolds plan made (members_at old (length made.levels.items) t0) (members_at old (length made.levels.items) c0) → length made.levels.items < plan.bits → StandsAt plan (length made.levels.items) faults →
-    RestHolds old (length made.levels.items) plan.talkers.items t0 c0 → KeptQuietly plan made.levels.items made.events.items h.level new t1 c1
+pub grown_kept : (plan : SegmentPlan) (faults : FaultOrder) (made next : Record) (old new : Rest)
+    (t0 t1 c0 c1 : List Member) (h : GrowsQuietly faults made next old new t0 t1 c0 c1) →
+    SegmentHolds plan made (members_at old (length made.levels.items) t0)
+    (members_at old (length made.levels.items) c0) → length made.levels.items < plan.bits →
+    StandsAt plan (length made.levels.items) faults →
+    RestHolds old (length made.levels.items) plan.talkers.items t0 c0 →
+    KeptQuietly plan made.levels.items made.events.items h.level new t1 c1
 grown_kept plan faults made next old new t0 t1 c0 c1 h holds still stands rests =
-    kept_quietly plan made.levels.items made.events.items h.level old new t0 t1 c0 c1 holds.kept still h.sends rests (h.faultless plan stands)
+    kept_quietly plan made.levels.items made.events.items h.level old new t0 t1 c0 c1 holds.kept still h.sends rests
+        (h.faultless plan stands)
 
-pub grown_holds : (plan : SegmentPlan) (faults : FaultOrder) (made next : Record) (old new : Rest) (t0 t1 c0 c1 : List Member) → GrowsQuietly faults made next old new t0 t1 c0 c1 →
-    SegmentHolds plan made (members_at old (length made.levels.items) t0) (members_at old (length made.levels.items) c0) → length made.levels.items < plan.bits → StandsAt plan (length made.levels.items) faults →
+pub grown_holds : (plan : SegmentPlan) (faults : FaultOrder) (made next : Record) (old new : Rest)
+    (t0 t1 c0 c1 : List Member) → GrowsQuietly faults made next old new t0 t1 c0 c1 →
+    SegmentHolds plan made (members_at old (length made.levels.items) t0)
+    (members_at old (length made.levels.items) c0) → length made.levels.items < plan.bits →
+    StandsAt plan (length made.levels.items) faults →
     RestHolds old (length made.levels.items) plan.talkers.items t0 c0 →
     SegmentHolds plan next (members_at new (length next.levels.items) t1) (members_at new (length next.levels.items) c1)
 grown_holds plan faults made next old new t0 t1 c0 c1 h holds still stands rests =
-    holds_quietly plan made next h.level old new t0 t1 c0 c1 holds (grown_kept plan faults made next old new t0 t1 c0 c1 h holds still stands rests) h.sends rests h.levels_is (ap (λ v. v.items) h.events_is) (ap (λ v. v.items) h.counters_is)
+    holds_quietly plan made next h.level old new t0 t1 c0 c1 holds
+        (grown_kept plan faults made next old new t0 t1 c0 c1 h holds still stands rests) h.sends rests h.levels_is
+        (ap (λ v. v.items) h.events_is) (ap (λ v. v.items) h.counters_is)
 
 -- and its nodes rest on
-pub grown_rests : (plan : SegmentPlan) (faults : FaultOrder) (made next : Record) (old new : Rest) (t0 t1 c0 c1 : List Member) → GrowsQuietly faults made next old new t0 t1 c0 c1 →
-    RestHolds old (length made.levels.items) plan.talkers.items t0 c0 → RestHolds new (length next.levels.items) plan.talkers.items t1 c1
+pub grown_rests : (plan : SegmentPlan) (faults : FaultOrder) (made next : Record) (old new : Rest)
+    (t0 t1 c0 c1 : List Member) → GrowsQuietly faults made next old new t0 t1 c0 c1 →
+    RestHolds old (length made.levels.items) plan.talkers.items t0 c0 →
+    RestHolds new (length next.levels.items) plan.talkers.items t1 c1
 grown_rests plan faults made next old new t0 t1 c0 c1 h rests =
-    subst (λ n. RestHolds new n plan.talkers.items t1 c1) (sym (ap length h.levels_is ∙ length-append made.levels.items (h.level ∷ [])))
+    subst (λ n. RestHolds new n plan.talkers.items t1 c1)
+        (sym (ap length h.levels_is ∙ length-append made.levels.items (h.level ∷ [])))
     (rests_alone plan.talkers.items (length made.levels.items) h.level old new t0 t1 c0 c1 h.sends rests)
 
 -- quiet bits so far, so many levels in all
@@ -130,9 +176,11 @@ pub record QuietSoFar (old new : SegmentValue) (made : ℕ) : Type 0 where
 pub quiet_start : (segment : SegmentValue) (made : ℕ) → length segment.levels ≡ made → QuietSoFar segment segment made
 quiet_start segment made here = record { bits = no_bit; plan_is = refl; here = here; still = λ h. h }
 
-pub quiet_more : (old mid new : SegmentValue) (made : ℕ) → MakesQuietBit mid new → length mid.levels < mid.plan.bits → QuietSoFar old mid made → QuietSoFar old new (made + 1)
+pub quiet_more : (old mid new : SegmentValue) (made : ℕ) → MakesQuietBit mid new → length mid.levels < mid.plan.bits →
+    QuietSoFar old mid made → QuietSoFar old new (made + 1)
 quiet_more old mid new made bit less h =
-    let longer : length new.levels ≡ length mid.levels + 1 = ap length bit.levels_is ∙ length-append mid.levels (bit.level ∷ []) in
+    let longer : length new.levels ≡ length mid.levels + 1 =
+        ap length bit.levels_is ∙ length-append mid.levels (bit.level ∷ []) in
     record {
       bits = one_more h.bits bit;
       plan_is = bit.plan_is ∙ h.plan_is;

@@ -1,5 +1,6 @@
 -- Of two attempts of one request of a controller the earlier one failed, and did not end the request.
-use Rattle.std.proofs.Common.{◌≡◌, inl, inr, ◌⊎◌, ℕ, zero, suc, ◌+◌, ◌<◌, ◌≤◌, Bool, Option, Some, None, List, [], ◌∷◌, ◌++◌, length, map, take, refl, sym, ap, subst, arith, ◌∙◌}
+use Rattle.std.proofs.Common.{◌≡◌, inl, inr, ◌⊎◌, ℕ, zero, suc, ◌+◌, ◌<◌, ◌≤◌, Bool, Option, Some, None, List, [], ◌∷◌}
+use Rattle.std.proofs.Common.{◌++◌, length, map, take, refl, sym, ap, subst, arith, ◌∙◌}
 use Rattle.std.specs.Prelude.{option_and_then}
 use Rattle.std.proofs.lemmas.Bool.{cases_lt}
 use Rattle.std.proofs.lemmas.Bool.Decides.{eqb_tells}
@@ -29,7 +30,8 @@ use Rattle.can_segment.specs.Runs.{Run, firsts}
 use Rattle.can_segment.specs.Runs.Run.{no_bit, one_more}
 use Rattle.can_segment.proofs.ActsNoted.{does_at, take_left, take_whole, act_before, act_last, within_act}
 use Rattle.can_segment.proofs.Attempts.{act_begins, attempts_are_told, begun_by, outcome_by, ends_it, act_ends}
-use Rattle.can_segment.proofs.Brought.{of-append, of-same, of-other, all-append, grown-nil, grown-append}
+use Rattle.can_segment.proofs.Brought.{all-append, grown-nil, grown-append}
+use Rattle.can_segment.proofs.LinesOfNodes.{of-append, of-same, of-other}
 use Rattle.can_segment.proofs.OneLine.{same_found}
 use Rattle.can_segment.proofs.Retries.{fails}
 

@@ -1,5 +1,6 @@
 -- Of two attempts of one request the earlier one failed.
-use Rattle.std.proofs.Common.{◌≡◌, ℕ, zero, suc, ◌+◌, ◌<◌, ◌≤◌, Bool, true, List, [], ◌∷◌, fold, length, take, refl, ap, subst, arith, ◌∙◌}
+use Rattle.std.proofs.Common.{◌≡◌, ℕ, zero, suc, ◌+◌, ◌<◌, ◌≤◌, Bool, true, List, [], ◌∷◌, fold, length, take, refl, ap}
+use Rattle.std.proofs.Common.{subst, arith, ◌∙◌}
 use Rattle.std.specs.List.{Contains}
 use Rattle.can_node.specs.declared.outcome.Outcome.{Outcome}
 use Rattle.can_node.specs.declared.outcome.Outcome.TheVariants.{Completed}

@@ -1,5 +1,7 @@
 -- A bit of which nothing is told, and one of those at which one node alone sends and all others rest.
-use Rattle.std.proofs.Common.{◌≡◌, ◌≢◌, ℕ, zero, suc, ◌+◌, ◌≤◌, ◌&&◌, nat_le, cond, Bool, true, false, Some, None, IfSome, Option, List, [], ◌∷◌, length, slice_get, refl, sym, ap, subst, arith, inl, inr, ◌∙◌}
+use Rattle.std.proofs.Common.{◌≡◌, ◌≢◌, ℕ, zero, suc, ◌+◌, ◌≤◌, ◌&&◌, nat_le, cond, Bool, true, false, Some, None}
+use Rattle.std.proofs.Common.{IfSome, Option, List, [], ◌∷◌, length, slice_get, refl, sym, ap, subst, arith, inl, inr}
+use Rattle.std.proofs.Common.{◌∙◌}
 use Rattle.std.specs.List.{list_all}
 use Rattle.std.proofs.lemmas.Bool.Decides.{leb_tells}
 use Rattle.std.proofs.lemmas.List.{length-map}
@@ -16,31 +18,41 @@ use Rattle.can_station.specs.Deeds.{AreQuiet}
 use Rattle.can_station.specs.Members.{PortSettles, PortStarts, Samples, TalkerStarts, drives_at, is_on, wants_at}
 use Rattle.can_station.specs.Places.{AtPlaces, AtBoth, MovesOne}
 use Rattle.can_station.specs.Ports.{item_of}
-use Rattle.can_segment.specs.Rests.{Drives, GoesQuietly, driven_beside, RestHolds, RestsThrough, SendsAlone, StartsNone, members_at}
-use Rattle.can_station.specs.RestingNodes.{AllGo, MemberGoes, MemberSends, OneSends, OthersRest, TransmitsAll, caught_up, passes, woken}
+use Rattle.can_segment.specs.Rests.{Drives, GoesQuietly, driven_beside, RestHolds, RestsThrough, SendsAlone, StartsNone}
+use Rattle.can_segment.specs.Rests.{members_at}
+use Rattle.can_station.specs.RestingNodes.{AllGo, MemberGoes, MemberSends, OneSends, OthersRest, TransmitsAll}
+use Rattle.can_station.specs.RestingNodes.{caught_up, passes, woken}
 use Rattle.can_segment.specs.Segments.{AreFrom, sending_of_all}
 use Rattle.can_station.proofs.Places.{same_some, some_there}
 use Rattle.can_segment.proofs.Holds.{left_holds, through_holds}
-use Rattle.can_segment.proofs.Rests.{all_drive, all_quiet, controllers_sample, controllers_start, members_length, members_sample, talkers_start, transmits_real, wishes_none}
+use Rattle.can_segment.proofs.Rests.{all_drive, all_quiet, controllers_sample, controllers_start, members_length}
+use Rattle.can_segment.proofs.Rests.{members_sample, talkers_start, transmits_real, wishes_none}
 use Rattle.can_segment.proofs.Shown.{map_at, map_there}
 use Rattle.can_station.proofs.Spans.{all_pass, within_places}
 use Rattle.can_segment.proofs.Woken.{awake_woken, left_places, resting_woken, same_list}
 use Rattle.can_segment.proofs.Going.{go_quiet, go_requests, go_samples, go_settles, go_shown, go_starts, one_goes}
 
 -- the one's level is that of the line
-sole_level : (place bit : ℕ) (before after : Listener) (level : Bool) (old new : List Member) → OneSends place bit before level after old new → level ≡ passes (drives_at bit) (slice_get old place)
+sole_level : (place bit : ℕ) (before after : Listener) (level : Bool) (old new : List Member) →
+    OneSends place bit before level after old new → level ≡ passes (drives_at bit) (slice_get old place)
 sole_level place bit before after level old new h =
     let from = h.from in
-    h.step.sends.drives ∙ ap (λ b. cond b (driven_by from.station.node) true) (sym (on_at from.on bit h.step.is_on)) ∙ ap (passes (drives_at bit)) (sym h.from_is)
+    h.step.sends.drives ∙ ap (λ b. cond b (driven_by from.station.node) true) (sym (on_at from.on bit h.step.is_on))
+        ∙ ap (passes (drives_at bit)) (sym h.from_is)
   where
     on_at : (on bit : ℕ) → on ≤ bit → nat_le on bit ≡ true
-    on_at on bit h = elim (leb_tells on bit) [ inl is ↦ is.0 | inr isnt ↦ absurd (let less = isnt.1 in omega (arith, h, less)) ]
+    on_at on bit h =
+        elim (leb_tells on bit) [ inl is ↦ is.0 | inr isnt ↦ absurd (let less = isnt.1 in omega (arith, h, less)) ]
 
 -- there is none that could move
-none_moves : (place : ℕ) (Step : Member → Member → Type 0) (members : List Member) → length members ≤ place → MovesOne place Step members members
-none_moves place Step members past = record { at = λ a b p q. absurd (let within = slice_get_within members place a p in omega (arith, within, past)); others = λ k not. refl; size = refl }
+none_moves : (place : ℕ) (Step : Member → Member → Type 0) (members : List Member) → length members ≤ place →
+    MovesOne place Step members members
+none_moves place Step members past =
+    record { at = λ a b p q. absurd (let within = slice_get_within members place a p in omega (arith, within, past));
+    others = λ k not. refl; size = refl }
 
-none_passes : (place bit : ℕ) (members : List Member) → length members ≤ place → passes (drives_at bit) (slice_get members place) ≡ true
+none_passes : (place bit : ℕ) (members : List Member) → length members ≤ place →
+    passes (drives_at bit) (slice_get members place) ≡ true
 none_passes place bit members past = ap (passes (drives_at bit)) (slice_get_past members place past)
 
 and_true : (b : Bool) → (b && true) ≡ b
@@ -48,33 +60,47 @@ and_true true = refl
 and_true false = refl
 
 -- the AND of what all drive is what it drives
-one_passes : {M : Type 0} (test : M → Bool) (place : ℕ) (xs : List M) → ((k : ℕ) (m : M) → slice_get xs k ≡ Some m → k ≢ place → test m ≡ true) → list_all test xs ≡ passes test (slice_get xs place)
+one_passes : {M : Type 0} (test : M → Bool) (place : ℕ) (xs : List M) →
+    ((k : ℕ) (m : M) → slice_get xs k ≡ Some m → k ≢ place → test m ≡ true) →
+    list_all test xs ≡ passes test (slice_get xs place)
 one_passes test place [] h = refl
-one_passes test zero (x ∷ xs) h = ap (λ b. test x && b) (all_pass test xs (λ k m e. h (suc k) m e (λ is. omega (arith, is)))) ∙ and_true (test x)
-one_passes test (suc place) (x ∷ xs) h = ap (λ b. b && list_all test xs) (h zero x refl (λ is. omega (arith, is))) ∙ one_passes test place xs (λ k m e not. h (suc k) m e (λ is. not (omega (arith, is))))
+one_passes test zero (x ∷ xs) h =
+    ap (λ b. test x && b) (all_pass test xs (λ k m e. h (suc k) m e (λ is. omega (arith, is)))) ∙ and_true (test x)
+one_passes test (suc place) (x ∷ xs) h = ap (λ b. b && list_all test xs) (h zero x refl (λ is. omega (arith, is)))
+    ∙ one_passes test place xs (λ k m e not. h (suc k) m e (λ is. not (omega (arith, is))))
 
 -- so where the others rest
-sole_drives : (place bit : ℕ) (members : List Member) → OthersRest place members → ((m : Member) → slice_get members place ≡ Some m → m.rests ≡ false) →
+sole_drives : (place bit : ℕ) (members : List Member) → OthersRest place members →
+    ((m : Member) → slice_get members place ≡ Some m → m.rests ≡ false) →
     driven_beside bit true members ≡ passes (drives_at bit) (slice_get members place)
 sole_drives place bit members others awake =
-    one_passes (λ m. cond m.rests true (drives_at bit m)) place members (λ k m e not. ap (λ b. cond b true (drives_at bit m)) (others k m e not)) ∙ by (slice_get members place) refl
+    one_passes (λ m. cond m.rests true (drives_at bit m)) place members
+        (λ k m e not. ap (λ b. cond b true (drives_at bit m)) (others k m e not)) ∙ by (slice_get members place) refl
   where
-    by : (found : Option Member) → slice_get members place ≡ found → passes (λ m. cond m.rests true (drives_at bit m)) found ≡ passes (drives_at bit) found
+    by : (found : Option Member) → slice_get members place ≡ found →
+        passes (λ m. cond m.rests true (drives_at bit m)) found ≡ passes (drives_at bit) found
     by None e = refl
     by (Some m) e = ap (λ b. cond b true (drives_at bit m)) (awake m e)
 
 -- the one that sends is awake
-sends_there : (place bit : ℕ) (before after : Listener) (level : Bool) (old new : List Member) (m : Member) → MovesOne place (MemberSends bit before level after) old new → slice_get old place ≡ Some m →
+sends_there : (place bit : ℕ) (before after : Listener) (level : Bool) (old new : List Member) (m : Member) →
+    MovesOne place (MemberSends bit before level after) old new → slice_get old place ≡ Some m →
     (n : Member) × (slice_get new place ≡ Some n) × MemberSends bit before level after m n
 sends_there place bit before after level old new m moves e =
     let n = some_there new place (let within = slice_get_within old place m e in omega (arith, within, moves.size)) in
     (n.0, n.1, moves.at m n.0 e n.1)
 
-sole_awake : (place bit : ℕ) (before after : Listener) (level : Bool) (old new : List Member) → MovesOne place (MemberSends bit before level after) old new → (m : Member) → slice_get old place ≡ Some m → m.rests ≡ false
-sole_awake place bit before after level old new moves m e = (sends_there place bit before after level old new m moves e).2.awake
+sole_awake : (place bit : ℕ) (before after : Listener) (level : Bool) (old new : List Member) →
+    MovesOne place (MemberSends bit before level after) old new → (m : Member) → slice_get old place ≡ Some m →
+    m.rests ≡ false
+sole_awake place bit before after level old new moves m e =
+    (sends_there place bit before after level old new m moves e).2.awake
 
-rests_through_alone : (rest : Rest) (place bit : ℕ) (after : Listener) (level : Bool) (old new : List Member) → OneSends place bit rest.listener level after old new →
-    RestsThrough bit level rest (record { listener = after; resting = rest.resting; known = rest.known; spent = rest.spent; talkers = rest.talkers; controllers = rest.controllers; few = rest.few; settled = rest.settled; asleep = rest.asleep; steady = rest.steady; leader = rest.leader })
+rests_through_alone : (rest : Rest) (place bit : ℕ) (after : Listener) (level : Bool) (old new : List Member) →
+    OneSends place bit rest.listener level after old new →
+    RestsThrough bit level rest (record { listener = after; resting = rest.resting; known = rest.known;
+          spent = rest.spent; talkers = rest.talkers; controllers = rest.controllers; few = rest.few; settled =
+          rest.settled; asleep = rest.asleep; steady = rest.steady; leader = rest.leader })
 rests_through_alone rest place bit after level old new h = record {
   resting = refl;
   talkers_is = refl;
@@ -86,34 +112,46 @@ rests_through_alone rest place bit after level old new h = record {
   listens = λ was. h.step.sends.listens;
 }
 
-drives_alone : (rest : Rest) (place bit : ℕ) (after : Listener) (level : Bool) (old new : List Member) → OneSends place bit rest.listener level after old new → Drives rest true
+drives_alone : (rest : Rest) (place bit : ℕ) (after : Listener) (level : Bool) (old new : List Member) →
+    OneSends place bit rest.listener level after old new → Drives rest true
 drives_alone rest place bit after level old new h = λ listening node at. sym (h.step.sends.others_drive node at)
 
-pub talker_alone : (rest : Rest) (sender controller bit : ℕ) (after : Listener) (level : Bool) (t0 t1 c : List Member) → length c ≤ controller → OneSends sender bit rest.listener level after t0 t1 →
-    SendsAlone bit level sender controller rest (record { listener = after; resting = rest.resting; known = rest.known; spent = rest.spent; talkers = rest.talkers; controllers = rest.controllers; few = rest.few; settled = rest.settled; asleep = rest.asleep; steady = rest.steady; leader = rest.leader }) t0 t1 c c
+pub talker_alone : (rest : Rest) (sender controller bit : ℕ) (after : Listener) (level : Bool) (t0 t1 c : List Member) →
+    length c ≤ controller → OneSends sender bit rest.listener level after t0 t1 →
+    SendsAlone bit level sender controller rest
+    (record { listener = after; resting = rest.resting; known = rest.known; spent = rest.spent; talkers = rest.talkers;
+          controllers = rest.controllers; few = rest.few; settled = rest.settled; asleep = rest.asleep; steady =
+          rest.steady; leader = rest.leader }) t0 t1 c c
 talker_alone rest sender controller bit after level t0 t1 c past h = record {
   starts_none = inr h.step.sends.others_begin;
   through = rests_through_alone rest sender bit after level t0 t1 h;
   drives = drives_alone rest sender bit after level t0 t1 h;
   talkers = h.moves;
   controllers = none_moves controller (MemberSends bit rest.listener level after) c past;
-  level_is = sole_level sender bit rest.listener after level t0 t1 h ∙ sym (and_true (passes (drives_at bit) (slice_get t0 sender)))
+  level_is = sole_level sender bit rest.listener after level t0 t1 h
+      ∙ sym (and_true (passes (drives_at bit) (slice_get t0 sender)))
       ∙ ap (λ b. passes (drives_at bit) (slice_get t0 sender) && b) (sym (none_passes controller bit c past));
 }
 
-pub controller_alone : (rest : Rest) (sender controller bit : ℕ) (after : Listener) (level : Bool) (t c0 c1 : List Member) → length t ≤ sender → OneSends controller bit rest.listener level after c0 c1 →
-    SendsAlone bit level sender controller rest (record { listener = after; resting = rest.resting; known = rest.known; spent = rest.spent; talkers = rest.talkers; controllers = rest.controllers; few = rest.few; settled = rest.settled; asleep = rest.asleep; steady = rest.steady; leader = rest.leader }) t t c0 c1
+pub controller_alone : (rest : Rest) (sender controller bit : ℕ) (after : Listener) (level : Bool)
+    (t c0 c1 : List Member) → length t ≤ sender → OneSends controller bit rest.listener level after c0 c1 →
+    SendsAlone bit level sender controller rest
+    (record { listener = after; resting = rest.resting; known = rest.known; spent = rest.spent; talkers = rest.talkers;
+          controllers = rest.controllers; few = rest.few; settled = rest.settled; asleep = rest.asleep; steady =
+          rest.steady; leader = rest.leader }) t t c0 c1
 controller_alone rest sender controller bit after level t c0 c1 past h = record {
   starts_none = inr h.step.sends.others_begin;
   through = rests_through_alone rest controller bit after level c0 c1 h;
   drives = drives_alone rest controller bit after level c0 c1 h;
   talkers = none_moves sender (MemberSends bit rest.listener level after) t past;
   controllers = h.moves;
-  level_is = sole_level controller bit rest.listener after level c0 c1 h ∙ ap (λ b. b && passes (drives_at bit) (slice_get c0 controller)) (sym (none_passes sender bit t past));
+  level_is = sole_level controller bit rest.listener after level c0 c1 h
+      ∙ ap (λ b. b && passes (drives_at bit) (slice_get c0 controller)) (sym (none_passes sender bit t past));
 }
 
 -- all rest, and the line is recessive
-pub none_alone : (old new : Rest) (sender controller bit : ℕ) (level : Bool) (t c : List Member) → length t ≤ sender → length c ≤ controller → StartsNone old → Drives old level → level ≡ true → RestsThrough bit level old new →
+pub none_alone : (old new : Rest) (sender controller bit : ℕ) (level : Bool) (t c : List Member) → length t ≤ sender →
+    length c ≤ controller → StartsNone old → Drives old level → level ≡ true → RestsThrough bit level old new →
     SendsAlone bit level sender controller old new t t c c
 none_alone old new sender controller bit level t c no_talker no_controller starts drives is through = record {
   starts_none = starts;
@@ -121,23 +159,29 @@ none_alone old new sender controller bit level t c no_talker no_controller start
   drives = subst (Drives old) is drives;
   talkers = none_moves sender (MemberSends bit old.listener level new.listener) t no_talker;
   controllers = none_moves controller (MemberSends bit old.listener level new.listener) c no_controller;
-  level_is = is ∙ ap (λ b. b && true) (sym (none_passes sender bit t no_talker)) ∙ ap (λ b. passes (drives_at bit) (slice_get t sender) && b) (sym (none_passes controller bit c no_controller));
+  level_is = is ∙ ap (λ b. b && true) (sym (none_passes sender bit t no_talker))
+      ∙ ap (λ b. passes (drives_at bit) (slice_get t sender) && b) (sym (none_passes controller bit c no_controller));
 }
 
 pub if_some : {A : Type 0} (P Q : A → Type 0) (o : Option A) → ((x : A) → P x → Q x) → IfSome o P → IfSome o Q
 if_some P Q None h given = tt
 if_some P Q (Some x) h given = h x given
 
-pub both_if_some : {A : Type 0} (P Q R : A → Type 0) (o : Option A) → ((x : A) → P x → Q x → R x) → IfSome o P → IfSome o Q → IfSome o R
+pub both_if_some : {A : Type 0} (P Q R : A → Type 0) (o : Option A) → ((x : A) → P x → Q x → R x) → IfSome o P →
+    IfSome o Q → IfSome o R
 both_if_some P Q R None h one other = tt
 both_if_some P Q R (Some x) h one other = h x one other
 
 -- where all others rest
-others_drive : (place bit : ℕ) (before after : Listener) (level : Bool) (old new : List Member) → OthersRest place old → MovesOne place (MemberSends bit before level after) old new → driven_beside bit true old ≡ passes (drives_at bit) (slice_get old place)
+others_drive : (place bit : ℕ) (before after : Listener) (level : Bool) (old new : List Member) → OthersRest place old →
+    MovesOne place (MemberSends bit before level after) old new →
+    driven_beside bit true old ≡ passes (drives_at bit) (slice_get old place)
 others_drive place bit before after level old new others moves =
     sole_drives place bit old others (sole_awake place bit before after level old new moves)
 
-pub alone_goes_quietly : (bit : ℕ) (level : Bool) (sender controller : ℕ) (old new : Rest) (t0 t1 c0 c1 : List Member) → OthersRest sender t0 → OthersRest controller c0 → SendsAlone bit level sender controller old new t0 t1 c0 c1 → GoesQuietly bit level old new t0 t1 c0 c1
+pub alone_goes_quietly : (bit : ℕ) (level : Bool) (sender controller : ℕ) (old new : Rest) (t0 t1 c0 c1 : List Member) →
+    OthersRest sender t0 → OthersRest controller c0 → SendsAlone bit level sender controller old new t0 t1 c0 c1 →
+    GoesQuietly bit level old new t0 t1 c0 c1
 alone_goes_quietly bit level sender controller old new t0 t1 c0 c1 others others_too h = record {
   starts_none = h.starts_none;
   through = h.through;
@@ -145,53 +189,81 @@ alone_goes_quietly bit level sender controller old new t0 t1 c0 c1 others others
   drives = h.drives;
   talkers = one_goes sender bit old.listener new.listener level t0 t1 others h.talkers;
   controllers = one_goes controller bit old.listener new.listener level c0 c1 others_too h.controllers;
-  level_is = h.level_is ∙ ap (λ b. b && passes (drives_at bit) (slice_get c0 controller)) (sym (others_drive sender bit old.listener new.listener level t0 t1 others h.talkers))
-      ∙ ap (λ b. driven_beside bit true t0 && b) (sym (others_drive controller bit old.listener new.listener level c0 c1 others_too h.controllers));
+  level_is = h.level_is ∙ ap (λ b. b && passes (drives_at bit) (slice_get c0 controller))
+      (sym (others_drive sender bit old.listener new.listener level t0 t1 others h.talkers))
+      ∙ ap (λ b. driven_beside bit true t0 && b)
+          (sym (others_drive controller bit old.listener new.listener level c0 c1 others_too h.controllers));
 }
 
-pub talkers_start_alone : (plan : List Talker) (bit : ℕ) (level : Bool) (old new : Rest) (t0 t1 c0 c1 : List Member) → GoesQuietly bit level old new t0 t1 c0 c1 → RestHolds old bit plan t0 c0 →
+pub talkers_start_alone : (plan : List Talker) (bit : ℕ) (level : Bool) (old new : Rest) (t0 t1 c0 c1 : List Member) →
+    GoesQuietly bit level old new t0 t1 c0 c1 → RestHolds old bit plan t0 c0 →
     AtPlaces (TalkerStarts bit plan) (members_at old bit t0) (members_at old bit t0)
 talkers_start_alone plan bit level old new t0 t1 c0 c1 h rests =
-    talkers_start old bit plan t0 t0 h.starts_none rests.talkers_rest rests.talkers_spent (go_starts bit level plan t0 t1 h.talkers)
+    talkers_start old bit plan t0 t0 h.starts_none rests.talkers_rest rests.talkers_spent
+        (go_starts bit level plan t0 t1 h.talkers)
 
-pub talkers_sample_alone : (plan : List Talker) (bit : ℕ) (level : Bool) (old new : Rest) (t0 t1 c0 c1 : List Member) → GoesQuietly bit level old new t0 t1 c0 c1 → RestHolds old bit plan t0 c0 →
+pub talkers_sample_alone : (plan : List Talker) (bit : ℕ) (level : Bool) (old new : Rest) (t0 t1 c0 c1 : List Member) →
+    GoesQuietly bit level old new t0 t1 c0 c1 → RestHolds old bit plan t0 c0 →
     AtPlaces (λ k. Samples bit level) (members_at old bit t0) (members_at new (bit + 1) t1)
 talkers_sample_alone plan bit level old new t0 t1 c0 c1 h rests =
-    members_sample old new bit 0 level [] t0 t1 rests.talkers_rest (λ k m e is. refl) (λ k m e is. h.through) (go_samples bit level t0 t1 h.talkers)
+    members_sample old new bit 0 level [] t0 t1 rests.talkers_rest (λ k m e is. refl) (λ k m e is. h.through)
+        (go_samples bit level t0 t1 h.talkers)
 
-pub controllers_start_alone : {P : Type 0} (after : P → BusPast → Type 0) (asked : P → List BusCall → Type 0) (transmitting : P → Option Item) (stays : P → P → Type 0) (plan : List Talker) (bit : ℕ) (level : Bool) (old new : Rest)
-    (t0 t1 c0 c1 : List Member) (ports : List P) → ((x : P) → stays x x) → GoesQuietly bit level old new t0 t1 c0 c1 → RestHolds old bit plan t0 c0 → TransmitsAll transmitting (members_at old bit c0) ports → length ports ≡ length c0 →
-    AtBoth (λ k. PortStarts after asked transmitting stays bit) (members_at old bit c0) (members_at old bit c0) ports ports
-controllers_start_alone after asked transmitting stays plan bit level old new t0 t1 c0 c1 ports same h rests whole sizes =
+pub controllers_start_alone : {P : Type 0} (after : P → BusPast → Type 0) (asked : P → List BusCall → Type 0)
+    (transmitting : P → Option Item) (stays : P → P → Type 0) (plan : List Talker) (bit : ℕ) (level : Bool)
+    (old new : Rest)
+    (t0 t1 c0 c1 : List Member) (ports : List P) → ((x : P) → stays x x) → GoesQuietly bit level old new t0 t1 c0 c1 →
+        RestHolds old bit plan t0 c0 → TransmitsAll transmitting (members_at old bit c0) ports →
+        length ports ≡ length c0 →
+    AtBoth (λ k. PortStarts after asked transmitting stays bit) (members_at old bit c0)
+        (members_at old bit c0) ports ports
+controllers_start_alone after asked transmitting stays plan bit level old new t0 t1 c0 c1 ports same h rests whole
+    sizes =
     let sends = transmits_real transmitting old bit c0 ports whole in
-    controllers_start after asked transmitting stays old bit c0 c0 ports ports same h.starts_none rests.controllers_rest rests.controllers_awake sends sizes
+    controllers_start after asked transmitting stays old bit c0 c0 ports ports same h.starts_none rests.controllers_rest
+        rests.controllers_awake sends sizes
     (go_requests after asked transmitting stays bit level c0 c1 ports same h.controllers sends)
 
-pub controllers_settle_alone : {P : Type 0} (after : P → BusPast → Type 0) (asked : P → List BusCall → Type 0) (transmitting : P → Option Item) (sink : P → List FrameValue → Type 0) (stays : P → P → Type 0) (plan : List Talker) (bit : ℕ) (level : Bool)
-    (old new : Rest) (t0 t1 c0 c1 : List Member) (ports : List P) → ((x : P) → stays x x) → GoesQuietly bit level old new t0 t1 c0 c1 → RestHolds old bit plan t0 c0 → TransmitsAll transmitting (members_at old bit c0) ports → length ports ≡ length c0 →
-    AtBoth (λ k. PortSettles after asked transmitting sink stays bit level) (members_at old bit c0) (members_at new (bit + 1) c1) ports ports
-controllers_settle_alone after asked transmitting sink stays plan bit level old new t0 t1 c0 c1 ports same h rests whole sizes =
+pub controllers_settle_alone : {P : Type 0} (after : P → BusPast → Type 0) (asked : P → List BusCall → Type 0)
+    (transmitting : P → Option Item) (sink : P → List FrameValue → Type 0) (stays : P → P → Type 0) (plan : List Talker)
+    (bit : ℕ) (level : Bool)
+    (old new : Rest) (t0 t1 c0 c1 : List Member) (ports : List P) → ((x : P) → stays x x) →
+        GoesQuietly bit level old new t0 t1 c0 c1 → RestHolds old bit plan t0 c0 →
+        TransmitsAll transmitting (members_at old bit c0) ports → length ports ≡ length c0 →
+    AtBoth (λ k. PortSettles after asked transmitting sink stays bit level) (members_at old bit c0)
+        (members_at new (bit + 1) c1) ports ports
+controllers_settle_alone after asked transmitting sink stays plan bit level old new t0 t1 c0 c1 ports same h rests whole
+    sizes =
     let sends = transmits_real transmitting old bit c0 ports whole in
-    controllers_sample after asked transmitting sink stays old new bit 0 level [] c0 c1 ports ports same rests.controllers_rest (λ k m e is. refl) (λ k m e is. h.through) sends sizes
+    controllers_sample after asked transmitting sink stays old new bit 0 level [] c0 c1 ports ports same
+        rests.controllers_rest (λ k m e is. refl) (λ k m e is. h.through) sends sizes
     (go_settles after asked transmitting sink stays bit level c0 c1 ports same h.controllers sends)
 
 -- the line has the AND of what all drive
-pub level_alone : (plan : List Talker) (bit : ℕ) (level : Bool) (old new : Rest) (t0 t1 c0 c1 : List Member) → GoesQuietly bit level old new t0 t1 c0 c1 → RestHolds old bit plan t0 c0 →
+pub level_alone : (plan : List Talker) (bit : ℕ) (level : Bool) (old new : Rest) (t0 t1 c0 c1 : List Member) →
+    GoesQuietly bit level old new t0 t1 c0 c1 → RestHolds old bit plan t0 c0 →
     level ≡ (list_all (drives_at bit) (members_at old bit t0) && list_all (drives_at bit) (members_at old bit c0))
 level_alone plan bit level old new t0 t1 c0 c1 h rests =
-    h.level_is ∙ ap (λ b. b && driven_beside bit h.resting c0) (all_drive old bit h.resting t0 h.drives rests.talkers_rest)
-    ∙ ap (λ b. list_all (drives_at bit) (members_at old bit t0) && b) (all_drive old bit h.resting c0 h.drives rests.controllers_rest)
+    h.level_is ∙ ap (λ b. b && driven_beside bit h.resting c0)
+        (all_drive old bit h.resting t0 h.drives rests.talkers_rest)
+    ∙ ap (λ b. list_all (drives_at bit) (members_at old bit t0) && b)
+        (all_drive old bit h.resting c0 h.drives rests.controllers_rest)
 
 -- those that rest still do,
-pub rests_alone : (plan : List Talker) (bit : ℕ) (level : Bool) (old new : Rest) (t0 t1 c0 c1 : List Member) → GoesQuietly bit level old new t0 t1 c0 c1 → RestHolds old bit plan t0 c0 → RestHolds new (bit + 1) plan t1 c1
+pub rests_alone : (plan : List Talker) (bit : ℕ) (level : Bool) (old new : Rest) (t0 t1 c0 c1 : List Member) →
+    GoesQuietly bit level old new t0 t1 c0 c1 → RestHolds old bit plan t0 c0 → RestHolds new (bit + 1) plan t1 c1
 rests_alone plan bit level old new t0 t1 c0 c1 h rests =
     let talkers = h.talkers in
     let controllers = h.controllers in
-    left_holds new (bit + 1) plan t0 t1 c0 c1 (left_places (λ k. MemberGoes bit level) t0 t1 talkers) (left_places (λ k. MemberGoes bit level) c0 c1 controllers)
-    (λ span. within_places (λ k. MemberGoes bit level) span t0 t1 talkers) (λ span. within_places (λ k. MemberGoes bit level) span c0 c1 controllers) (through_holds old new bit level plan t0 c0 h.through rests)
+    left_holds new (bit + 1) plan t0 t1 c0 c1 (left_places (λ k. MemberGoes bit level) t0 t1 talkers)
+        (left_places (λ k. MemberGoes bit level) c0 c1 controllers)
+    (λ span. within_places (λ k. MemberGoes bit level) span t0 t1 talkers)
+        (λ span. within_places (λ k. MemberGoes bit level) span c0 c1 controllers)
+        (through_holds old new bit level plan t0 c0 h.through rests)
 
 -- nothing is told,
-pub quiet_alone : (plan : List Talker) (bit : ℕ) (level : Bool) (old new : Rest) (t0 t1 c0 c1 : List Member) → GoesQuietly bit level old new t0 t1 c0 c1 → RestHolds old bit plan t0 c0 →
+pub quiet_alone : (plan : List Talker) (bit : ℕ) (level : Bool) (old new : Rest) (t0 t1 c0 c1 : List Member) →
+    GoesQuietly bit level old new t0 t1 c0 c1 → RestHolds old bit plan t0 c0 →
     AreQuiet bit (members_at new (bit + 1) t1) × AreQuiet bit (members_at new (bit + 1) c1)
 quiet_alone plan bit level old new t0 t1 c0 c1 h rests =
     let behind = rests_alone plan bit level old new t0 t1 c0 c1 h rests in (
@@ -200,7 +272,8 @@ quiet_alone plan bit level old new t0 t1 c0 c1 h rests =
     )
 
 -- and what is shown of counters stays shown
-pub shown_alone : (first : ℕ) (plan : List Talker) (bit : ℕ) (level : Bool) (old new : Rest) (t0 t1 c0 c1 : List Member) (counters : List Counters) → GoesQuietly bit level old new t0 t1 c0 c1 → RestHolds old bit plan t0 c0 →
+pub shown_alone : (first : ℕ) (plan : List Talker) (bit : ℕ) (level : Bool) (old new : Rest) (t0 t1 c0 c1 : List Member)
+    (counters : List Counters) → GoesQuietly bit level old new t0 t1 c0 c1 → RestHolds old bit plan t0 c0 →
     (AreFrom first t0 counters → AreFrom first t1 counters) × (AreFrom first c0 counters → AreFrom first c1 counters)
 shown_alone first plan bit level old new t0 t1 c0 c1 counters h rests = (
   go_shown first bit level t0 t1 counters h.talkers,
@@ -212,7 +285,8 @@ and_false true = refl
 and_false false = refl
 
 -- no controller wants to start,
-pub wishes_alone : (plan : List Talker) (bit : ℕ) (level : Bool) (old new : Rest) (t0 t1 c0 c1 : List Member) → GoesQuietly bit level old new t0 t1 c0 c1 → RestHolds old bit plan t0 c0 → (k : ℕ) (m : Member) →
+pub wishes_alone : (plan : List Talker) (bit : ℕ) (level : Bool) (old new : Rest) (t0 t1 c0 c1 : List Member) →
+    GoesQuietly bit level old new t0 t1 c0 c1 → RestHolds old bit plan t0 c0 → (k : ℕ) (m : Member) →
     slice_get (members_at old bit c0) k ≡ Some m → wants_at bit m ≡ false
 wishes_alone plan bit level old new t0 t1 c0 c1 h rests k m e =
     let x = map_at (woken old.listener bit) c0 k m e in
@@ -224,22 +298,28 @@ wishes_alone plan bit level old new t0 t1 c0 c1 h rests k m e =
     go : AllGo bit level c0 c1
     go = h.controllers
 
-    by : (x : Member) → slice_get c0 k ≡ Some x → (b : Bool) → x.rests ≡ b → wants_at bit (woken old.listener bit x) ≡ false
-    by x f true is = ap (wants_at bit) (resting_woken old.listener bit x is) ∙ none_at (caught_up old.listener bit x) (wishes_none old c0 h.starts_none rests.controllers_awake k x f is x.station.node bit)
+    by : (x : Member) → slice_get c0 k ≡ Some x → (b : Bool) → x.rests ≡ b →
+        wants_at bit (woken old.listener bit x) ≡ false
+    by x f true is = ap (wants_at bit) (resting_woken old.listener bit x is)
+        ∙ none_at (caught_up old.listener bit x)
+        (wishes_none old c0 h.starts_none rests.controllers_awake k x f is x.station.node bit)
     by x f false is =
         let n = some_there c1 k (let there = slice_get_within c0 k x f in omega (arith, there, go.size)) in
         ap (wants_at bit) (awake_woken old.listener bit x is) ∙ none_at x ((go.at k x n.0 f n.1).steps is).begins_none
 
 -- and each has on the bus what it had
-pub sending_alone : (plan : List Talker) (bit : ℕ) (level : Bool) (old new : Rest) (t0 t1 c0 c1 : List Member) → GoesQuietly bit level old new t0 t1 c0 c1 → RestHolds old bit plan t0 c0 →
+pub sending_alone : (plan : List Talker) (bit : ℕ) (level : Bool) (old new : Rest) (t0 t1 c0 c1 : List Member) →
+    GoesQuietly bit level old new t0 t1 c0 c1 → RestHolds old bit plan t0 c0 →
     sending_of_all (members_at new (bit + 1) c1) ≡ sending_of_all (members_at old bit c0)
 sending_alone plan bit level old new t0 t1 c0 c1 h rests =
     let whole = members_at old bit c0 in
     let behind = members_at new (bit + 1) c1 in
     let item : Member → Option Item = λ member. item_of member.station.sending in
     let ports = sending_of_all whole in
-    let sends : TransmitsAll (λ p. p) whole ports = λ k m p e f. same_some p (item m) (sym f ∙ map_there item whole k m e) in
-    let settles = controllers_settle_alone (λ p past. Unit {0}) (λ p calls. Unit {0}) (λ p. p) (λ p past. Unit {0}) (λ p q. Unit {0}) plan bit level old new t0 t1 c0 c1 ports (λ p. tt) h rests sends
+    let sends : TransmitsAll (λ p. p) whole ports =
+        λ k m p e f. same_some p (item m) (sym f ∙ map_there item whole k m e) in
+    let settles = controllers_settle_alone (λ p past. Unit {0}) (λ p calls. Unit {0}) (λ p. p) (λ p past. Unit {0})
+        (λ p q. Unit {0}) plan bit level old new t0 t1 c0 c1 ports (λ p. tt) h rests sends
     (length-map whole item ∙ members_length old bit c0) in
     same_list ports (sending_of_all behind) (length-map behind item ∙ settles.size ∙ sym (length-map whole item))
     (λ k x y e f.

@@ -21,42 +21,55 @@ use Rattle.can_segment.proofs.Rests.{members_length, real_at, whole_at}
 use Rattle.can_segment.proofs.Woken.{none_resting}
 
 -- what is told of nodes
-told_whole : (tells : Deed → List Told) (bit node : ℕ) (rest : Rest) (at : ℕ) (members : List Member) → told_by tells bit node (members_at rest at members) ≡ told_by tells bit node members
+told_whole : (tells : Deed → List Told) (bit node : ℕ) (rest : Rest) (at : ℕ) (members : List Member) →
+    told_by tells bit node (members_at rest at members) ≡ told_by tells bit node members
 unfolding told_by
 told_whole tells bit node rest at [] = refl
-told_whole tells bit node rest at (m ∷ members) = ap (λ es. lines bit node (tells m.deed) ++ es) (told_whole tells bit (node + 1) rest at members)
+told_whole tells bit node rest at (m ∷ members) =
+    ap (λ es. lines bit node (tells m.deed) ++ es) (told_whole tells bit (node + 1) rest at members)
 
-pub lines_whole : (bit : ℕ) (rest : Rest) (at : ℕ) (t c : List Member) → bit_lines bit (members_at rest at t) (members_at rest at c) ≡ bit_lines bit t c
+pub lines_whole : (bit : ℕ) (rest : Rest) (at : ℕ) (t c : List Member) →
+    bit_lines bit (members_at rest at t) (members_at rest at c) ≡ bit_lines bit t c
 lines_whole bit rest at t c =
     let wt = members_at rest at t in
     let wc = members_at rest at c in
-    ap (λ n. (told_by start_of bit 0 wt ++ told_by start_of bit n wc) ++ (told_by rest_by bit 0 wt ++ told_by rest_by bit n wc)) (members_length rest at t)
-    ∙ ap (λ es. (es ++ told_by start_of bit (length t) wc) ++ (told_by rest_by bit 0 wt ++ told_by rest_by bit (length t) wc)) (told_whole start_of bit 0 rest at t)
-    ∙ ap (λ es. (told_by start_of bit 0 t ++ es) ++ (told_by rest_by bit 0 wt ++ told_by rest_by bit (length t) wc)) (told_whole start_of bit (length t) rest at c)
-    ∙ ap (λ es. (told_by start_of bit 0 t ++ told_by start_of bit (length t) c) ++ (es ++ told_by rest_by bit (length t) wc)) (told_whole rest_by bit 0 rest at t)
-    ∙ ap (λ es. (told_by start_of bit 0 t ++ told_by start_of bit (length t) c) ++ (told_by rest_by bit 0 t ++ es)) (told_whole rest_by bit (length t) rest at c)
+    ap (λ n. (told_by start_of bit 0 wt ++ told_by start_of bit n wc)
+        ++ (told_by rest_by bit 0 wt ++ told_by rest_by bit n wc)) (members_length rest at t)
+    ∙ ap (λ es. (es ++ told_by start_of bit (length t) wc)
+        ++ (told_by rest_by bit 0 wt ++ told_by rest_by bit (length t) wc)) (told_whole start_of bit 0 rest at t)
+    ∙ ap (λ es. (told_by start_of bit 0 t ++ es) ++ (told_by rest_by bit 0 wt ++ told_by rest_by bit (length t) wc))
+        (told_whole start_of bit (length t) rest at c)
+    ∙ ap (λ es. (told_by start_of bit 0 t ++ told_by start_of bit (length t) c)
+        ++ (es ++ told_by rest_by bit (length t) wc)) (told_whole rest_by bit 0 rest at t)
+    ∙ ap (λ es. (told_by start_of bit 0 t ++ told_by start_of bit (length t) c) ++ (told_by rest_by bit 0 t ++ es))
+        (told_whole rest_by bit (length t) rest at c)
 
 -- counters that are shown
-pub from_real : (first : ℕ) (rest : Rest) (at : ℕ) (members : List Member) (counters : List Counters) → AreFrom first members counters → AreFrom first (members_at rest at members) counters
+pub from_real : (first : ℕ) (rest : Rest) (at : ℕ) (members : List Member) (counters : List Counters) →
+    AreFrom first members counters → AreFrom first (members_at rest at members) counters
 from_real first rest at members counters h k x shown e f =
     let m = real_at rest at members k x e in
     h k m.0 shown m.1 f ∙ sym m.2.counters_are
 
-pub from_whole : (first : ℕ) (rest : Rest) (at : ℕ) (members : List Member) (counters : List Counters) → AreFrom first (members_at rest at members) counters → AreFrom first members counters
+pub from_whole : (first : ℕ) (rest : Rest) (at : ℕ) (members : List Member) (counters : List Counters) →
+    AreFrom first (members_at rest at members) counters → AreFrom first members counters
 from_whole first rest at members counters h k m shown e f =
     let x = whole_at rest at members k m e in
     h k x.0 shown x.1 f ∙ x.2.counters_are
 
-pub from_left : (first : ℕ) (old new : List Member) (counters : List Counters) → AreFrom first old counters → LeavesResting old new → AreFromResting first new counters
+pub from_left : (first : ℕ) (old new : List Member) (counters : List Counters) → AreFrom first old counters →
+    LeavesResting old new → AreFromResting first new counters
 from_left first old new counters h left k m shown is e f = h k m shown (left k m e is) f
 
-pub from_alike : (first : ℕ) (old new : List Member) (counters : List Counters) → AreAlike old new → AreFrom first old counters → AreFrom first new counters
+pub from_alike : (first : ℕ) (old new : List Member) (counters : List Counters) → AreAlike old new →
+    AreFrom first old counters → AreFrom first new counters
 from_alike first old new counters alike h k m shown e f =
     let x = some_there old k (let within = slice_get_within new k m e in omega (arith, within, alike.size)) in
     h k x.0 shown x.1 f ∙ sym (alike.at k x.0 m x.1 e).counters_are
 
 -- nodes in place of others between two bits
-behind_alike : (on k : ℕ) (trace : List Bit) (old new : Member) → IsAlike old new → StandsBehind on k trace old → StandsBehind on k trace new
+behind_alike : (on k : ℕ) (trace : List Bit) (old new : Member) → IsAlike old new → StandsBehind on k trace old →
+    StandsBehind on k trace new
 behind_alike on k trace old new alike h = record {
   on_is = alike.on_is ∙ h.on_is;
   stands = alike.stands _ h.stands;
@@ -66,7 +79,8 @@ behind_alike on k trace old new alike h = record {
   quiet = λ early. alike.quiet (h.quiet early);
 }
 
-pub kept_alike : (plan : SegmentPlan) (levels : List Bool) (events : List Event) (t0 t1 c0 c1 : List Member) → AreAlike t0 t1 → AreAlike c0 c1 → SegmentKept plan levels events t0 c0 → SegmentKept plan levels events t1 c1
+pub kept_alike : (plan : SegmentPlan) (levels : List Bool) (events : List Event) (t0 t1 c0 c1 : List Member) →
+    AreAlike t0 t1 → AreAlike c0 c1 → SegmentKept plan levels events t0 c0 → SegmentKept plan levels events t1 c1
 kept_alike plan levels events t0 t1 c0 c1 talkers controllers h = record {
   trace = h.trace;
   run = h.run;
@@ -78,22 +92,28 @@ kept_alike plan levels events t0 t1 c0 c1 talkers controllers h = record {
         behind_alike talker.on k h.trace x.0 m (talkers.at k x.0 m x.1 f) (h.stands.talkers_stand k talker x.0 e x.1);
     controllers_stand = λ k controller m e f.
         let x = some_there c0 k (let within = slice_get_within c1 k m f in omega (arith, within, controllers.size)) in
-        behind_alike controller.on (length plan.talkers.items + k) h.trace x.0 m (controllers.at k x.0 m x.1 f) (h.stands.controllers_stand k controller x.0 e x.1);
+        behind_alike controller.on (length plan.talkers.items + k) h.trace x.0 m (controllers.at k x.0 m x.1 f)
+            (h.stands.controllers_stand k controller x.0 e x.1);
   };
 }
 
 -- what a segment holds behind a bit, when nodes may have come to rest
-pub holds_alike : (plan : SegmentPlan) (made : Record) (t0 t1 c0 c1 : List Member) → AreAlike t0 t1 → AreAlike c0 c1 → SegmentKept plan made.levels.items made.events.items t0 c0 → length t0 + length c0 ≤ 16 →
-    length made.counters.items ≡ length t0 + length c0 → AreFrom 0 t0 made.counters.items → AreFrom (length t0) c0 made.counters.items → SegmentHolds plan made t1 c1
+pub holds_alike : (plan : SegmentPlan) (made : Record) (t0 t1 c0 c1 : List Member) → AreAlike t0 t1 → AreAlike c0 c1 →
+    SegmentKept plan made.levels.items made.events.items t0 c0 → length t0 + length c0 ≤ 16 →
+    length made.counters.items ≡ length t0 + length c0 → AreFrom 0 t0 made.counters.items →
+    AreFrom (length t0) c0 made.counters.items → SegmentHolds plan made t1 c1
 holds_alike plan made t0 t1 c0 c1 talkers controllers kept few size talkers_shown controllers_shown = record {
   kept = kept_alike plan made.levels.items made.events.items t0 t1 c0 c1 talkers controllers kept;
   few = omega (arith, few, talkers.size, controllers.size);
   size = omega (arith, size, talkers.size, controllers.size);
   talkers_shown = from_alike 0 t0 t1 made.counters.items talkers talkers_shown;
-  controllers_shown = subst (λ n. AreFrom n c1 made.counters.items) (sym talkers.size) (from_alike (length t0) c0 c1 made.counters.items controllers controllers_shown);
+  controllers_shown = subst (λ n. AreFrom n c1 made.counters.items) (sym talkers.size)
+      (from_alike (length t0) c0 c1 made.counters.items controllers controllers_shown);
 }
 
 -- where none rests each stands for itself
-pub holds_awake : (plan : SegmentPlan) (made : Record) (rest : Rest) (bit : ℕ) (t c : List Member) → NoneRests t → NoneRests c → SegmentHolds plan made t c → SegmentHolds plan made (members_at rest bit t) (members_at rest bit c)
+pub holds_awake : (plan : SegmentPlan) (made : Record) (rest : Rest) (bit : ℕ) (t c : List Member) → NoneRests t →
+    NoneRests c → SegmentHolds plan made t c → SegmentHolds plan made (members_at rest bit t) (members_at rest bit c)
 holds_awake plan made rest bit t c awake awake_too h =
-    subst (λ ms. SegmentHolds plan made ms (members_at rest bit c)) (sym (none_resting rest.listener bit t awake)) (subst (SegmentHolds plan made t) (sym (none_resting rest.listener bit c awake_too)) h)
+    subst (λ ms. SegmentHolds plan made ms (members_at rest bit c)) (sym (none_resting rest.listener bit t awake))
+        (subst (SegmentHolds plan made t) (sym (none_resting rest.listener bit c awake_too)) h)

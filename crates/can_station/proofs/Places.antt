@@ -1,5 +1,6 @@
 -- Laws of what a loop over nodes, or over nodes and their ports, does.
-use Rattle.std.proofs.Common.{◌≡◌, ◌≢◌, ℕ, zero, suc, [], ◌∷◌, subst, inl, inr, ◌+◌, ◌<◌, ◌≤◌, List, Some, slice_get, length, set, arith, refl, sym, ◌∙◌, ap, None, Option}
+use Rattle.std.proofs.Common.{◌≡◌, ◌≢◌, ℕ, zero, suc, [], ◌∷◌, subst, inl, inr, ◌+◌, ◌<◌, ◌≤◌, List, Some, slice_get}
+use Rattle.std.proofs.Common.{length, set, arith, refl, sym, ◌∙◌, ap, None, Option}
 use Rattle.std.proofs.lemmas.Bool.{cases_lt}
 use Rattle.std.proofs.lemmas.List.{length-set}
 use Rattle.std.proofs.lemmas.Option.{slice_get_within}
@@ -24,7 +25,8 @@ never_none [] j r e = omega (arith, r)
 never_none (y ∷ ys) zero r e = cc e
 never_none (y ∷ ys) (suc j) r e = never_none ys j (omega (arith, r)) e
 
-there : {X : Type 0} (xs : List X) (i : ℕ) → i < length xs → (found : Option X) → slice_get xs i ≡ found → (x : X) × (slice_get xs i ≡ Some x)
+there : {X : Type 0} (xs : List X) (i : ℕ) → i < length xs → (found : Option X) → slice_get xs i ≡ found → (x : X)
+    × (slice_get xs i ≡ Some x)
 there xs i room (Some x) e = (x, e)
 there xs i room None e = absurd (never_none xs i room e)
 
@@ -37,61 +39,76 @@ same_some a b e = cc e
 pub places_start : {M : Type 0} (Step : ℕ → M → M → Type 0) (xs : List M) → AtPlacesBelow Step xs xs 0
 places_start Step xs = record { below = λ k a b h p q. absurd (omega (arith, h)); above = λ k h. refl; size = refl }
 
-pub places_end : {M : Type 0} (Step : ℕ → M → M → Type 0) (old new : List M) (i : ℕ) → length old ≤ i → AtPlacesBelow Step old new i → AtPlaces Step old new
+pub places_end : {M : Type 0} (Step : ℕ → M → M → Type 0) (old new : List M) (i : ℕ) → length old ≤ i →
+    AtPlacesBelow Step old new i → AtPlaces Step old new
 places_end Step old new i all b = record {
   at = λ k a c p q. b.below k a c (let h : k < length old = slice_get_within old k a p in omega arith) p q;
   size = b.size;
 }
 
-same_step : {M : Type 0} (Step : ℕ → M → M → Type 0) (i k : ℕ) (a b c d : M) → i ≡ k → Some a ≡ Some c → Some b ≡ Some d → Step i a b → Step k c d
+same_step : {M : Type 0} (Step : ℕ → M → M → Type 0) (i k : ℕ) (a b c d : M) → i ≡ k → Some a ≡ Some c →
+    Some b ≡ Some d → Step i a b → Step k c d
 same_step Step i k a b c d ei ea eb step =
     let same_a : a ≡ c = cc ea in
     let same_b : b ≡ d = cc eb in
     subst (λ n. Step n c d) ei (subst (λ z. Step i c z) same_b (subst (λ z. Step i z b) same_a step))
 
-pub places_step : {M : Type 0} (Step : ℕ → M → M → Type 0) (old new : List M) (i : ℕ) (a b : M) → i < length old → slice_get new i ≡ Some a → Step i a b →
+pub places_step : {M : Type 0} (Step : ℕ → M → M → Type 0) (old new : List M) (i : ℕ) (a b : M) → i < length old →
+    slice_get new i ≡ Some a → Step i a b →
     AtPlacesBelow Step old new i → AtPlacesBelow Step old (set new i b) (i + 1)
 places_step Step old new i a b room here step e = record {
   below = λ k c d h p q. elim (cases_lt k i) [
     | inl less ↦ (let ne : k ≢ i = omega arith in e.below k c d less p (sym (get_set_other new i k b ne) ∙ q))
     | inr more ↦ (let is : k ≡ i = omega arith in
         let qa : Some a ≡ Some c = sym here ∙ e.above i (omega arith) ∙ ap (slice_get old) (sym is) ∙ p in
-        let qb : Some b ≡ Some d = sym (get_set_same new i b (omega (arith, e.size))) ∙ ap (slice_get (set new i b)) (sym is) ∙ q in
+        let qb : Some b ≡ Some d =
+            sym (get_set_same new i b (omega (arith, e.size))) ∙ ap (slice_get (set new i b)) (sym is) ∙ q in
         same_step Step i k a b c d (sym is) qa qb step)
   ];
   above = λ k h. (let ne : k ≢ i = omega arith in get_set_other new i k b ne ∙ e.above k (omega arith));
   size = simp length-set e.size;
 }
 
-pub both_start : {M P : Type 0} (Step : ℕ → M → M → P → P → Type 0) (xs : List M) (ps : List P) → AtBothBelow Step xs xs ps ps 0
-both_start Step xs ps = record { below = λ k a b p q h e f g j. absurd (omega (arith, h)); above = λ k h. refl; above_too = λ k h. refl; size = refl; size_too = refl }
+pub both_start : {M P : Type 0} (Step : ℕ → M → M → P → P → Type 0) (xs : List M) (ps : List P) →
+    AtBothBelow Step xs xs ps ps 0
+both_start Step xs ps = record { below = λ k a b p q h e f g j. absurd (omega (arith, h)); above = λ k h. refl;
+    above_too = λ k h. refl; size = refl; size_too = refl }
 
-pub both_end : {M P : Type 0} (Step : ℕ → M → M → P → P → Type 0) (old new : List M) (from to : List P) (i : ℕ) → length old ≤ i → AtBothBelow Step old new from to i → AtBoth Step old new from to
+pub both_end : {M P : Type 0} (Step : ℕ → M → M → P → P → Type 0) (old new : List M) (from to : List P) (i : ℕ) →
+    length old ≤ i → AtBothBelow Step old new from to i → AtBoth Step old new from to
 both_end Step old new from to i all b = record {
-  at = λ k a c p q e f g j. b.below k a c p q (let h : k < length old = slice_get_within old k a e in omega arith) e f g j;
+  at = λ k a c p q e f g j. b.below k a c p q (let h : k < length old = slice_get_within old k a e in
+      omega arith) e f g j;
   size = b.size;
   size_too = b.size_too;
 }
 
-same_both : {M P : Type 0} (Step : ℕ → M → M → P → P → Type 0) (i k : ℕ) (a b c d : M) (p q r s : P) → i ≡ k → Some a ≡ Some c → Some b ≡ Some d → Some p ≡ Some r → Some q ≡ Some s → Step i a b p q → Step k c d r s
+same_both : {M P : Type 0} (Step : ℕ → M → M → P → P → Type 0) (i k : ℕ) (a b c d : M) (p q r s : P) → i ≡ k →
+    Some a ≡ Some c → Some b ≡ Some d → Some p ≡ Some r → Some q ≡ Some s → Step i a b p q → Step k c d r s
 same_both Step i k a b c d p q r s ei ea eb ep eq step =
     let same_a : a ≡ c = cc ea in
     let same_b : b ≡ d = cc eb in
     let same_p : p ≡ r = cc ep in
     let same_q : q ≡ s = cc eq in
-    subst (λ n. Step n c d r s) ei (subst (λ z. Step i c d r z) same_q (subst (λ z. Step i c d z q) same_p (subst (λ z. Step i c z p q) same_b (subst (λ z. Step i z b p q) same_a step))))
+    subst (λ n. Step n c d r s) ei (subst (λ z. Step i c d r z) same_q
+        (subst (λ z. Step i c d z q) same_p (subst (λ z. Step i c z p q) same_b
+            (subst (λ z. Step i z b p q) same_a step))))
 
-pub both_step : {M P : Type 0} (Step : ℕ → M → M → P → P → Type 0) (old new : List M) (from to : List P) (i : ℕ) (a b : M) (p q : P) → i < length old → length from ≡ length old →
+pub both_step : {M P : Type 0} (Step : ℕ → M → M → P → P → Type 0) (old new : List M) (from to : List P) (i : ℕ)
+    (a b : M) (p q : P) → i < length old → length from ≡ length old →
     slice_get new i ≡ Some a → slice_get to i ≡ Some p → Step i a b p q →
     AtBothBelow Step old new from to i → AtBothBelow Step old (set new i b) from (set to i q) (i + 1)
 both_step Step old new from to i a b p q room sizes here there step e = record {
   below = λ k c d r s h ec ed er es. elim (cases_lt k i) [
-    | inl less ↦ (let ne : k ≢ i = omega arith in e.below k c d r s less ec (sym (get_set_other new i k b ne) ∙ ed) er (sym (get_set_other to i k q ne) ∙ es))
+    | inl less ↦ (let ne : k ≢ i = omega arith in
+        e.below k c d r s less ec (sym (get_set_other new i k b ne) ∙ ed) er (sym (get_set_other to i k q ne) ∙ es))
     | inr more ↦ (let is : k ≡ i = omega arith in
         let qa : Some a ≡ Some c = sym here ∙ e.above i (omega arith) ∙ ap (slice_get old) (sym is) ∙ ec in
-        let qb : Some b ≡ Some d = sym (get_set_same new i b (omega (arith, e.size))) ∙ ap (slice_get (set new i b)) (sym is) ∙ ed in
+        let qb : Some b ≡ Some d =
+            sym (get_set_same new i b (omega (arith, e.size))) ∙ ap (slice_get (set new i b)) (sym is) ∙ ed in
         let qp : Some p ≡ Some r = sym there ∙ e.above_too i (omega arith) ∙ ap (slice_get from) (sym is) ∙ er in
-        let qq : Some q ≡ Some s = sym (get_set_same to i q (omega (arith, e.size_too, sizes))) ∙ ap (slice_get (set to i q)) (sym is) ∙ es in
+        let qq : Some q ≡ Some s =
+            sym (get_set_same to i q (omega (arith, e.size_too, sizes))) ∙ ap (slice_get (set to i q)) (sym is) ∙ es in
         same_both Step i k a b c d p q r s (sym is) qa qb qp qq step)
   ];
   above = λ k h. (let ne : k ≢ i = omega arith in get_set_other new i k b ne ∙ e.above k (omega arith));

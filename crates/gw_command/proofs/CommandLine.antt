@@ -1,5 +1,6 @@
 -- What clap makes of the words that ask for a command.
-use Rattle.std.proofs.Common.{◌≡◌, ◌∙◌, ◌<◌, ◌≤◌, ◌^◌, ℕ, List, [], ◌∷◌, ◌++◌, ap, codes, Bool, true, false, option_map, Option, Some, None, refl, subst, arith, get_or}
+use Rattle.std.proofs.Common.{◌≡◌, ◌∙◌, ◌<◌, ◌≤◌, ◌^◌, ℕ, List, [], ◌∷◌, ◌++◌, ap, codes, Bool, true, false, option_map}
+use Rattle.std.proofs.Common.{Option, Some, None, refl, subst, arith, get_or}
 use Rattle.std.specs.Prelude.{pos, ◌≤ℤ◌, FitsSigned, zero, suc, ◌+◌, ◌-◌}
 use Rattle.std.specs.Int.{w64}
 use Rattle.std.specs.Str.Parse.{IsNumeral, digits_value, signed_digits_value, without_leading_sign}
@@ -22,7 +23,8 @@ pub is_simple_app : is_simple bxgate_app ≡ true
 unfolding clap_on_literals
 is_simple_app = refl
 
-composed : {A B C : Type 0} (f : A → B) (g : B → C) (o : Option A) → option_map (λ x. g (f x)) o ≡ option_map g (option_map f o)
+composed : {A B C : Type 0} (f : A → B) (g : B → C) (o : Option A) →
+    option_map (λ x. g (f x)) o ≡ option_map g (option_map f o)
 composed f g None = refl
 composed f g (Some x) = refl
 
@@ -69,7 +71,8 @@ rows_of_run given text = record {
 } ∷ slack_row ∷ []
 
 -- `run`
-pub run_is_met : (name : Text) → subcommand_of bxgate_app (name ∷ codes "run" ∷ []) ≡ Some (codes "run", rows_of_run false (codes "1"))
+pub run_is_met : (name : Text) → subcommand_of bxgate_app (name ∷ codes "run" ∷ [])
+    ≡ Some (codes "run", rows_of_run false (codes "1"))
 unfolding clap_on_literals
 run_is_met name = refl
 
@@ -102,7 +105,8 @@ IsNumber text = IsUpTo 1000000 text
 abbrev one_to : ℕ → ValueParser
 one_to most = Signed (pos 1) (pos most)
 
-accepted_to : (most : ℕ) (text : Text) (v : ℕ) → most ≤ 1000000 → without_leading_sign text ≡ text → signed_digits_value 10 text ≡ pos v → v ≡ digits_value 10 text → IsUpTo most text →
+accepted_to : (most : ℕ) (text : Text) (v : ℕ) → most ≤ 1000000 → without_leading_sign text ≡ text →
+    signed_digits_value 10 text ≡ pos v → v ≡ digits_value 10 text → IsUpTo most text →
     accepts false (one_to most) text ≡ true
 accepted_to most text v limit plain value value_is (numeral, some, few) =
     let low : pos 1 ≤ℤ pos v = omega (arith, ints) in
@@ -111,21 +115,31 @@ accepted_to most text v limit plain value value_is (numeral, some, few) =
     Accepts-accepts false (one_to most) text
     (rw plain numeral, rw value fits, rw value low, rw value high)
 
-accepted : (text : Text) (v : ℕ) → without_leading_sign text ≡ text → signed_digits_value 10 text ≡ pos v → v ≡ digits_value 10 text → IsNumber text →
+accepted : (text : Text) (v : ℕ) → without_leading_sign text ≡ text → signed_digits_value 10 text ≡ pos v →
+    v ≡ digits_value 10 text → IsNumber text →
     accepts false (one_to 1000000) text ≡ true
 accepted text v plain value value_is h = accepted_to 1000000 text v (omega arith) plain value value_is h
 
 first_digit : (name ds : Text) (k : ℕ) → k < 9 → IsNumber ((49 + k) ∷ ds) → IsMet name ((49 + k) ∷ ds)
 unfolding clap_on_literals
-first_digit name ds zero lt h = record { met = refl; one = refl; alone = refl; taken = rw (accepted (49 ∷ ds) _ refl refl refl h) refl }
-first_digit name ds (suc zero) lt h = record { met = refl; one = refl; alone = refl; taken = rw (accepted (50 ∷ ds) _ refl refl refl h) refl }
-first_digit name ds (suc (suc zero)) lt h = record { met = refl; one = refl; alone = refl; taken = rw (accepted (51 ∷ ds) _ refl refl refl h) refl }
-first_digit name ds (suc (suc (suc zero))) lt h = record { met = refl; one = refl; alone = refl; taken = rw (accepted (52 ∷ ds) _ refl refl refl h) refl }
-first_digit name ds (suc (suc (suc (suc zero)))) lt h = record { met = refl; one = refl; alone = refl; taken = rw (accepted (53 ∷ ds) _ refl refl refl h) refl }
-first_digit name ds (suc (suc (suc (suc (suc zero))))) lt h = record { met = refl; one = refl; alone = refl; taken = rw (accepted (54 ∷ ds) _ refl refl refl h) refl }
-first_digit name ds (suc (suc (suc (suc (suc (suc zero)))))) lt h = record { met = refl; one = refl; alone = refl; taken = rw (accepted (55 ∷ ds) _ refl refl refl h) refl }
-first_digit name ds (suc (suc (suc (suc (suc (suc (suc zero))))))) lt h = record { met = refl; one = refl; alone = refl; taken = rw (accepted (56 ∷ ds) _ refl refl refl h) refl }
-first_digit name ds (suc (suc (suc (suc (suc (suc (suc (suc zero)))))))) lt h = record { met = refl; one = refl; alone = refl; taken = rw (accepted (57 ∷ ds) _ refl refl refl h) refl }
+first_digit name ds zero lt h =
+    record { met = refl; one = refl; alone = refl; taken = rw (accepted (49 ∷ ds) _ refl refl refl h) refl }
+first_digit name ds (suc zero) lt h =
+    record { met = refl; one = refl; alone = refl; taken = rw (accepted (50 ∷ ds) _ refl refl refl h) refl }
+first_digit name ds (suc (suc zero)) lt h =
+    record { met = refl; one = refl; alone = refl; taken = rw (accepted (51 ∷ ds) _ refl refl refl h) refl }
+first_digit name ds (suc (suc (suc zero))) lt h =
+    record { met = refl; one = refl; alone = refl; taken = rw (accepted (52 ∷ ds) _ refl refl refl h) refl }
+first_digit name ds (suc (suc (suc (suc zero)))) lt h =
+    record { met = refl; one = refl; alone = refl; taken = rw (accepted (53 ∷ ds) _ refl refl refl h) refl }
+first_digit name ds (suc (suc (suc (suc (suc zero))))) lt h =
+    record { met = refl; one = refl; alone = refl; taken = rw (accepted (54 ∷ ds) _ refl refl refl h) refl }
+first_digit name ds (suc (suc (suc (suc (suc (suc zero)))))) lt h =
+    record { met = refl; one = refl; alone = refl; taken = rw (accepted (55 ∷ ds) _ refl refl refl h) refl }
+first_digit name ds (suc (suc (suc (suc (suc (suc (suc zero))))))) lt h =
+    record { met = refl; one = refl; alone = refl; taken = rw (accepted (56 ∷ ds) _ refl refl refl h) refl }
+first_digit name ds (suc (suc (suc (suc (suc (suc (suc (suc zero)))))))) lt h =
+    record { met = refl; one = refl; alone = refl; taken = rw (accepted (57 ∷ ds) _ refl refl refl h) refl }
 first_digit name ds (suc (suc (suc (suc (suc (suc (suc (suc (suc k))))))))) lt h = absurd (omega arith)
 
 in_digits : (name text : Text) → IsNumber text → 48 < get_or text 0 0 → IsMet name text
@@ -166,15 +180,28 @@ pub record IsMetInThreads (name text : Text) : Type 0 where
 
 first_of_threads : (name ds : Text) (k : ℕ) → k < 9 → IsUpTo 16 ((49 + k) ∷ ds) → IsMetInThreads name ((49 + k) ∷ ds)
 unfolding clap_on_literals
-first_of_threads name ds zero lt h = record { met = refl; slack = refl; one = refl; taken = rw (accepted_to 16 (49 ∷ ds) _ (omega arith) refl refl refl h) refl }
-first_of_threads name ds (suc zero) lt h = record { met = refl; slack = refl; one = refl; taken = rw (accepted_to 16 (50 ∷ ds) _ (omega arith) refl refl refl h) refl }
-first_of_threads name ds (suc (suc zero)) lt h = record { met = refl; slack = refl; one = refl; taken = rw (accepted_to 16 (51 ∷ ds) _ (omega arith) refl refl refl h) refl }
-first_of_threads name ds (suc (suc (suc zero))) lt h = record { met = refl; slack = refl; one = refl; taken = rw (accepted_to 16 (52 ∷ ds) _ (omega arith) refl refl refl h) refl }
-first_of_threads name ds (suc (suc (suc (suc zero)))) lt h = record { met = refl; slack = refl; one = refl; taken = rw (accepted_to 16 (53 ∷ ds) _ (omega arith) refl refl refl h) refl }
-first_of_threads name ds (suc (suc (suc (suc (suc zero))))) lt h = record { met = refl; slack = refl; one = refl; taken = rw (accepted_to 16 (54 ∷ ds) _ (omega arith) refl refl refl h) refl }
-first_of_threads name ds (suc (suc (suc (suc (suc (suc zero)))))) lt h = record { met = refl; slack = refl; one = refl; taken = rw (accepted_to 16 (55 ∷ ds) _ (omega arith) refl refl refl h) refl }
-first_of_threads name ds (suc (suc (suc (suc (suc (suc (suc zero))))))) lt h = record { met = refl; slack = refl; one = refl; taken = rw (accepted_to 16 (56 ∷ ds) _ (omega arith) refl refl refl h) refl }
-first_of_threads name ds (suc (suc (suc (suc (suc (suc (suc (suc zero)))))))) lt h = record { met = refl; slack = refl; one = refl; taken = rw (accepted_to 16 (57 ∷ ds) _ (omega arith) refl refl refl h) refl }
+first_of_threads name ds zero lt h = record { met = refl; slack = refl; one = refl;
+    taken = rw (accepted_to 16 (49 ∷ ds) _ (omega arith) refl refl refl h) refl }
+first_of_threads name ds (suc zero) lt h = record { met = refl; slack = refl; one = refl;
+    taken = rw (accepted_to 16 (50 ∷ ds) _ (omega arith) refl refl refl h) refl }
+first_of_threads name ds (suc (suc zero)) lt h = record { met = refl; slack = refl; one = refl;
+    taken = rw (accepted_to 16 (51 ∷ ds) _ (omega arith) refl refl refl h) refl }
+first_of_threads name ds (suc (suc (suc zero))) lt h = record { met = refl; slack = refl; one = refl;
+    taken = rw (accepted_to 16 (52 ∷ ds) _ (omega arith) refl refl refl h) refl }
+first_of_threads name ds (suc (suc (suc (suc zero)))) lt h = record { met = refl; slack = refl; one = refl;
+    taken = rw (accepted_to 16 (53 ∷ ds) _ (omega arith) refl refl refl h) refl }
+first_of_threads name ds (suc (suc (suc (suc (suc zero))))) lt h =
+    record { met = refl; slack = refl; one = refl; taken =
+    rw (accepted_to 16 (54 ∷ ds) _ (omega arith) refl refl refl h) refl }
+first_of_threads name ds (suc (suc (suc (suc (suc (suc zero)))))) lt h =
+    record { met = refl; slack = refl; one = refl; taken =
+    rw (accepted_to 16 (55 ∷ ds) _ (omega arith) refl refl refl h) refl }
+first_of_threads name ds (suc (suc (suc (suc (suc (suc (suc zero))))))) lt h =
+    record { met = refl; slack = refl; one = refl; taken =
+    rw (accepted_to 16 (56 ∷ ds) _ (omega arith) refl refl refl h) refl }
+first_of_threads name ds (suc (suc (suc (suc (suc (suc (suc (suc zero)))))))) lt h =
+    record { met = refl; slack = refl; one = refl; taken =
+    rw (accepted_to 16 (57 ∷ ds) _ (omega arith) refl refl refl h) refl }
 first_of_threads name ds (suc (suc (suc (suc (suc (suc (suc (suc (suc k))))))))) lt h = absurd (omega arith)
 
 digits_of_threads : (name text : Text) → IsUpTo 16 text → 48 < get_or text 0 0 → IsMetInThreads name text

@@ -7,7 +7,8 @@ use Rattle.std.proofs.lemmas.Bool.{ne_eqb}
 use Rattle.clap.specs.Lexer.{long_of, short_of}
 use Rattle.clap.specs.Simple.{Shape, built_leaf, inherited, marked_built, on_top, with_leaf_noted}
 use Rattle.clap.specs.Takes.{default_passes, is_valid, level_passes, settle_passes, step_passes}
-use Rattle.clap.specs.Walk.{Held, Walk, after_step, arg_by_index, finished, idle, nothing_held, to_positional, value, walk, walk_from, word_met}
+use Rattle.clap.specs.Walk.{Held, Walk, after_step, arg_by_index, finished, idle, nothing_held, to_positional, value}
+use Rattle.clap.specs.Walk.{walk, walk_from, word_met}
 use Rattle.clap.specs.Words.{Row, Rule, Text, one_of, subcommand_of, takes}
 use Rattle.clap.specs.declared.parser.matches.ValueSource.TheVariants.{CommandLine}
 use Rattle.clap.specs.declared.builder.value_parser.Reading.TheVariants.{AsWritten}
@@ -26,7 +27,8 @@ no_short : (c : ℕ) (cs : Text) → c ≢ 45 → short_of (c ∷ cs) ≡ None
 no_short c cs is = rw (ne_eqb c 45 is) refl
 
 -- so it is a value
-is_value : (rules : List Rule) (c : ℕ) (cs : Text) (h : Held) → c ≢ 45 → word_met rules [] false idle 1 (c ∷ cs) h ≡ (h, value)
+is_value : (rules : List Rule) (c : ℕ) (cs : Text) (h : Held) → c ≢ 45 →
+    word_met rules [] false idle 1 (c ∷ cs) h ≡ (h, value)
 unfolding clap_on_literals
 is_value rules c cs h is = rw (no_dashes c cs is, no_long c cs is, no_short c cs is) refl
 
@@ -34,16 +36,20 @@ is_value rules c cs h is = rw (no_dashes c cs is, no_long c cs is, no_short c cs
 abbrev walk_over : List Rule → Text → Walk
 walk_over rules word = to_positional rules (arg_by_index rules 1) word (walk_from nothing_held) nothing_held
 
-walk_is : (rules : List Rule) (c : ℕ) (cs : Text) → c ≢ 45 → walk rules [] nothing_held ((c ∷ cs) ∷ []) ≡ walk_over rules (c ∷ cs)
+walk_is : (rules : List Rule) (c : ℕ) (cs : Text) → c ≢ 45 → walk rules [] nothing_held ((c ∷ cs) ∷ [])
+    ≡ walk_over rules (c ∷ cs)
 unfolding clap_on_literals
-walk_is rules c cs is = ap (λ m. after_step rules (c ∷ cs) (walk_from nothing_held) m.0 m.1) (is_value rules c cs nothing_held is)
+walk_is rules c cs is =
+    ap (λ m. after_step rules (c ∷ cs) (walk_from nothing_held) m.0 m.1) (is_value rules c cs nothing_held is)
 
 -- whether a command takes one value
 abbrev takes_value : Shape → Walk → Bool
 takes_value s end = (step_passes s 1 nothing_held value && true)
-    && (settle_passes s.rules s.args_override_self end.held && (list_all default_passes s.rules && is_valid s (finished s.rules end.held) false))
+    && (settle_passes s.rules s.args_override_self end.held
+        && (list_all default_passes s.rules && is_valid s (finished s.rules end.held) false))
 
-level_is : (s : Shape) (c : ℕ) (cs : Text) → c ≢ 45 → level_passes s [] nothing_held ((c ∷ cs) ∷ []) false ≡ takes_value s (walk_over s.rules (c ∷ cs))
+level_is : (s : Shape) (c : ℕ) (cs : Text) → c ≢ 45 → level_passes s [] nothing_held ((c ∷ cs) ∷ []) false
+    ≡ takes_value s (walk_over s.rules (c ∷ cs))
 unfolding clap_on_literals
 level_is s c cs is = rw (no_dashes c cs is, no_long c cs is, no_short c cs is) refl
 
@@ -76,7 +82,8 @@ pub core_file_is_met : (name file : Text) → IsFileName file → IsMetWithFile 
 unfolding clap_on_literals
 core_file_is_met name [] is = record { met = refl; taken = refl }
 core_file_is_met name (c ∷ cs) is = record {
-  met = ap (λ (w : Walk). Some (codes "core", finished (below core_app.top).rules w.held)) (walk_is (below core_app.top).rules c cs is);
+  met = ap (λ (w : Walk). Some (codes "core", finished (below core_app.top).rules w.held))
+      (walk_is (below core_app.top).rules c cs is);
   taken = ap (λ b. b && true) (level_is (below core_app.top) c cs is);
 }
 
@@ -86,11 +93,13 @@ unfolding clap_on_literals
 run_hyphen_is_met name = record { met = refl; taken = refl }
 
 -- `run` with a file
-pub run_file_is_met : (name file : Text) → IsFileName file → IsMetWithFile name (codes "run") file (rows_of_run false (codes "1"))
+pub run_file_is_met : (name file : Text) → IsFileName file →
+    IsMetWithFile name (codes "run") file (rows_of_run false (codes "1"))
 unfolding clap_on_literals
 run_file_is_met name [] is = record { met = refl; taken = refl }
 run_file_is_met name (c ∷ cs) is = record {
-  met = ap (λ (w : Walk). Some (codes "run", finished (below run_app.top).rules w.held)) (walk_is (below run_app.top).rules c cs is);
+  met = ap (λ (w : Walk). Some (codes "run", finished (below run_app.top).rules w.held))
+      (walk_is (below run_app.top).rules c cs is);
   taken = ap (λ b. b && true) (level_is (below run_app.top) c cs is);
 }
 
@@ -103,6 +112,8 @@ is_named [] is = refl
 is_named (c ∷ cs) is = rw (ne_eqb c 45 is) refl
 
 -- the file by what a test for `-` tells of the word
-pub named_by : (word : Text) (first : Option Text) (test answer : Bool) → Some word ≡ first → test ≡ bytes_eq word (codes "-") → test ≡ answer
+pub named_by : (word : Text) (first : Option Text) (test answer : Bool) → Some word ≡ first →
+    test ≡ bytes_eq word (codes "-") → test ≡ answer
     → file_named first ≡ (if answer then None else Some word)
-named_by word first test answer is tests told = ap file_named (sym is) ∙ ap (λ t. if t then None else Some word) (sym tests ∙ told)
+named_by word first test answer is tests told =
+    ap file_named (sym is) ∙ ap (λ t. if t then None else Some word) (sym tests ∙ told)

@@ -1,5 +1,7 @@
 -- Controllers, routes and planned faults that are read without a fault are sound.
-use Rattle.std.proofs.Common.{◌≡◌, ◌∙◌, ap, sym, refl, subst, ℕ, zero, suc, ◌+◌, ◌-◌, ◌<◌, ◌≤◌, ◌==◌, ◌&&◌, nat_lt, List, [], ◌∷◌, ◌++◌, length, count_by, get_or, slice_get, Bool, true, false, cond, Option, Some, None, Ok, Err, if◌then◌else◌, AllPairs, append_assoc, codes, arith}
+use Rattle.std.proofs.Common.{◌≡◌, ◌∙◌, ap, sym, refl, subst, ℕ, zero, suc, ◌+◌, ◌-◌, ◌<◌, ◌≤◌, ◌==◌, ◌&&◌, nat_lt}
+use Rattle.std.proofs.Common.{List, [], ◌∷◌, ◌++◌, length, count_by, get_or, slice_get, Bool, true, false, cond, Option}
+use Rattle.std.proofs.Common.{Some, None, Ok, Err, if◌then◌else◌, AllPairs, append_assoc, codes, arith}
 use Rattle.std.proofs.lemmas.Bool.{ltb-true, eq-eqb, eqb-true}
 use Rattle.std.proofs.lemmas.List.{append-nil, map-append}
 use Rattle.std.proofs.lemmas.List.Quantifiers.{all_pairs_push}
@@ -20,9 +22,12 @@ use Rattle.gw_config.specs.Talkers.{talker_names, most_nodes}
 use Rattle.gw_config.specs.Segments.{SegmentValue, segment_names, all_talker_names, segments_of}
 use Rattle.gw_config.specs.BankLists.{banks_of}
 use Rattle.gw_config.specs.Rewrites.{rewrites_of}
-use Rattle.gw_config.specs.Controllers.{ControllerValue, controller_names, controllers_on, node_names, node_count, controller_with, controller_of, controllers_of}
-use Rattle.gw_config.specs.Routes.{RouteValue, route_names, takes_from, routes_into, placed, route_with, route_of, routes_of}
-use Rattle.gw_config.specs.PlannedFaults.{or_later, node_from, node_fault, line_fault, fault_with, planned_fault_of, planned_faults_of}
+use Rattle.gw_config.specs.Controllers.{ControllerValue, controller_names, controllers_on, node_names, node_count}
+use Rattle.gw_config.specs.Controllers.{controller_with, controller_of, controllers_of}
+use Rattle.gw_config.specs.Routes.{RouteValue, route_names, takes_from, routes_into, placed, route_with, route_of}
+use Rattle.gw_config.specs.Routes.{routes_of}
+use Rattle.gw_config.specs.PlannedFaults.{or_later, node_from, node_fault, line_fault, fault_with, planned_fault_of}
+use Rattle.gw_config.specs.PlannedFaults.{planned_faults_of}
 use Rattle.gw_config.specs.Scripts.{ScriptValue}
 use Rattle.gw_config.specs.Nodes.{talkers_on, names_of_nodes}
 use Rattle.gw_config.specs.SoundScripts.{HasFewFrames, IsAtNode, AreApart, TakesElsewhere}
@@ -31,9 +36,11 @@ use Rattle.gw_fields.proofs.Readings.{from_bind, passed_ok, found_ok, each_after
 use Rattle.gw_config.proofs.SoundLaws.{HasFewTalkers, segments_ok, apart_more, each-push, none_passes}
 
 -- one element more is counted where it passes
-count-more : {A : Type 0} (test : A → Bool) (xs : List A) (x : A) → count_by test (xs ++ x ∷ []) ≡ count_by test xs + cond (test x) 1 0
+count-more : {A : Type 0} (test : A → Bool) (xs : List A) (x : A) →
+    count_by test (xs ++ x ∷ []) ≡ count_by test xs + cond (test x) 1 0
 count-more test xs x =
-    let parts : count_by test (xs ++ x ∷ []) ≡ count_by test xs + count_by test (x ∷ []) = sum_by-append (λ y. cond (test y) 1 0) xs (x ∷ []) in
+    let parts : count_by test (xs ++ x ∷ []) ≡ count_by test xs + count_by test (x ∷ []) =
+        sum_by-append (λ y. cond (test y) 1 0) xs (x ∷ []) in
     parts ∙ ap (λ n. count_by test xs + n) (let one : 0 + cond (test x) 1 0 ≡ cond (test x) 1 0 = omega arith in one)
 
 -- no segment has more than 16 nodes with these controllers
@@ -44,53 +51,67 @@ pub record AreNewControllers (segments : List SegmentValue) (cs : List Controlle
   pub names : AreApart (all_talker_names segments ++ controller_names cs)
   pub few : HaveFewNodes segments cs
 
-record IsNewController (segments : List SegmentValue) (front : List ControllerValue) (c : ControllerValue) : Type 0 where
+record IsNewController (segments : List SegmentValue) (front : List ControllerValue)
+    (c : ControllerValue) : Type 0 where
   pub name : is_among c.name (all_talker_names segments ++ controller_names front) ≡ false
   pub room : node_count front c.segment (slice_get segments c.segment) < 16
 
 -- one controller more, where its segment has room
-count_stays : (b : Bool) (few count : ℕ) → few + count ≤ 16 → (b ≡ true → few + count < 16) → few + (count + cond b 1 0) ≤ 16
+count_stays : (b : Bool) (few count : ℕ) → few + count ≤ 16 → (b ≡ true → few + count < 16) →
+    few + (count + cond b 1 0) ≤ 16
 count_stays true few count before room = omega (arith, room refl)
 count_stays false few count before room = omega (arith, before)
 
-more_on : (o : Option SegmentValue) (front : List ControllerValue) (c : ControllerValue) (place : ℕ) → node_count front place o ≤ 16 → (c.segment ≡ place → node_count front place o < 16) →
+more_on : (o : Option SegmentValue) (front : List ControllerValue) (c : ControllerValue) (place : ℕ) →
+    node_count front place o ≤ 16 → (c.segment ≡ place → node_count front place o < 16) →
     node_count (front ++ c ∷ []) place o ≤ 16
 more_on None front c place before room = omega arith
 more_on (Some s) front c place before room =
     let test : ControllerValue → Bool = λ one. one.segment == place in
-    rw (count-more test front c) (count_stays (c.segment == place) (length s.talkers) (count_by test front) before (λ on. room (eqb-true c.segment place on)))
+    rw (count-more test front c) (count_stays (c.segment == place) (length s.talkers) (count_by test front) before
+        (λ on. room (eqb-true c.segment place on)))
 
-nodes_more : (segments : List SegmentValue) (front : List ControllerValue) (c : ControllerValue) → HaveFewNodes segments front → node_count front c.segment (slice_get segments c.segment) < 16 →
+nodes_more : (segments : List SegmentValue) (front : List ControllerValue) (c : ControllerValue) →
+    HaveFewNodes segments front → node_count front c.segment (slice_get segments c.segment) < 16 →
     HaveFewNodes segments (front ++ c ∷ [])
 nodes_more segments front c before room place = more_on (slice_get segments place) front c place (before place)
     (λ on. let P : ℕ → Type 0 = λ k. node_count front k (slice_get segments k) < 16 in subst P on room)
 
-controllers_more : (segments : List SegmentValue) (front : List ControllerValue) (c : ControllerValue) → AreNewControllers segments front → IsNewController segments front c →
+controllers_more : (segments : List SegmentValue) (front : List ControllerValue) (c : ControllerValue) →
+    AreNewControllers segments front → IsNewController segments front c →
     AreNewControllers segments (front ++ c ∷ [])
 controllers_more segments front c before here = record {
   names = subst AreApart (append_assoc (all_talker_names segments) (controller_names front) (c.name ∷ [])
-      ∙ ap (λ ns. all_talker_names segments ++ ns) (sym (map-append (λ (one : ControllerValue). one.name) front (c ∷ []))))
+      ∙ ap (λ ns. all_talker_names segments ++ ns)
+          (sym (map-append (λ (one : ControllerValue). one.name) front (c ∷ []))))
       (apart_more (all_talker_names segments ++ controller_names front) c.name before.names here.name);
   few = nodes_more segments front c before.few here.room;
 }
 
-controller_room : (version : Version) (bits : ℕ) (segments : List SegmentValue) (front : List ControllerValue) (name : List ℕ) (segment : ℕ) (from : Json) (c : ControllerValue) →
-    controller_with version bits segments front name segment from ≡ Ok c → (name ≡ c.name) × (node_count front c.segment (slice_get segments c.segment) < 16)
+controller_room : (version : Version) (bits : ℕ) (segments : List SegmentValue) (front : List ControllerValue)
+    (name : List ℕ) (segment : ℕ) (from : Json) (c : ControllerValue) →
+    controller_with version bits segments front name segment from ≡ Ok c → (name ≡ c.name)
+    × (node_count front c.segment (slice_get segments c.segment) < 16)
 unfolding controller_with
 controller_room version bits segments front name segment from c e =
     from_bind (whole (codes "on") 0 (bits - 1) from) _ c e (λ on is_on e1.
     from_bind (optional_truth (codes "txfp") true from) _ c e1 (λ txfp is_txfp e2.
     from_bind (banks_of version from) _ c e2 (λ banks are_banks e3.
     let read : ControllerValue = record { name = name; segment = segment; on = on; txfp = txfp; banks = banks } in
-    let test = passed_ok (nat_lt (node_count front segment (slice_get segments segment)) most_nodes) read c (too_many (codes "controllers")) e3 in
-    let P : ControllerValue → Type 0 = λ one. (name ≡ one.name) × (node_count front one.segment (slice_get segments one.segment) < 16) in
+    let test = passed_ok (nat_lt (node_count front segment (slice_get segments segment)) most_nodes) read c
+        (too_many (codes "controllers")) e3 in
+    let P : ControllerValue → Type 0 =
+        λ one. (name ≡ one.name) × (node_count front one.segment (slice_get segments one.segment) < 16) in
     subst P test.1 (refl, ltb-true (node_count front segment (slice_get segments segment)) 16 test.0))))
 
-controller_ok : (version : Version) (bits : ℕ) (segments : List SegmentValue) (front : List ControllerValue) (value : Json) (c : ControllerValue) → controller_of version bits segments front value ≡ Ok c → IsNewController segments front c
+controller_ok : (version : Version) (bits : ℕ) (segments : List SegmentValue) (front : List ControllerValue)
+    (value : Json) (c : ControllerValue) → controller_of version bits segments front value ≡ Ok c →
+    IsNewController segments front c
 unfolding controller_of
 controller_ok version bits segments front value c e =
     from_bind (object_of (codes "controllers") value) _ c e (λ from is_object e1.
-    from_bind (new_name (codes "controllers") (all_talker_names segments ++ controller_names front) from) _ c e1 (λ name is_name e2.
+    from_bind (new_name (codes "controllers") (all_talker_names segments ++ controller_names front) from) _ c e1
+        (λ name is_name e2.
     from_bind (place_named (codes "segment") (segment_names segments) from) _ c e2 (λ segment is_segment e3.
     let room = controller_room version bits segments front name segment from c e3 in
     record {
@@ -100,18 +121,23 @@ controller_ok version bits segments front value c e =
     })))
 
 -- without controllers
-few_at : (segments : List SegmentValue) (k place : ℕ) → Each HasFewTalkers segments → node_count [] place (slice_get segments k) ≤ 16
+few_at : (segments : List SegmentValue) (k place : ℕ) → Each HasFewTalkers segments →
+    node_count [] place (slice_get segments k) ≤ 16
 few_at [] k place few = omega arith
 few_at (s ∷ ss) zero place few = omega (arith, few.0)
 few_at (s ∷ ss) (suc k) place few = few_at ss k place few.1
 
-pub controllers_ok : (version : Version) (bits : ℕ) (segments : List SegmentValue) (from : Json) (cs : List ControllerValue) → AreApart (all_talker_names segments) → Each HasFewTalkers segments →
+pub controllers_ok : (version : Version) (bits : ℕ) (segments : List SegmentValue) (from : Json)
+    (cs : List ControllerValue) → AreApart (all_talker_names segments) → Each HasFewTalkers segments →
     controllers_of version bits segments from ≡ Ok cs → AreNewControllers segments cs
 unfolding controllers_of
 controllers_ok version bits segments from cs apart few e =
     from_bind (list (codes "controllers") 16 from) _ cs e (λ items is_list e1.
-    each_after_keeps (controller_of version bits segments) (AreNewControllers segments) (λ front d c before is. controllers_more segments front c before (controller_ok version bits segments front d c is)) [] cs items
-    (record { names = subst AreApart (sym (append-nil (all_talker_names segments))) apart; few = λ place. few_at segments place place few }) e1)
+    each_after_keeps (controller_of version bits segments) (AreNewControllers segments)
+        (λ front d c before is. controllers_more segments front c before
+        (controller_ok version bits segments front d c is)) [] cs items
+    (record { names = subst AreApart (sym (append-nil (all_talker_names segments))) apart;
+          few = λ place. few_at segments place place few }) e1)
 
 -- routes that are read have names and FIFOs of their own, and at most eight lead into one controller
 pub record AreNewRoutes (rs : List RouteValue) : Type 0 where
@@ -124,7 +150,8 @@ record IsNewRoute (front : List RouteValue) (r : RouteValue) : Type 0 where
   pub fifo : list_any (takes_from r.source r.fifo) front ≡ false
   pub room : routes_into r.target front < 8
 
-elsewhere : (front : List RouteValue) (r : RouteValue) (k : ℕ) (d : RouteValue) → list_any (takes_from r.source r.fifo) front ≡ false → k < length front → TakesElsewhere (get_or front k d) r
+elsewhere : (front : List RouteValue) (r : RouteValue) (k : ℕ) (d : RouteValue) →
+    list_any (takes_from r.source r.fifo) front ≡ false → k < length front → TakesElsewhere (get_or front k d) r
 elsewhere front r k d none lt same =
     let other = get_or front k d in
     none_passes (takes_from r.source r.fifo) front k d none lt
@@ -134,33 +161,42 @@ into_stays : (b : Bool) (count : ℕ) → count ≤ 8 → (b ≡ true → count 
 into_stays true count before room = omega (arith, room refl)
 into_stays false count before room = omega (arith, before)
 
-into_more : (front : List RouteValue) (r : RouteValue) → ((controller : ℕ) → routes_into controller front ≤ 8) → routes_into r.target front < 8 → (controller : ℕ) → routes_into controller (front ++ r ∷ []) ≤ 8
+into_more : (front : List RouteValue) (r : RouteValue) → ((controller : ℕ) → routes_into controller front ≤ 8) →
+    routes_into r.target front < 8 → (controller : ℕ) → routes_into controller (front ++ r ∷ []) ≤ 8
 into_more front r before room controller =
     let test : RouteValue → Bool = λ one. one.target == controller in
     let P : ℕ → Type 0 = λ k. routes_into k front < 8 in
-    rw (count-more test front r) (into_stays (r.target == controller) (count_by test front) (before controller) (λ on. subst P (eqb-true r.target controller on) room))
+    rw (count-more test front r) (into_stays (r.target == controller) (count_by test front) (before controller)
+        (λ on. subst P (eqb-true r.target controller on) room))
 
-routes_more : (front : List RouteValue) (r : RouteValue) → AreNewRoutes front → IsNewRoute front r → AreNewRoutes (front ++ r ∷ [])
+routes_more : (front : List RouteValue) (r : RouteValue) → AreNewRoutes front → IsNewRoute front r →
+    AreNewRoutes (front ++ r ∷ [])
 routes_more front r before here = record {
-  names = subst AreApart (sym (map-append (λ (one : RouteValue). one.name) front (r ∷ []))) (apart_more (route_names front) r.name before.names here.name);
+  names = subst AreApart (sym (map-append (λ (one : RouteValue). one.name) front (r ∷ [])))
+      (apart_more (route_names front) r.name before.names here.name);
   fifos = all_pairs_push TakesElsewhere front r before.fifos (λ k d lt. elsewhere front r k d here.fifo lt);
   few = into_more front r before.few here.room;
 }
 
-both_tests : (b t : Bool) (read r : RouteValue) (f g : Fault) → (if b then Err f else (if t then Ok read else Err g)) ≡ Ok r → (read ≡ r) × (b ≡ false) × (t ≡ true)
+both_tests : (b t : Bool) (read r : RouteValue) (f g : Fault) →
+    (if b then Err f else (if t then Ok read else Err g)) ≡ Ok r → (read ≡ r) × (b ≡ false) × (t ≡ true)
 both_tests true t read r f g e = cc
 both_tests false true read r f g e = (let same : read ≡ r = cc in same, refl, refl)
 both_tests false false read r f g e = cc
 
-placed_ok : (front : List RouteValue) (read r : RouteValue) → placed front read ≡ Ok r → (read ≡ r) × (list_any (takes_from r.source r.fifo) front ≡ false) × (routes_into r.target front < 8)
+placed_ok : (front : List RouteValue) (read r : RouteValue) → placed front read ≡ Ok r → (read ≡ r)
+    × (list_any (takes_from r.source r.fifo) front ≡ false) × (routes_into r.target front < 8)
 placed_ok front read r e =
-    let h = both_tests (list_any (takes_from read.source read.fifo) front) (nat_lt (routes_into read.target front) 8) read r (fifo_twice (length front)) (too_many (codes "routes")) e in (
+    let h = both_tests (list_any (takes_from read.source read.fifo) front)
+        (nat_lt (routes_into read.target front) 8) read r (fifo_twice (length front)) (too_many (codes "routes")) e in (
       h.0,
       ap (λ (one : RouteValue). list_any (takes_from one.source one.fifo) front) (sym h.0) ∙ h.1,
-      let P : RouteValue → Type 0 = λ one. routes_into one.target front < 8 in subst P h.0 (ltb-true (routes_into read.target front) 8 h.2),
+      let P : RouteValue → Type 0 = λ one. routes_into one.target front < 8 in
+          subst P h.0 (ltb-true (routes_into read.target front) 8 h.2),
     )
 
-route_ok : (version : Version) (controllers : List ControllerValue) (front : List RouteValue) (value : Json) (r : RouteValue) → route_of version controllers front value ≡ Ok r → IsNewRoute front r
+route_ok : (version : Version) (controllers : List ControllerValue) (front : List RouteValue) (value : Json)
+    (r : RouteValue) → route_of version controllers front value ≡ Ok r → IsNewRoute front r
 unfolding route_of route_with
 route_ok version controllers front value r e =
     from_bind (object_of (codes "routes") value) _ r e (λ from is_object e1.
@@ -169,74 +205,96 @@ route_ok version controllers front value r e =
     from_bind (whole (codes "fifo") 0 1 from) _ r e3 (λ fifo is_fifo e4.
     from_bind (place_named (codes "to") (controller_names controllers) from) _ r e4 (λ target is_target e5.
     from_bind (rewrites_of version from) _ r e5 (λ rewrites are_rewrites e6.
-    let h = placed_ok front (record { name = name; source = source; fifo = fifo; target = target; rewrites = rewrites }) r e6 in
+    let h = placed_ok front (record { name = name; source = source; fifo = fifo; target = target; rewrites = rewrites })
+        r e6 in
     record {
-      name = ap (λ (one : RouteValue). is_among one.name (route_names front)) (sym h.0) ∙ new_name_ok (codes "routes") (route_names front) from name is_name;
+      name = ap (λ (one : RouteValue). is_among one.name (route_names front)) (sym h.0)
+          ∙ new_name_ok (codes "routes") (route_names front) from name is_name;
       fifo = h.1;
       room = h.2;
     }))))))
 
-pub routes_ok : (version : Version) (controllers : List ControllerValue) (from : Json) (rs : List RouteValue) → routes_of version controllers from ≡ Ok rs → AreNewRoutes rs
+pub routes_ok : (version : Version) (controllers : List ControllerValue) (from : Json) (rs : List RouteValue) →
+    routes_of version controllers from ≡ Ok rs → AreNewRoutes rs
 unfolding routes_of
 routes_ok version controllers from rs e =
     from_bind (list (codes "routes") 16 from) _ rs e (λ items is_list e1.
-    each_after_keeps (route_of version controllers) AreNewRoutes (λ front d r before is. routes_more front r before (route_ok version controllers front d r is)) [] rs items
-    (record { names = λ i j d below within. absurd (omega arith); fifos = λ i j d below within. absurd (omega arith); few = λ controller. omega arith }) e1)
+    each_after_keeps (route_of version controllers) AreNewRoutes
+        (λ front d r before is. routes_more front r before (route_ok version controllers front d r is)) [] rs items
+    (record { names = λ i j d below within. absurd (omega arith); fifos = λ i j d below within. absurd (omega arith);
+          few = λ controller. omega arith }) e1)
 
 -- a planned fault is at a node of its segment, by the names of the nodes there
 abbrev pub IsNamed : List SegmentValue → List ControllerValue → NodePlace → Type 0
-IsNamed segments controllers node = (s : SegmentValue) × (slice_get segments node.segment ≡ Some s) × (node.place < length (node_names controllers node.segment s))
+IsNamed segments controllers node = (s : SegmentValue) × (slice_get segments node.segment ≡ Some s)
+    × (node.place < length (node_names controllers node.segment s))
 
 abbrev pub IsFaultAtNode : List SegmentValue → List ControllerValue → PlannedFault → Type 0
 IsFaultAtNode segments controllers (AtNode node bit) = IsNamed segments controllers node
 IsFaultAtNode segments controllers (OnLine segment bit level) = Unit {0}
 
-position-below : (test : List ℕ → Bool) (first k : ℕ) (xs : List (List ℕ)) → position_from test first xs ≡ Some k → k < first + length xs
+position-below : (test : List ℕ → Bool) (first k : ℕ) (xs : List (List ℕ)) → position_from test first xs ≡ Some k →
+    k < first + length xs
 position-below test first k [] e = cc
 position-below test first k (x ∷ xs) e =
-    elim (test x) as (λ b. cond b (Some first) (position_from test (first + 1) xs) ≡ Some k → k < first + length (x ∷ xs)) [
+    elim (test x) as (λ b. cond b (Some first) (position_from test (first + 1) xs) ≡ Some k →
+        k < first + length (x ∷ xs)) [
       | true ↦ λ h. let same : first ≡ k = cc in omega (arith, same)
       | false ↦ λ h. omega (arith, position-below test (first + 1) k xs h)
     ] e
 
 -- where a node is found
-record IsFound (controllers : List ControllerValue) (first : ℕ) (ss : List SegmentValue) (node : NodePlace) : Type 0 where
+record IsFound (controllers : List ControllerValue) (first : ℕ) (ss : List SegmentValue)
+    (node : NodePlace) : Type 0 where
   pub later : ℕ
   pub at : node.segment ≡ first + later
   pub segment : SegmentValue
   pub is : slice_get ss later ≡ Some segment
   pub below : node.place < length (node_names controllers node.segment segment)
 
-found_from : (controllers : List ControllerValue) (name : List ℕ) (first : ℕ) (ss : List SegmentValue) (node : NodePlace) → node_from controllers name first ss ≡ Some node →
+found_from : (controllers : List ControllerValue) (name : List ℕ) (first : ℕ) (ss : List SegmentValue)
+    (node : NodePlace) → node_from controllers name first ss ≡ Some node →
     IsFound controllers first ss node
 found_from controllers name first [] node e = cc
 found_from controllers name first (s ∷ ss) node e =
-    elim (position_from (bytes_eq name) 0 (node_names controllers first s)) as (λ o. position_from (bytes_eq name) 0 (node_names controllers first s) ≡ o →
-    or_later first o (node_from controllers name (first + 1) ss) ≡ Some node → IsFound controllers first (s ∷ ss) node) [
+    elim (position_from (bytes_eq name) 0 (node_names controllers first s)) as
+        (λ o. position_from (bytes_eq name) 0 (node_names controllers first s) ≡ o →
+    or_later first o (node_from controllers name (first + 1) ss) ≡ Some node → IsFound controllers first (s ∷ ss) node)
+        [
       | Some k ↦ λ found is.
-          let below : k < 0 + length (node_names controllers first s) = position-below (bytes_eq name) 0 k (node_names controllers first s) found in
+          let below : k < 0 + length (node_names controllers first s) =
+              position-below (bytes_eq name) 0 k (node_names controllers first s) found in
           let same : record { segment = first; place = k } ≡ node = cc in
           subst (λ (one : NodePlace). IsFound controllers first (s ∷ ss) one) same
-          (record { later = 0; at = (let none : first ≡ first + 0 = omega arith in none); segment = s; is = refl; below = omega (arith, below) })
+          (record { later = 0; at = (let none : first ≡ first + 0 = omega arith in none); segment = s; is = refl;
+                below = omega (arith, below) })
       | None ↦ λ found is.
           let rest = found_from controllers name (first + 1) ss node is in
-          record { later = suc rest.later; at = (let more : node.segment ≡ first + suc rest.later = omega (arith, rest.at) in more); segment = rest.segment; is = rest.is; below = rest.below }
+          record { later = suc rest.later;
+              at = (let more : node.segment ≡ first + suc rest.later = omega (arith, rest.at) in more); segment =
+              rest.segment; is = rest.is; below = rest.below }
     ] refl e
 
-named_ok : (segments : List SegmentValue) (controllers : List ControllerValue) (node : NodePlace) → IsFound controllers 0 segments node → IsNamed segments controllers node
+named_ok : (segments : List SegmentValue) (controllers : List ControllerValue) (node : NodePlace) →
+    IsFound controllers 0 segments node → IsNamed segments controllers node
 named_ok segments controllers node found =
-    (found.segment, ap (slice_get segments) (let same : node.segment ≡ found.later = omega (arith, found.at) in same) ∙ found.is, found.below)
+    (found.segment, ap (slice_get segments) (let same : node.segment ≡ found.later = omega (arith, found.at) in same)
+        ∙ found.is, found.below)
 
-fault_ok : (bits : ℕ) (segments : List SegmentValue) (controllers : List ControllerValue) (from : Json) (given : Option Json) (f : PlannedFault) →
+fault_ok : (bits : ℕ) (segments : List SegmentValue) (controllers : List ControllerValue) (from : Json)
+    (given : Option Json) (f : PlannedFault) →
     fault_with bits segments controllers from given ≡ Ok f → IsFaultAtNode segments controllers f
 unfolding node_fault line_fault
 fault_ok bits segments controllers from (Some value) f e =
     from_bind (text_of (codes "node") value) _ f e (λ name is_name e1.
-    from_bind (or_fault (unknown_name (codes "node")) (node_from controllers name 0 segments)) _ f e1 (λ node is_node e2.
+    from_bind (or_fault (unknown_name (codes "node")) (node_from controllers name 0 segments)) _ f e1
+        (λ node is_node e2.
     from_bind (whole (codes "bit") 0 (bits - 1) from) _ f e2 (λ bit is_bit e3.
     let same : AtNode node bit ≡ f = cc in
     let P : PlannedFault → Type 0 = IsFaultAtNode segments controllers in
-    subst P same (named_ok segments controllers node (found_from controllers name 0 segments node (found_ok (unknown_name (codes "node")) (node_from controllers name 0 segments) node is_node))))))
+    subst P same
+        (named_ok segments controllers node (found_from controllers name 0 segments node
+          (found_ok (unknown_name (codes "node")) (node_from controllers name 0 segments) node is_node))))))
 fault_ok bits segments controllers from None f e =
     from_bind (place_named (codes "segment") (segment_names segments) from) _ f e (λ segment is_segment e1.
     from_bind (whole (codes "bit") 0 (bits - 1) from) _ f e1 (λ bit is_bit e2.
@@ -245,19 +303,23 @@ fault_ok bits segments controllers from None f e =
     let P : PlannedFault → Type 0 = IsFaultAtNode segments controllers in
     subst P same tt)))
 
-planned_ok : (bits : ℕ) (segments : List SegmentValue) (controllers : List ControllerValue) (value : Json) (f : PlannedFault) → planned_fault_of bits segments controllers value ≡ Ok f →
+planned_ok : (bits : ℕ) (segments : List SegmentValue) (controllers : List ControllerValue) (value : Json)
+    (f : PlannedFault) → planned_fault_of bits segments controllers value ≡ Ok f →
     IsFaultAtNode segments controllers f
 unfolding planned_fault_of
 planned_ok bits segments controllers value f e =
-    from_bind (object_of (codes "faults") value) _ f e (λ from is_object e1. fault_ok bits segments controllers from (get (codes "node") from) f e1)
+    from_bind (object_of (codes "faults") value) _ f e
+        (λ from is_object e1. fault_ok bits segments controllers from (get (codes "node") from) f e1)
 
-pub faults_ok : (bits : ℕ) (segments : List SegmentValue) (controllers : List ControllerValue) (from : Json) (fs : List PlannedFault) → planned_faults_of bits segments controllers from ≡ Ok fs →
+pub faults_ok : (bits : ℕ) (segments : List SegmentValue) (controllers : List ControllerValue) (from : Json)
+    (fs : List PlannedFault) → planned_faults_of bits segments controllers from ≡ Ok fs →
     Each (IsFaultAtNode segments controllers) fs
 unfolding planned_faults_of
 faults_ok bits segments controllers from fs e =
     from_bind (optional_list (codes "faults") 10000 from) _ fs e (λ items is_list e1.
     each_after_keeps (λ front. planned_fault_of bits segments controllers) (Each (IsFaultAtNode segments controllers))
-    (λ front d f before is. each-push (IsFaultAtNode segments controllers) front f before (planned_ok bits segments controllers d f is)) [] fs items tt e1)
+    (λ front d f before is. each-push (IsFaultAtNode segments controllers) front f before
+        (planned_ok bits segments controllers d f is)) [] fs items tt e1)
 
 -- what the lists of a script keep
 pub record IsOrderly (s : ScriptValue) : Type 0 where
@@ -276,20 +338,25 @@ within (x ∷ xs) zero lt = (x, refl)
 within (x ∷ xs) (suc k) lt = within xs k (omega (arith, lt))
 
 -- as many names as nodes
-names-count : (controllers : List ControllerValue) (place : ℕ) (s : SegmentValue) → length (node_names controllers place s) ≡ node_count controllers place (Some s)
+names-count : (controllers : List ControllerValue) (place : ℕ) (s : SegmentValue) →
+    length (node_names controllers place s) ≡ node_count controllers place (Some s)
 names-count controllers place s = length-names s.talkers place controllers
 
-few_on : (s : ScriptValue) (segment : ℕ) (here : SegmentValue) → slice_get s.segments segment ≡ Some here → HaveFewNodes s.segments s.controllers → length (names_of_nodes s segment) ≤ most_nodes
+few_on : (s : ScriptValue) (segment : ℕ) (here : SegmentValue) → slice_get s.segments segment ≡ Some here →
+    HaveFewNodes s.segments s.controllers → length (names_of_nodes s segment) ≤ most_nodes
 few_on s segment here is few =
     let P : ℕ → Type 0 = λ n. n ≤ 16 in
     let at : length (node_names s.controllers segment here) ≤ 16 =
     subst P (ap (node_count s.controllers segment) is ∙ sym (names-count s.controllers segment here)) (few segment) in
-    subst P (ap (λ o. length (talker_names (talkers_on o) ++ controller_names (controllers_on segment s.controllers))) (sym is)) at
+    subst P (ap (λ o. length (talker_names (talkers_on o) ++ controller_names (controllers_on segment s.controllers)))
+        (sym is)) at
 
 at_node : (s : ScriptValue) (f : PlannedFault) → IsFaultAtNode s.segments s.controllers f → IsAtNode s f
 at_node s (AtNode node bit) (here, is, below) =
     let P : ℕ → Type 0 = λ n. node.place < n in
-    subst P (ap (λ o. length (talker_names (talkers_on o) ++ controller_names (controllers_on node.segment s.controllers))) (sym is)) below
+    subst P
+        (ap (λ o. length (talker_names (talkers_on o) ++ controller_names (controllers_on node.segment s.controllers)))
+        (sym is)) below
 at_node s (OnLine segment bit level) at = tt
 
 each_weaker : {A : Type 0} (P Q : A → Type 0) → ((x : A) → P x → Q x) → (xs : List A) → Each P xs → Each Q xs
@@ -297,8 +364,10 @@ each_weaker P Q goes [] h = tt
 each_weaker P Q goes (x ∷ xs) h = (goes x h.0, each_weaker P Q goes xs h.1)
 
 -- a script whose lists are read is orderly
-pub script_orderly : (version : Version) (s : ScriptValue) (bits : ℕ) (from : Json) → segments_of bits from ≡ Ok s.segments → controllers_of version bits s.segments from ≡ Ok s.controllers →
-    routes_of version s.controllers from ≡ Ok s.routes → planned_faults_of bits s.segments s.controllers from ≡ Ok s.faults → IsOrderly s
+pub script_orderly : (version : Version) (s : ScriptValue) (bits : ℕ) (from : Json) →
+    segments_of bits from ≡ Ok s.segments → controllers_of version bits s.segments from ≡ Ok s.controllers →
+    routes_of version s.controllers from ≡ Ok s.routes → planned_faults_of bits s.segments s.controllers from
+    ≡ Ok s.faults → IsOrderly s
 script_orderly version s bits from segments controllers routes faults =
     let a = segments_ok bits from s.segments segments in
     let b = controllers_ok version bits s.segments from s.controllers a.talkers a.few controllers in
@@ -308,7 +377,8 @@ script_orderly version s bits from segments controllers routes faults =
       few_into = d.few;
       few_frames = a.frames;
       own_fifos = d.fifos;
-      fault_nodes = each_weaker (IsFaultAtNode s.segments s.controllers) (IsAtNode s) (at_node s) s.faults (faults_ok bits s.segments s.controllers from s.faults faults);
+      fault_nodes = each_weaker (IsFaultAtNode s.segments s.controllers) (IsAtNode s) (at_node s) s.faults
+          (faults_ok bits s.segments s.controllers from s.faults faults);
       segment_names = a.names;
       node_names = b.names;
       route_names = d.names;

@@ -1,5 +1,6 @@
 -- How often a number stands in a list, and lists whose numbers rise.
-use Rattle.std.proofs.Common.{◌≡◌, ℕ, suc, ◌+◌, ◌<◌, ◌==◌, ◌⊎◌, Bool, true, false, cond, List, [], ◌∷◌, ◌++◌, length, refl, sym, ◌∙◌, ap, subst, arith, inl, inr}
+use Rattle.std.proofs.Common.{◌≡◌, ℕ, suc, ◌+◌, ◌<◌, ◌==◌, ◌⊎◌, Bool, true, false, cond, List, [], ◌∷◌, ◌++◌, length}
+use Rattle.std.proofs.Common.{refl, sym, ◌∙◌, ap, subst, arith, inl, inr}
 use Rattle.std.proofs.lemmas.Bool.Decides.{eqb_tells}
 use Rattle.bx_core.specs.declared.entry.Entry.{Entry}
 use Rattle.bx_core.specs.Lists.{Each, Has, Rises, times}
@@ -19,7 +20,8 @@ pub not_among_times : (xs : List ℕ) (n : ℕ) → is_among xs n ≡ false → 
 not_among_times [] n h = refl
 not_among_times (x ∷ xs) n h = elim (eqb_tells x n) [
   | inl e ↦ absurd (let k : true ≡ false = rw e.0 at h in cc)
-  | inr e ↦ (let k : is_among xs n ≡ false = rw e.0 at h in let t : mark x n ≡ 0 = times_other x n e.1 in omega (arith, t, not_among_times xs n k))
+  | inr e ↦ (let k : is_among xs n ≡ false = rw e.0 at h in let t : mark x n ≡ 0 = times_other x n e.1 in
+      omega (arith, t, not_among_times xs n k))
 ]
 
 pub bool_cases : (b : Bool) → (b ≡ true) ⊎ (b ≡ false)
@@ -59,7 +61,8 @@ pub same_length : (xs ys : List ℕ) → ((n : ℕ) → times n xs ≡ times n y
 same_length [] ys h = no_times ys h
 same_length (x ∷ xs) ys h =
     let there : 0 < times x ys = omega (arith, h x, times_self x) in
-    omega (arith, without_length x ys there, same_length xs (without x ys) (λ n. omega (arith, h n, without_times x n ys there)))
+    omega (arith, without_length x ys there, same_length xs (without x ys)
+        (λ n. omega (arith, h n, without_times x n ys there)))
 
 pub has_number : (xs : List Entry) (x : Entry) → Has xs x → Has (numbers xs) x.number
 has_number [] x h = absurd h
@@ -69,18 +72,22 @@ has_number (y ∷ ys) x (inr h) = inr (has_number ys x h)
 pub number_has : (xs : List Entry) (n : ℕ) → Has (numbers xs) n → (x : Entry) × Has xs x × (x.number ≡ n)
 number_has [] n h = absurd h
 number_has (y ∷ ys) n (inl e) = (y, inl refl, e)
-number_has (y ∷ ys) n (inr h) = let t : (x : Entry) × Has ys x × (x.number ≡ n) = number_has ys n h in (t.0, inr t.1, t.2)
+number_has (y ∷ ys) n (inr h) = let t : (x : Entry) × Has ys x × (x.number ≡ n) = number_has ys n h in
+    (t.0, inr t.1, t.2)
 
 -- the first of a rising list is below the others
 pub above : (k : ℕ) (xs : List Entry) (x : Entry) → Each (λ y. k < y) (numbers xs) → Has xs x → k < x.number
 above k xs x e h = each_of (λ y. k < y) (numbers xs) x.number e (has_number xs x h)
 
 -- in a rising list a number tells its element
-pub same_number : (xs : List Entry) (x y : Entry) → Rises (numbers xs) → Has xs x → Has xs y → x.number ≡ y.number → x ≡ y
+pub same_number : (xs : List Entry) (x y : Entry) → Rises (numbers xs) → Has xs x → Has xs y → x.number ≡ y.number →
+    x ≡ y
 same_number [] x y r hx hy e = absurd hx
 same_number (z ∷ zs) x y r (inl a) (inl b) e = sym a ∙ b
-same_number (z ∷ zs) x y r (inl a) (inr b) e = absurd (let l : z.number < y.number = above z.number zs y r.0 b in let s : z.number ≡ x.number = ap (λ (p : Entry). p.number) a in omega arith)
-same_number (z ∷ zs) x y r (inr a) (inl b) e = absurd (let l : z.number < x.number = above z.number zs x r.0 a in let s : z.number ≡ y.number = ap (λ (p : Entry). p.number) b in omega arith)
+same_number (z ∷ zs) x y r (inl a) (inr b) e = absurd (let l : z.number < y.number = above z.number zs y r.0 b in
+    let s : z.number ≡ x.number = ap (λ (p : Entry). p.number) a in omega arith)
+same_number (z ∷ zs) x y r (inr a) (inl b) e = absurd (let l : z.number < x.number = above z.number zs x r.0 a in
+    let s : z.number ≡ y.number = ap (λ (p : Entry). p.number) b in omega arith)
 same_number (z ∷ zs) x y r (inr a) (inr b) e = same_number zs x y r.1 a b e
 
 pub each_from_has : {A : Type 0} (P : A → Type 0) (xs : List A) → ((x : A) → Has xs x → P x) → Each P xs
@@ -89,9 +96,12 @@ each_from_has P (x ∷ xs) h = (h x (inl refl), each_from_has P xs (λ y k. h y 
 
 pub rises_left : (xs ys : List ℕ) → Rises (xs ++ ys) → Rises xs
 rises_left [] ys r = tt
-rises_left (x ∷ xs) ys r = (each_from_has (λ y. x < y) xs (λ y h. each_of (λ y. x < y) (xs ++ ys) y r.0 (has-left xs ys y h)), rises_left xs ys r.1)
+rises_left (x ∷ xs) ys r =
+    (each_from_has (λ y. x < y) xs (λ y h. each_of (λ y. x < y) (xs ++ ys) y r.0 (has-left xs ys y h)),
+    rises_left xs ys r.1)
 
 pub rises_across : (xs ys : List ℕ) (x y : ℕ) → Rises (xs ++ ys) → Has xs x → Has ys y → x < y
 rises_across [] ys x y r h k = absurd h
-rises_across (z ∷ zs) ys x y r (inl e) k = let l : z < y = each_of (λ w. z < w) (zs ++ ys) y r.0 (has-right zs ys y k) in omega arith
+rises_across (z ∷ zs) ys x y r (inl e) k = let l : z < y =
+    each_of (λ w. z < w) (zs ++ ys) y r.0 (has-right zs ys y k) in omega arith
 rises_across (z ∷ zs) ys x y r (inr h) k = rises_across zs ys x y r.1 h k

@@ -21,7 +21,8 @@ use Rattle.gw_ending.specs.Links.{settled, RouteLinked}
 use Rattle.gw_ending.proofs.Links.{reaped_aborted}
 
 -- the parts of a route at the end, and its report
-pub record Parts (r : RouteReport) (intake : Intake) (h : HandValue) (waiting : List ℕ) (left : List RxFrame) : Type 0 where
+pub record Parts (r : RouteReport) (intake : Intake) (h : HandValue) (waiting : List ℕ)
+    (left : List RxFrame) : Type 0 where
   pub log : LogsReleased h
   pub offered : List FrameValue
   pub offers : IntakeStands intake offered
@@ -33,12 +34,16 @@ pub record Parts (r : RouteReport) (intake : Intake) (h : HandValue) (waiting : 
   pub stored_is : intake.rxin.stored ≡ h.out.released ++ left
   pub few_left : length left ≤ 3
 
-stored_frames : (r : RouteReport) (intake : Intake) (h : HandValue) (waiting : List ℕ) (left : List RxFrame) → Parts r intake h waiting left → frames_of intake.rxin.stored ≡ r.released.items ++ frames_of left
+stored_frames : (r : RouteReport) (intake : Intake) (h : HandValue) (waiting : List ℕ) (left : List RxFrame) →
+    Parts r intake h waiting left → frames_of intake.rxin.stored ≡ r.released.items ++ frames_of left
 stored_frames r intake h waiting left p =
-    ap frames_of p.stored_is ∙ map-append (λ (x : RxFrame). x.frame) h.out.released left ∙ ap (λ fs. fs ++ frames_of left) (sym p.log ∙ sym p.released_is)
+    ap frames_of p.stored_is ∙ map-append (λ (x : RxFrame). x.frame) h.out.released left
+        ∙ ap (λ fs. fs ++ frames_of left) (sym p.log ∙ sym p.released_is)
 
-links : (r : RouteReport) (intake : Intake) (h : HandValue) (waiting : List Entry) (left : List RxFrame) → Parts r intake h (numbers waiting) left →
-    (room : ℕ) (txfp : _) (number : ℕ) (did : BusPast) (past : RoutePast) → length waiting ≤ room → RouteTied txfp number did past waiting → LogMatches h past →
+links : (r : RouteReport) (intake : Intake) (h : HandValue) (waiting : List Entry) (left : List RxFrame) →
+    Parts r intake h (numbers waiting) left →
+    (room : ℕ) (txfp : _) (number : ℕ) (did : BusPast) (past : RoutePast) → length waiting ≤ room →
+    RouteTied txfp number did past waiting → LogMatches h past →
     r.completed.items ≡ entries_of number did.done → RouteLinked room txfp h.rewrites r (entries_of number did.started)
 links r intake h waiting left p room txfp number did past few tied matches completed =
     record {
@@ -49,7 +54,8 @@ links r intake h waiting left p room txfp number did past few tied matches compl
       logged = h.aborted;
       stored = frames_of intake.rxin.stored;
       left = frames_of left;
-      log = ap (λ es. es ++ h.in_hand) tied.requested_is ∙ matches.log ∙ ap (λ fs. numbered 1 (map (rewritten h.rewrites) fs)) (sym p.released_is);
+      log = ap (λ es. es ++ h.in_hand) tied.requested_is ∙ matches.log
+          ∙ ap (λ fs. numbered 1 (map (rewritten h.rewrites) fs)) (sym p.released_is);
       one_hand = matches.one_hand;
       law = tied.law;
       completed_is = completed ∙ sym tied.done_is;
@@ -66,14 +72,17 @@ links r intake h waiting left p room txfp number did past few tied matches compl
       few_waiting = omega (arith, few, length-map waiting (λ (e : Entry). e.number));
     }
 
-ends_by : (r : RouteReport) (intake : Intake) (h : HandValue) (waiting : List Entry) (left : List RxFrame) → Parts r intake h (numbers waiting) left → IsEndOf r intake h waiting
+ends_by : (r : RouteReport) (intake : Intake) (h : HandValue) (waiting : List Entry) (left : List RxFrame) →
+    Parts r intake h (numbers waiting) left → IsEndOf r intake h waiting
 unfolding links
 ends_by r intake h waiting left p =
     let stored = stored_frames r intake h (numbers waiting) left p in
     record {
       linked = links r intake h waiting left p;
       reaped_too = λ txfp number did past tied matches completed. subst (Each (Has r.aborted.items)) tied.reaped_is
-          (reaped_aborted txfp h.rewrites r (entries_of number did.started) (links r intake h waiting left p (length waiting) txfp number did past (omega arith) tied matches completed));
+          (reaped_aborted txfp h.rewrites r (entries_of number did.started)
+              (links r intake h waiting left p (length waiting) txfp number did past
+                (omega arith) tied matches completed));
       released_is = p.released_is;
       aborted_is = p.aborted_is;
       left = left;
@@ -82,13 +91,18 @@ ends_by r intake h waiting left p =
       fifo = λ offered stands. record {
         left = frames_of left;
         accepted_is = p.accepted_is ∙ stands.accepted_is;
-        stored = subst (λ n. LeavesOut offered (r.released.items ++ frames_of left) n) (sym p.overrun_is) (subst (λ fs. LeavesOut offered fs intake.overrun) stored stands.stored_is);
-        full = λ ne. (let three = stands.full (λ e. ne (p.overrun_is ∙ e)) in omega (arith, three, ap length stored, length-map intake.rxin.stored (λ (x : RxFrame). x.frame)));
+        stored = subst (λ n. LeavesOut offered (r.released.items ++ frames_of left) n) (sym p.overrun_is)
+            (subst (λ fs. LeavesOut offered fs intake.overrun) stored stands.stored_is);
+        full = λ ne. (let three = stands.full (λ e. ne (p.overrun_is ∙ e)) in
+            omega (arith, three, ap length stored, length-map intake.rxin.stored (λ (x : RxFrame). x.frame)));
         few_left = omega (arith, p.few_left, length-map left (λ (x : RxFrame). x.frame));
         left_held = omega (arith, p.held_is, length-map left (λ (x : RxFrame). x.frame));
       };
     }
 
 -- whichever requests have these numbers
-pub ends : (r : RouteReport) (intake : Intake) (h : HandValue) (numbers_left : List ℕ) (left : List RxFrame) → Parts r intake h numbers_left left → (waiting : List Entry) → numbers waiting ≡ numbers_left → IsEndOf r intake h waiting
-ends r intake h numbers_left left p waiting is = ends_by r intake h waiting left (subst (λ ns. Parts r intake h ns left) (sym is) p)
+pub ends : (r : RouteReport) (intake : Intake) (h : HandValue) (numbers_left : List ℕ) (left : List RxFrame) →
+    Parts r intake h numbers_left left → (waiting : List Entry) → numbers waiting ≡ numbers_left →
+    IsEndOf r intake h waiting
+ends r intake h numbers_left left p waiting is =
+    ends_by r intake h waiting left (subst (λ ns. Parts r intake h ns left) (sym is) p)

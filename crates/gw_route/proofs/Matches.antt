@@ -1,5 +1,6 @@
 -- A hand that matches what its route's side did, before a turn, once it is filled, and after its call.
-use Rattle.std.proofs.Common.{◌≡◌, ℕ, ◌+◌, ◌<◌, ◌≤◌, ◌↔◌, inl, inr, Bool, true, false, List, [], ◌∷◌, ◌++◌, length, refl, sym, ◌∙◌, ap, subst, arith, Result, Ok, Err}
+use Rattle.std.proofs.Common.{◌≡◌, ℕ, ◌+◌, ◌<◌, ◌≤◌, ◌↔◌, inl, inr, Bool, true, false, List, [], ◌∷◌, ◌++◌, length}
+use Rattle.std.proofs.Common.{refl, sym, ◌∙◌, ap, subst, arith, Result, Ok, Err}
 use Rattle.std.specs.Prelude.{IsErr}
 use Rattle.std.proofs.lemmas.List.{append-nil, length-append, length-map, map-append}
 use Rattle.can_frame.specs.Frames.{FrameValue}
@@ -17,46 +18,59 @@ use Rattle.bx_core.specs.RouteTx.{RoutePast, if_asked, after_request, after_abor
 use Rattle.bx_core.proofs.Words.{has-right, has-left}
 use Rattle.bx_rx.specs.declared.rx_frame.RxFrame.{RxFrame}
 use Rattle.gw_route.specs.RouteHand.{HandValue, LogMatches, numbered, as_requested}
-use Rattle.gw_route.specs.Turn.{counted, taken, given, none_given, Filled, IsDue, IsDueByCount, if_requested, if_aborted}
+use Rattle.gw_route.specs.Turn.{counted, taken, given, none_given, Filled, IsDue, IsDueByCount, if_requested}
+use Rattle.gw_route.specs.Turn.{if_aborted}
 use Rattle.gw_route.specs.declared.route_abort.RouteAbort.{RouteAbort}
 use Rattle.gw_route.proofs.Lists.{has-either}
-use Rattle.gw_route.proofs.Numbered.{length-numbered, numbered-append, last_of-numbered, last-numbered, has-numbered, numbered-bounds}
+use Rattle.gw_route.proofs.Numbered.{length-numbered, numbered-append, last_of-numbered, last-numbered, has-numbered}
+use Rattle.gw_route.proofs.Numbered.{numbered-bounds}
 
 -- as many are requested as released
 length-as-requested : (h : HandValue) → length (as_requested h) ≡ length h.released
 length-as-requested h = length-map h.released (rewritten h.rewrites)
 
 -- all numbers that were given out are requested, but the one in the hand
-pub tickets-requested : (h : HandValue) (past : RoutePast) → LogMatches h past → length past.requested + length h.in_hand ≡ h.tickets
-tickets-requested h past l = omega (arith, ap length l.log, length-append past.requested h.in_hand, length-numbered 1 (as_requested h), length-as-requested h, l.tickets_is)
+pub tickets-requested : (h : HandValue) (past : RoutePast) → LogMatches h past →
+    length past.requested + length h.in_hand ≡ h.tickets
+tickets-requested h past l = omega (arith, ap length l.log, length-append past.requested h.in_hand,
+    length-numbered 1 (as_requested h), length-as-requested h, l.tickets_is)
 
 -- so the last of them is the number of them
-pub last-requested : (h : HandValue) (past : RoutePast) → LogMatches h past → last_number past.requested ≡ length past.requested
+pub last-requested : (h : HandValue) (past : RoutePast) → LogMatches h past →
+    last_number past.requested ≡ length past.requested
 last-requested h past l = omega (arith, last_of-numbered 0 (as_requested h) past.requested h.in_hand l.log)
 
-pub due-count : (h : HandValue) (past : RoutePast) (a : RouteAbort) → LogMatches h past → IsDue h.turns past.requested a → IsDueByCount h a
+pub due-count : (h : HandValue) (past : RoutePast) (a : RouteAbort) → LogMatches h past →
+    IsDue h.turns past.requested a → IsDueByCount h a
 due-count h past a l d =
-    let within : (0 < a.number) × (a.number ≤ 0 + length past.requested) = numbered-bounds 0 a.number (as_requested h) past.requested h.in_hand l.log d.known in
+    let within : (0 < a.number) × (a.number ≤ 0 + length past.requested) =
+        numbered-bounds 0 a.number (as_requested h) past.requested h.in_hand l.log d.known in
     record { reached = d.reached; positive = within.0; below = omega (arith, within.1, tickets-requested h past l) }
 
-pub count-due : (h : HandValue) (past : RoutePast) (a : RouteAbort) → LogMatches h past → IsDueByCount h a → IsDue h.turns past.requested a
+pub count-due : (h : HandValue) (past : RoutePast) (a : RouteAbort) → LogMatches h past → IsDueByCount h a →
+    IsDue h.turns past.requested a
 count-due h past a l d = record {
   reached = d.reached;
-  known = has-numbered 0 a.number (as_requested h) past.requested h.in_hand l.log d.positive (omega (arith, d.below, tickets-requested h past l));
+  known = has-numbered 0 a.number (as_requested h) past.requested h.in_hand l.log d.positive
+      (omega (arith, d.below, tickets-requested h past l));
 }
 
 pub matches-counted : (h : HandValue) (past : RoutePast) → LogMatches h past → LogMatches (counted h) past
-matches-counted h past l = record { log = l.log; one_hand = l.one_hand; tickets_is = l.tickets_is; limit = l.limit; ended = l.ended; asked = l.asked; known = l.known }
+matches-counted h past l = record { log = l.log; one_hand = l.one_hand; tickets_is = l.tickets_is; limit = l.limit;
+    ended = l.ended; asked = l.asked; known = l.known }
 
 -- the FIFO was asked, and gave nothing
 pub matches-asked : (h : HandValue) (past : RoutePast) → LogMatches h past → LogMatches (none_given h) past
-matches-asked h past l = record { log = l.log; one_hand = l.one_hand; tickets_is = l.tickets_is; limit = l.limit; ended = l.ended; asked = l.asked; known = l.known }
+matches-asked h past l = record { log = l.log; one_hand = l.one_hand; tickets_is = l.tickets_is; limit = l.limit;
+    ended = l.ended; asked = l.asked; known = l.known }
 
-matches-taken : (h : HandValue) (past : RoutePast) (x : RxFrame) → h.in_hand ≡ [] → LogMatches h past → LogMatches (taken (given h x) x.frame) past
+matches-taken : (h : HandValue) (past : RoutePast) (x : RxFrame) → h.in_hand ≡ [] → LogMatches h past →
+    LogMatches (taken (given h x) x.frame) past
 matches-taken h past x empty l =
     let new : FrameValue = rewritten h.rewrites x.frame in
     let next : h.tickets + 1 ≡ 1 + length (as_requested h) = omega (arith, l.tickets_is, length-as-requested h) in
-    let front : past.requested ≡ numbered 1 (as_requested h) = sym (append-nil past.requested) ∙ ap (λ (v : List Entry). past.requested ++ v) (sym empty) ∙ l.log in
+    let front : past.requested ≡ numbered 1 (as_requested h) =
+        sym (append-nil past.requested) ∙ ap (λ (v : List Entry). past.requested ++ v) (sym empty) ∙ l.log in
     record {
       log = ap (λ (v : List Entry). v ++ record { number = h.tickets + 1; frame = new } ∷ []) front
           ∙ ap (λ k. numbered 1 (as_requested h) ++ numbered k (new ∷ [])) next
@@ -70,21 +84,25 @@ matches-taken h past x empty l =
       known = l.known;
     }
 
-pub matches-filled : (h filled : HandValue) (past : RoutePast) (e : Entry) → Filled h filled e → LogMatches h past → LogMatches filled past
+pub matches-filled : (h filled : HandValue) (past : RoutePast) (e : Entry) → Filled h filled e → LogMatches h past →
+    LogMatches filled past
 matches-filled h filled past e f l = elim (f.1) [
   | inl same ↦ subst (λ (v : HandValue). LogMatches v past) (sym same) l
   | inr new ↦ subst (λ (v : HandValue). LogMatches v past) (sym new.2) (matches-taken h past new.0 new.1 l)
 ]
 
 -- the frame in the hand has the next number
-pub number-filled : (h : HandValue) (past : RoutePast) (e : Entry) → h.in_hand ≡ e ∷ [] → LogMatches h past → e.number ≡ length past.requested + 1
+pub number-filled : (h : HandValue) (past : RoutePast) (e : Entry) → h.in_hand ≡ e ∷ [] → LogMatches h past →
+    e.number ≡ length past.requested + 1
 number-filled h past e held l =
-    let joined : past.requested ++ e ∷ [] ≡ numbered 1 (as_requested h) = ap (λ (v : List Entry). past.requested ++ v) (sym held) ∙ l.log in
+    let joined : past.requested ++ e ∷ [] ≡ numbered 1 (as_requested h) =
+        ap (λ (v : List Entry). past.requested ++ v) (sym held) ∙ l.log in
     let high : e.number ≡ 0 + length past.requested + 1 = last-numbered 0 (as_requested h) past.requested e joined in
     omega (arith, high)
 
 -- a past that requested nothing more
-matches-refused : (h : HandValue) (past next : RoutePast) → next.requested ≡ past.requested ++ [] → next.aborted ≡ past.aborted → next.asked ≡ past.asked →
+matches-refused : (h : HandValue) (past next : RoutePast) → next.requested ≡ past.requested ++ [] →
+    next.aborted ≡ past.aborted → next.asked ≡ past.asked →
     LogMatches h past → LogMatches h next
 matches-refused h past next req ab ask l =
     let same : next.requested ≡ past.requested = req ∙ append-nil past.requested in
@@ -98,10 +116,14 @@ matches-refused h past next req ab ask l =
       known = λ n k. subst (λ (v : List Entry). Has (numbers v) n) (sym same) (l.known n k);
     }
 
-pub matches-requested : (h : HandValue) (past : RoutePast) (e : Entry) (answer : Result Sent NumberTooLarge) → h.in_hand ≡ e ∷ [] →
-    IsErr answer ↔ (greatest_number < e.number) → LogMatches h past → LogMatches (if_requested answer h) (after_request past e.number e.frame answer)
+pub matches-requested : (h : HandValue) (past : RoutePast) (e : Entry) (answer : Result Sent NumberTooLarge) →
+    h.in_hand ≡ e ∷ [] →
+    IsErr answer ↔ (greatest_number < e.number) → LogMatches h past →
+    LogMatches (if_requested answer h) (after_request past e.number e.frame answer)
 matches-requested h past e (Ok Yes) held limit l =
-    let low : e.number ≤ greatest_number = (let refused : (greatest_number < e.number) → ⊥ = λ k. (let never : false ≡ true = limit.1 k in cc) in omega (arith, refused)) in
+    let low : e.number ≤ greatest_number =
+        (let refused : (greatest_number < e.number) → ⊥ = λ k. (let never : false ≡ true = limit.1 k in cc) in
+        omega (arith, refused)) in
     let size : length (past.requested ++ e ∷ []) ≡ length past.requested + 1 = length-append past.requested (e ∷ []) in
     record {
       log = append-nil (past.requested ++ e ∷ []) ∙ ap (λ (v : List Entry). past.requested ++ v) (sym held) ∙ l.log;
@@ -110,13 +132,18 @@ matches-requested h past e (Ok Yes) held limit l =
       limit = omega (arith, size, low, number-filled h past e held l);
       ended = l.ended;
       asked = l.asked;
-      known = λ n k. subst (λ (v : List ℕ). Has v n) (sym (map-append (λ (x : Entry). x.number) past.requested (e ∷ []))) (has-left (numbers past.requested) (e.number ∷ []) n (l.known n k));
+      known = λ n k. subst (λ (v : List ℕ). Has v n)
+          (sym (map-append (λ (x : Entry). x.number) past.requested (e ∷ [])))
+          (has-left (numbers past.requested) (e.number ∷ []) n (l.known n k));
     }
-matches-requested h past e (Ok NotNow) held limit l = matches-refused h past (after_request past e.number e.frame (Ok NotNow)) refl refl refl l
-matches-requested h past e (Err why) held limit l = matches-refused h past (after_request past e.number e.frame (Err why)) refl refl refl l
+matches-requested h past e (Ok NotNow) held limit l =
+    matches-refused h past (after_request past e.number e.frame (Ok NotNow)) refl refl refl l
+matches-requested h past e (Err why) held limit l =
+    matches-refused h past (after_request past e.number e.frame (Err why)) refl refl refl l
 
 -- a list that is told one number more, or none
-grows : (old more new : List ℕ) (logged : List ℕ) (number : ℕ) → new ≡ old ++ more → ((n : ℕ) → Has more n → n ≡ number) → ((n : ℕ) → Has old n → Has logged n) →
+grows : (old more new : List ℕ) (logged : List ℕ) (number : ℕ) → new ≡ old ++ more →
+    ((n : ℕ) → Has more n → n ≡ number) → ((n : ℕ) → Has old n → Has logged n) →
     (n : ℕ) → Has new n → Has (logged ++ number ∷ []) n
 grows old more new logged number is only before n k =
     elim (has-either old more n (subst (λ (v : List ℕ). Has v n) is k)) [
@@ -136,14 +163,16 @@ just number n (inr h) = absurd h
 none_of : (number n : ℕ) → Has {A = ℕ} [] n → n ≡ number
 none_of number n h = absurd h
 
-logged-known : (past : RoutePast) (logged : List ℕ) (number : ℕ) → Has (numbers past.requested) number → ((n : ℕ) → Has logged n → Has (numbers past.requested) n) →
+logged-known : (past : RoutePast) (logged : List ℕ) (number : ℕ) → Has (numbers past.requested) number →
+    ((n : ℕ) → Has logged n → Has (numbers past.requested) n) →
     (n : ℕ) → Has (logged ++ number ∷ []) n → Has (numbers past.requested) n
 logged-known past logged number known before n k = elim (has-either logged (number ∷ []) n k) [
   | inl a ↦ before n a
   | inr b ↦ subst (Has (numbers past.requested)) (sym (just number n b)) known
 ]
 
-pub matches-aborted : (h : HandValue) (past : RoutePast) (number : ℕ) (answer : AbortAnswer) (asks : Bool) → Has (numbers past.requested) number →
+pub matches-aborted : (h : HandValue) (past : RoutePast) (number : ℕ) (answer : AbortAnswer) (asks : Bool) →
+    Has (numbers past.requested) number →
     LogMatches h past → LogMatches (if_aborted answer number h) (after_abort past number answer asks)
 matches-aborted h past number Ended asks known l = record {
   log = l.log;
@@ -160,7 +189,8 @@ matches-aborted h past number Asked asks known l = record {
   tickets_is = l.tickets_is;
   limit = l.limit;
   ended = grows past.aborted [] (past.aborted ++ []) h.aborted number refl (none_of number) l.ended;
-  asked = grows past.asked (if_asked Asked asks number) (past.asked ++ if_asked Asked asks number) h.aborted number refl (at_most asks number) l.asked;
+  asked = grows past.asked (if_asked Asked asks number) (past.asked ++ if_asked Asked asks number) h.aborted number refl
+      (at_most asks number) l.asked;
   known = logged-known past h.aborted number known l.known;
 }
 matches-aborted h past number Gone asks known l = record {

@@ -1,5 +1,6 @@
 -- Frames whose numbers go up by one, and what stands at their front.
-use Rattle.std.proofs.Common.{◌≡◌, ◌≢◌, ℕ, suc, ◌+◌, ◌<◌, ◌≤◌, inl, inr, List, [], ◌∷◌, ◌++◌, length, refl, sym, ◌∙◌, ap, arith}
+use Rattle.std.proofs.Common.{◌≡◌, ◌≢◌, ℕ, suc, ◌+◌, ◌<◌, ◌≤◌, inl, inr, List, [], ◌∷◌, ◌++◌, length, refl, sym, ◌∙◌}
+use Rattle.std.proofs.Common.{ap, arith}
 use Rattle.std.proofs.lemmas.Bool.Decides.{eqb_tells}
 use Rattle.can_frame.specs.Frames.{FrameValue}
 use Rattle.bx_core.specs.declared.entry.Entry.{Entry}
@@ -12,18 +13,22 @@ pub length-numbered : (n : ℕ) (fs : List FrameValue) → length (numbered n fs
 length-numbered n [] = refl
 length-numbered n (f ∷ fs) = ap suc (length-numbered (n + 1) fs)
 
-pub numbered-append : (n : ℕ) (fs gs : List FrameValue) → numbered n (fs ++ gs) ≡ numbered n fs ++ numbered (n + length fs) gs
+pub numbered-append : (n : ℕ) (fs gs : List FrameValue) → numbered n (fs ++ gs) ≡ numbered n fs
+    ++ numbered (n + length fs) gs
 numbered-append n [] gs = ap (λ k. numbered k gs) (let e : n ≡ n + 0 = omega arith in e)
 numbered-append n (f ∷ fs) gs =
     let e : n + 1 + length fs ≡ n + suc (length fs) = omega arith in
-    ap (λ (l : List Entry). record { number = n; frame = f } ∷ l) (numbered-append (n + 1) fs gs ∙ ap (λ k. numbered (n + 1) fs ++ numbered k gs) e)
+    ap (λ (l : List Entry). record { number = n; frame = f } ∷ l) (numbered-append (n + 1) fs gs
+        ∙ ap (λ k. numbered (n + 1) fs ++ numbered k gs) e)
 
 -- the first number at the front
-first_number : (n : ℕ) (f : FrameValue) (fs : List FrameValue) (x : Entry) (xs ys : List Entry) → (x ∷ xs) ++ ys ≡ numbered n (f ∷ fs) → x.number ≡ n
+first_number : (n : ℕ) (f : FrameValue) (fs : List FrameValue) (x : Entry) (xs ys : List Entry) → (x ∷ xs)
+    ++ ys ≡ numbered n (f ∷ fs) → x.number ≡ n
 first_number n f fs x xs ys e = let q : x ≡ record { number = n; frame = f } = cc in ap (λ (p : Entry). p.number) q
 
 -- the last number at the front
-pub last_of-numbered : (n : ℕ) (fs : List FrameValue) (xs ys : List Entry) → xs ++ ys ≡ numbered (n + 1) fs → last_of n xs ≡ n + length xs
+pub last_of-numbered : (n : ℕ) (fs : List FrameValue) (xs ys : List Entry) → xs ++ ys ≡ numbered (n + 1) fs →
+    last_of n xs ≡ n + length xs
 last_of-numbered n fs [] ys e = omega arith
 last_of-numbered n [] (x ∷ xs) ys e = absurd (cc)
 last_of-numbered n (f ∷ fs) (x ∷ xs) ys e =
@@ -33,7 +38,8 @@ last_of-numbered n (f ∷ fs) (x ∷ xs) ys e =
     ap (λ k. last_of k xs) a ∙ last_of-numbered (n + 1) fs xs ys r ∙ more
 
 -- the number of the last one
-pub last-numbered : (n : ℕ) (fs : List FrameValue) (xs : List Entry) (x : Entry) → xs ++ x ∷ [] ≡ numbered (n + 1) fs → x.number ≡ n + length xs + 1
+pub last-numbered : (n : ℕ) (fs : List FrameValue) (xs : List Entry) (x : Entry) → xs ++ x ∷ [] ≡ numbered (n + 1) fs →
+    x.number ≡ n + length xs + 1
 last-numbered n [] [] x e = absurd (cc)
 last-numbered n [] (y ∷ xs) x e = absurd (cc)
 last-numbered n (f ∷ fs) [] x e = omega (arith, first_number (n + 1) f fs x [] [] e)
@@ -42,7 +48,8 @@ last-numbered n (f ∷ fs) (y ∷ xs) x e =
     omega (arith, last-numbered (n + 1) fs xs x r)
 
 -- each number up to the last at the front stands there
-pub has-numbered : (n k : ℕ) (fs : List FrameValue) (xs ys : List Entry) → xs ++ ys ≡ numbered (n + 1) fs → n < k → k ≤ n + length xs → Has (numbers xs) k
+pub has-numbered : (n k : ℕ) (fs : List FrameValue) (xs ys : List Entry) → xs ++ ys ≡ numbered (n + 1) fs → n < k →
+    k ≤ n + length xs → Has (numbers xs) k
 has-numbered n k fs [] ys e low high = absurd (omega arith)
 has-numbered n k [] (x ∷ xs) ys e low high = absurd (cc)
 has-numbered n k (f ∷ fs) (x ∷ xs) ys e low high =
@@ -54,7 +61,8 @@ has-numbered n k (f ∷ fs) (x ∷ xs) ys e low high =
     ]
 
 -- and no other does
-pub numbered-bounds : (n k : ℕ) (fs : List FrameValue) (xs ys : List Entry) → xs ++ ys ≡ numbered (n + 1) fs → Has (numbers xs) k → (n < k) × (k ≤ n + length xs)
+pub numbered-bounds : (n k : ℕ) (fs : List FrameValue) (xs ys : List Entry) → xs ++ ys ≡ numbered (n + 1) fs →
+    Has (numbers xs) k → (n < k) × (k ≤ n + length xs)
 numbered-bounds n k fs [] ys e h = absurd h
 numbered-bounds n k [] (x ∷ xs) ys e h = absurd (cc)
 numbered-bounds n k (f ∷ fs) (x ∷ xs) ys e (inl b) =

@@ -1,5 +1,6 @@
 -- A turn keeps to the aborts that were planned, and counts.
-use Rattle.std.proofs.Common.{◌≡◌, ℕ, inl, inr, Some, Result, Ok, Err, List, [], ◌∷◌, ◌++◌, slice_get, remove, refl, sym, ap, subst, append_assoc, ◌∙◌}
+use Rattle.std.proofs.Common.{◌≡◌, ℕ, inl, inr, Some, Result, Ok, Err, List, [], ◌∷◌, ◌++◌, slice_get, remove, refl}
+use Rattle.std.proofs.Common.{sym, ap, subst, append_assoc, ◌∙◌}
 use Rattle.std.proofs.lemmas.List.{map-append}
 use Rattle.bx_core.specs.declared.answer.Sent.{Sent}
 use Rattle.bx_core.specs.declared.answer.Sent.TheVariants.{Yes, NotNow}
@@ -22,56 +23,72 @@ first_and_rest : (xs : List RouteAbort) (a : RouteAbort) → slice_get xs 0 ≡ 
 first_and_rest [] a e = absurd (cc e)
 first_and_rest (x ∷ xs) a e = (let same : x ≡ a = cc e in ap (λ y. y ∷ xs) same)
 
-filled_keeps : (planned : List RouteAbort) (h filled : HandValue) (entry : Entry) → Filled h filled entry → FromPlan planned h → FromPlan planned filled
+filled_keeps : (planned : List RouteAbort) (h filled : HandValue) (entry : Entry) → Filled h filled entry →
+    FromPlan planned h → FromPlan planned filled
 filled_keeps planned h filled entry f p = elim f.1 [
   | inl same ↦ subst (FromPlan planned) (sym same) p
   | inr more ↦ subst (FromPlan planned) (sym more.2) (record { done = p.done; all = p.all; logged = p.logged })
 ]
 
-asked_keeps : (planned : List RouteAbort) (h : HandValue) (answer : Result Sent NumberTooLarge) → FromPlan planned h → FromPlan planned (if_requested answer h)
+asked_keeps : (planned : List RouteAbort) (h : HandValue) (answer : Result Sent NumberTooLarge) → FromPlan planned h →
+    FromPlan planned (if_requested answer h)
 asked_keeps planned h (Ok Yes) p = record { done = p.done; all = p.all; logged = p.logged }
 asked_keeps planned h (Ok NotNow) p = p
 asked_keeps planned h (Err e) p = p
 
 -- one planned abort more is done
-one_done : (planned : List RouteAbort) (h : HandValue) (abort : RouteAbort) → first_abort h ≡ Some abort → (p : FromPlan planned h) →
+one_done : (planned : List RouteAbort) (h : HandValue) (abort : RouteAbort) → first_abort h ≡ Some abort →
+    (p : FromPlan planned h) →
     planned ≡ (p.done ++ abort ∷ []) ++ remove h.aborts 0
 one_done planned h abort first p =
-    p.all ∙ ap (λ xs. p.done ++ xs) (first_and_rest h.aborts abort first) ∙ sym (append_assoc p.done (abort ∷ []) (remove h.aborts 0))
+    p.all ∙ ap (λ xs. p.done ++ xs) (first_and_rest h.aborts abort first)
+        ∙ sym (append_assoc p.done (abort ∷ []) (remove h.aborts 0))
 
-number_done : (done : List RouteAbort) (abort : RouteAbort) → numbers_in (done ++ abort ∷ []) ≡ numbers_in done ++ abort.number ∷ []
+number_done : (done : List RouteAbort) (abort : RouteAbort) → numbers_in (done ++ abort ∷ []) ≡ numbers_in done
+    ++ abort.number ∷ []
 number_done done abort = map-append (λ (a : RouteAbort). a.number) done (abort ∷ [])
 
-aborted_keeps : (planned : List RouteAbort) (h : HandValue) (abort : RouteAbort) (answer : AbortAnswer) → first_abort h ≡ Some abort → FromPlan planned h → FromPlan planned (if_aborted answer abort.number h)
+aborted_keeps : (planned : List RouteAbort) (h : HandValue) (abort : RouteAbort) (answer : AbortAnswer) →
+    first_abort h ≡ Some abort → FromPlan planned h → FromPlan planned (if_aborted answer abort.number h)
 aborted_keeps planned h abort Ended first p = record {
   done = p.done ++ abort ∷ [];
   all = one_done planned h abort first p;
-  logged = subst (IsSublist (h.aborted ++ abort.number ∷ [])) (sym (number_done p.done abort)) (sublist_push h.aborted (numbers_in p.done) abort.number p.logged);
+  logged = subst (IsSublist (h.aborted ++ abort.number ∷ [])) (sym (number_done p.done abort))
+      (sublist_push h.aborted (numbers_in p.done) abort.number p.logged);
 }
 aborted_keeps planned h abort Asked first p = record {
   done = p.done ++ abort ∷ [];
   all = one_done planned h abort first p;
-  logged = subst (IsSublist (h.aborted ++ abort.number ∷ [])) (sym (number_done p.done abort)) (sublist_push h.aborted (numbers_in p.done) abort.number p.logged);
+  logged = subst (IsSublist (h.aborted ++ abort.number ∷ [])) (sym (number_done p.done abort))
+      (sublist_push h.aborted (numbers_in p.done) abort.number p.logged);
 }
 aborted_keeps planned h abort Gone first p = record {
   done = p.done ++ abort ∷ [];
   all = one_done planned h abort first p;
-  logged = subst (IsSublist h.aborted) (sym (number_done p.done abort)) (sublist_more h.aborted (numbers_in p.done) abort.number p.logged);
+  logged = subst (IsSublist h.aborted) (sym (number_done p.done abort))
+      (sublist_more h.aborted (numbers_in p.done) abort.number p.logged);
 }
 aborted_keeps planned h abort Later first p = p
 
-turned_keeps : (planned : List RouteAbort) (old new : HandValue) (past next : RoutePast) (answer : TurnAnswer) → Turned old new past next answer → FromPlan planned old → FromPlan planned new
-turned_keeps planned old new past next answer (idle none_due empty is) p = record { done = p.done; all = p.all; logged = p.logged }
-turned_keeps planned old new past next answer (by_request {filled = filled} entry sent none_due f limit) p = asked_keeps planned filled sent (filled_keeps planned old filled entry f p)
-turned_keeps planned old new past next answer (by_abort abort given asks first due) p = aborted_keeps planned old abort given first p
+turned_keeps : (planned : List RouteAbort) (old new : HandValue) (past next : RoutePast) (answer : TurnAnswer) →
+    Turned old new past next answer → FromPlan planned old → FromPlan planned new
+turned_keeps planned old new past next answer (idle none_due empty is) p =
+    record { done = p.done; all = p.all; logged = p.logged }
+turned_keeps planned old new past next answer (by_request {filled = filled} entry sent none_due f limit) p =
+    asked_keeps planned filled sent (filled_keeps planned old filled entry f p)
+turned_keeps planned old new past next answer (by_abort abort given asks first due) p =
+    aborted_keeps planned old abort given first p
 
-pub turn_keeps : (planned : List RouteAbort) (after after' : RoutePast → Type 0) (old new : HandValue) (answer : TurnAnswer) → IsLinked after old → TurnMade after after' old new answer →
+pub turn_keeps : (planned : List RouteAbort) (after after' : RoutePast → Type 0) (old new : HandValue)
+    (answer : TurnAnswer) → IsLinked after old → TurnMade after after' old new answer →
     FromPlan planned old → FromPlan planned new
 turn_keeps planned after after' old new answer linked made p =
     let counted_matches : LogMatches (counted old) linked.0 =
-    record { log = linked.2.log; one_hand = linked.2.one_hand; tickets_is = linked.2.tickets_is; limit = linked.2.limit; ended = linked.2.ended; asked = linked.2.asked; known = linked.2.known } in
+    record { log = linked.2.log; one_hand = linked.2.one_hand; tickets_is = linked.2.tickets_is; limit = linked.2.limit;
+        ended = linked.2.ended; asked = linked.2.asked; known = linked.2.known } in
     let t = made linked.0 linked.1 counted_matches in
-    turned_keeps planned (counted old) new linked.0 t.0 answer t.2 (record { done = p.done; all = p.all; logged = p.logged })
+    turned_keeps planned (counted old) new linked.0 t.0 answer t.2
+        (record { done = p.done; all = p.all; logged = p.logged })
 
 filled_counts : (h filled : HandValue) (entry : Entry) → Filled h filled entry → filled.turns ≡ h.turns
 filled_counts h filled entry f = elim f.1 [
@@ -90,15 +107,19 @@ aborted_counts h Asked n = refl
 aborted_counts h Gone n = refl
 aborted_counts h Later n = refl
 
-turned_counts : (old new : HandValue) (past next : RoutePast) (answer : TurnAnswer) → Turned old new past next answer → new.turns ≡ old.turns
+turned_counts : (old new : HandValue) (past next : RoutePast) (answer : TurnAnswer) → Turned old new past next answer →
+    new.turns ≡ old.turns
 turned_counts old new past next answer (idle none_due empty is) = refl
-turned_counts old new past next answer (by_request {filled = filled} entry sent none_due f limit) = asked_counts filled sent ∙ filled_counts old filled entry f
+turned_counts old new past next answer (by_request {filled = filled} entry sent none_due f limit) =
+    asked_counts filled sent ∙ filled_counts old filled entry f
 turned_counts old new past next answer (by_abort abort given asks first due) = aborted_counts old given abort.number
 
 -- a turn counts
-pub turn_counts : (after after' : RoutePast → Type 0) (old new : HandValue) (answer : TurnAnswer) → IsLinked after old → TurnMade after after' old new answer → new.turns ≡ next_turn old.turns
+pub turn_counts : (after after' : RoutePast → Type 0) (old new : HandValue) (answer : TurnAnswer) → IsLinked after old →
+    TurnMade after after' old new answer → new.turns ≡ next_turn old.turns
 turn_counts after after' old new answer linked made =
     let counted_matches : LogMatches (counted old) linked.0 =
-    record { log = linked.2.log; one_hand = linked.2.one_hand; tickets_is = linked.2.tickets_is; limit = linked.2.limit; ended = linked.2.ended; asked = linked.2.asked; known = linked.2.known } in
+    record { log = linked.2.log; one_hand = linked.2.one_hand; tickets_is = linked.2.tickets_is; limit = linked.2.limit;
+        ended = linked.2.ended; asked = linked.2.asked; known = linked.2.known } in
     let t = made linked.0 linked.1 counted_matches in
     turned_counts (counted old) new linked.0 t.0 answer t.2

@@ -15,10 +15,13 @@ site_new s i site p = record {
   ports = record { at = λ k controller port e f. (p.ports.at k controller port e f).is_new; size = p.ports.size };
 }
 
-pub new_sites : (s : ScriptValue) (sites : List Site) (i : ℕ) → length sites ≡ length s.segments → PairsBelow (λ j segment. StartsSite s j) s.segments sites i → AreNewSites s sites
-new_sites s sites i size b = record { at = λ j segment site e f. site_new s j site (b.at j segment site e f); size = size }
+pub new_sites : (s : ScriptValue) (sites : List Site) (i : ℕ) → length sites ≡ length s.segments →
+    PairsBelow (λ j segment. StartsSite s j) s.segments sites i → AreNewSites s sites
+new_sites s sites i size b =
+    record { at = λ j segment site e f. site_new s j site (b.at j segment site e f); size = size }
 
-pub have_mails : (s : ScriptValue) (sites : List Site) (i : ℕ) → i ≤ length s.segments → PairsBelow (λ j segment. StartsSite s j) s.segments sites i → HaveMails IsNewMail s sites
+pub have_mails : (s : ScriptValue) (sites : List Site) (i : ℕ) → i ≤ length s.segments →
+    PairsBelow (λ j segment. StartsSite s j) s.segments sites i → HaveMails IsNewMail s sites
 have_mails s sites i most b place port controller value at is e =
     let within = slice_get_within sites place.site at.site at.site_is in
     let said = some_there s.segments place.site (omega (arith, within, b.size, most)) in

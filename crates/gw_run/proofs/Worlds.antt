@@ -20,7 +20,8 @@ pub record Moved (old new : List Site) (place : Place) (port : Port) : Type 0 wh
   pub there : IsAt new place late
   pub leaves : PortLeaves port late
 
-pub moved : (old new : List Site) (place : Place) (port : Port) → AtPlaces (λ i. SiteMoves) old new → IsAt old place port → Moved old new place port
+pub moved : (old new : List Site) (place : Place) (port : Port) → AtPlaces (λ i. SiteMoves) old new →
+    IsAt old place port → Moved old new place port
 moved old new place port m at =
     let within = slice_get_within old place.site at.site at.site_is in
     let late = some_there new place.site (omega (arith, within, m.size)) in
@@ -40,7 +41,9 @@ lane_on lane old new keeps h = record {
 }
 
 -- the same FIFO is in the slot
-slot_on : (lane : Lane) (a b : Option Intake) → SameFifo a b → ((intake : Intake) × (a ≡ Some intake) × (intake.rxin.queue ≡ lane.hand.out.queue)) → (intake : Intake) × (b ≡ Some intake) × (intake.rxin.queue ≡ lane.hand.out.queue)
+slot_on : (lane : Lane) (a b : Option Intake) → SameFifo a b →
+    ((intake : Intake) × (a ≡ Some intake) × (intake.rxin.queue ≡ lane.hand.out.queue)) → (intake : Intake)
+    × (b ≡ Some intake) × (intake.rxin.queue ≡ lane.hand.out.queue)
 slot_on lane None b same h = absurd (cc h.1)
 slot_on lane (Some x) None same h = absurd same
 slot_on lane (Some x) (Some y) same h = (y, refl, same ∙ ap (λ (i : Intake). i.rxin.queue) (same_intake h.1) ∙ h.2)
@@ -48,17 +51,21 @@ slot_on lane (Some x) (Some y) same h = (y, refl, same ∙ ap (λ (i : Intake). 
     same_intake : {u v : Intake} → Some u ≡ Some v → u ≡ v
     same_intake e = cc e
 
-slots : (lane : Lane) (old new : Port) (b : Bool) → SameFifo old.first new.first → SameFifo old.second new.second → SameFifo (cond b old.first old.second) (cond b new.first new.second)
+slots : (lane : Lane) (old new : Port) (b : Bool) → SameFifo old.first new.first → SameFifo old.second new.second →
+    SameFifo (cond b old.first old.second) (cond b new.first new.second)
 slots lane old new true first second = first
 slots lane old new false first second = second
 
-pub takes_on : (lane : Lane) (old new : Port) → SameFifo old.first new.first → SameFifo old.second new.second → TakesFrom lane old → TakesFrom lane new
+pub takes_on : (lane : Lane) (old new : Port) → SameFifo old.first new.first → SameFifo old.second new.second →
+    TakesFrom lane old → TakesFrom lane new
 takes_on lane old new first second h =
-    let s = slot_on lane (slot_of old lane.fifo) (slot_of new lane.fifo) (slots lane old new (lane.fifo == 0) first second) (h.intake, h.slot_is, h.queue_is) in
+    let s = slot_on lane (slot_of old lane.fifo) (slot_of new lane.fifo)
+        (slots lane old new (lane.fifo == 0) first second) (h.intake, h.slot_is, h.queue_is) in
     record { intake = s.0; slot_is = s.1; queue_is = s.2 }
 
 -- a bit of all segments
-pub world_bits : (old new : List Site) (lanes : List Lane) → AtPlaces (λ i. SiteMoves) old new → WorldHolds old lanes → WorldHolds new lanes
+pub world_bits : (old new : List Site) (lanes : List Lane) → AtPlaces (λ i. SiteMoves) old new → WorldHolds old lanes →
+    WorldHolds new lanes
 world_bits old new lanes m w = record {
   each_site = λ i site e.
       let within = slice_get_within new i site e in

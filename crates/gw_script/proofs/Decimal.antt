@@ -1,5 +1,6 @@
 -- A number's decimal digits, two at a time.
-use Rattle.std.proofs.Common.{◌≡◌, ℕ, ◌+◌, ◌*◌, ◌/◌, ◌%◌, ◌^◌, ◌<◌, ◌≤◌, List, [], ◌∷◌, ◌++◌, length, ap, ◌∙◌, arith, append_assoc, length-append, get_or, zero-add}
+use Rattle.std.proofs.Common.{◌≡◌, ℕ, ◌+◌, ◌*◌, ◌/◌, ◌%◌, ◌^◌, ◌<◌, ◌≤◌, List, [], ◌∷◌, ◌++◌, length, ap, ◌∙◌, arith}
+use Rattle.std.proofs.Common.{append_assoc, length-append, get_or, zero-add}
 use Rattle.std.proofs.lemmas.Fmt.{decimal_digit, decimal_step}
 use Rattle.std.specs.Fmt.{decimal}
 use Rattle.gw_script.specs.declared.digits.TheConstants.{PAIRS}
@@ -25,7 +26,8 @@ decimal_pair n some few =
     let front : n / 10 / 10 ≡ n / 100 = omega arith in
     let tens : n / 10 % 10 ≡ n % 100 / 10 = omega arith in
     let ones : n % 10 ≡ n % 100 % 10 = omega arith in
-    rw (decimal_step n (omega arith) few, decimal_step (n / 10) (omega arith) (omega arith), append_assoc, front, tens, ← ones)
+    rw (decimal_step n (omega arith) few, decimal_step (n / 10) (omega arith) (omega arith), append_assoc, front, tens,
+        ← ones)
 
 pub length_pair : (n : ℕ) → 100 ≤ n → n < 2 ^ 64 → length (decimal n) ≡ length (decimal (n / 100)) + 2
 length_pair n some few = ap length (decimal_pair n some few) ∙ length-append _ _

@@ -7,7 +7,8 @@ pairs_from first second zero n = []
 pairs_from first second (suc count) n = first n ∷ second n ∷ pairs_from first second count (n + 1)
 
 pub pairs_at : (first second : ℕ → ℕ) (count n i : ℕ) → i < count →
-    (get_or (pairs_from first second count n) (i * 2) 0 ≡ first (n + i)) × (get_or (pairs_from first second count n) (i * 2 + 1) 0 ≡ second (n + i))
+    (get_or (pairs_from first second count n) (i * 2) 0 ≡ first (n + i))
+    × (get_or (pairs_from first second count n) (i * 2 + 1) 0 ≡ second (n + i))
 pairs_at first second zero n i below = absurd (omega arith)
 pairs_at first second (suc count) n zero below = (rw (add-zero n), rw (add-zero n))
 pairs_at first second (suc count) n (suc i) below =

@@ -1,5 +1,6 @@
 -- A text that is written piece by piece.
-use Rattle.std.proofs.Common.{◌≡◌, ◌∙◌, sym, ap, subst, ℕ, suc, ◌+◌, ◌-◌, ◌<◌, ◌≤◌, Option, Some, None, List, [], ◌∷◌, ◌++◌, take, drop, drop-cons, add-one, get_or, length, append_assoc, arith}
+use Rattle.std.proofs.Common.{◌≡◌, ◌∙◌, sym, ap, subst, ℕ, suc, ◌+◌, ◌-◌, ◌<◌, ◌≤◌, Option, Some, None, List, [], ◌∷◌}
+use Rattle.std.proofs.Common.{◌++◌, take, drop, drop-cons, add-one, get_or, length, append_assoc, arith}
 use Rattle.std.specs.List.{flat_map}
 use Rattle.std.proofs.lemmas.List.{append-nil, take_all, take-append-drop, length-drop}
 use Rattle.std.proofs.lemmas.Grind.{flat_map-append}
@@ -18,10 +19,12 @@ appends_on (Some xs0) (Some bs) None xs ys p q = absurd q
 appends_on (Some xs0) (Some bs) (Some cs) xs ys p q = q ∙ ap (λ zs. zs ++ ys) p ∙ append_assoc xs0 xs ys
 
 -- one piece more
-pub piece_more : (a b c : Option (List ℕ)) (written count : ℕ) (text : List ℕ) → Appends a b (take written text) → Appends b c (take count (drop written text)) →
+pub piece_more : (a b c : Option (List ℕ)) (written count : ℕ) (text : List ℕ) → Appends a b (take written text) →
+    Appends b c (take count (drop written text)) →
     Appends a c (take (written + count) text)
 piece_more a b c written count text p q =
-    subst (Appends a c) (sym (take-add written count text)) (appends_on a b c (take written text) (take count (drop written text)) p q)
+    subst (Appends a c) (sym (take-add written count text))
+        (appends_on a b c (take written text) (take count (drop written text)) p q)
 
 -- and none more
 pub piece_kept : (a b c : Option (List ℕ)) (xs : List ℕ) → Appends a b xs → Keeps b c → Appends a c xs
@@ -34,17 +37,22 @@ piece_kept (Some xs0) (Some bs) (Some cs) xs p q = q ∙ p
 pub rest_is : (written : ℕ) (text : List ℕ) → take (length text - written) (drop written text) ≡ drop written text
 rest_is written text = take_all (length text - written) (drop written text) (omega (arith, length-drop written text))
 
-pub piece_within : (written count : ℕ) (text : List ℕ) → written ≤ length text → count ≤ length (take (length text - written) (drop written text)) → written + count ≤ length text
-piece_within written count text before bound = omega (arith, before, bound, ap length (rest_is written text), length-drop written text)
+pub piece_within : (written count : ℕ) (text : List ℕ) → written ≤ length text →
+    count ≤ length (take (length text - written) (drop written text)) → written + count ≤ length text
+piece_within written count text before bound =
+    omega (arith, before, bound, ap length (rest_is written text), length-drop written text)
 
 -- what is said of the first elements, and a front of what is said of the next, is a front of what is said of all
-pub front_more : {A : Type 0} (said : A → List ℕ) (xs : List A) (i : ℕ) (x : A) (n : ℕ) → i < length xs → x ≡ get_or xs i x →
-    flat_map said (take i xs) ++ take n (said x) ≡ take (length (flat_map said (take i xs)) + length (take n (said x))) (flat_map said xs)
+pub front_more : {A : Type 0} (said : A → List ℕ) (xs : List A) (i : ℕ) (x : A) (n : ℕ) → i < length xs →
+    x ≡ get_or xs i x →
+    flat_map said (take i xs) ++ take n (said x) ≡ take (length (flat_map said (take i xs)) + length (take n (said x)))
+    (flat_map said xs)
 front_more said xs i x n lt is =
     let front = flat_map said (take i xs) in
     let begun = take n (said x) in
     let rest = drop n (said x) ++ flat_map said (drop (i + 1) xs) in
-    let next : drop i xs ≡ x ∷ drop (i + 1) xs = drop-cons xs i x lt ∙ ap (λ y. y ∷ drop (suc i) xs) (sym is) ∙ ap (λ k. x ∷ drop k xs) (sym (add-one i)) in
+    let next : drop i xs ≡ x ∷ drop (i + 1) xs =
+        drop-cons xs i x lt ∙ ap (λ y. y ∷ drop (suc i) xs) (sym is) ∙ ap (λ k. x ∷ drop k xs) (sym (add-one i)) in
     let all : flat_map said xs ≡ front ++ (begun ++ rest) =
     ap (flat_map said) (sym (take-append-drop i xs))
     ∙ flat_map-append said (take i xs) (drop i xs)

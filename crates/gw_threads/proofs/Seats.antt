@@ -5,7 +5,8 @@ use Rattle.gw_threads.specs.declared.views.Pacer.{Pacer}
 use Rattle.gw_threads.specs.Clocks.{ClockPlace, one_of, rest_of, ticked, MayTick, TicksAt, Deals, MayGo, SameClocks}
 
 -- it may tick as long as it hasn't come so far
-pub may_tick : (bits made limit : ℕ) (c : ClockPlace) → TicksAt bits made c → MayGo limit c → made < limit → MayTick c.pace c.view
+pub may_tick : (bits made limit : ℕ) (c : ClockPlace) → TicksAt bits made c → MayGo limit c → made < limit →
+    MayTick c.pace c.view
 may_tick bits made limit c t may left = record {
   one = t.one;
   short = omega (arith, t.made_is, may.most, left);
@@ -14,14 +15,16 @@ may_tick bits made limit c t may left = record {
 
 -- one that may go far may go less far
 pub less_far : (now limit : ℕ) (c : ClockPlace) → now ≤ limit → MayGo limit c → MayGo now c
-less_far now limit c less may = record { near = λ j l n. (let near = may.near j l n in omega (arith, near, less)); most = omega (arith, may.most, less) }
+less_far now limit c less may = record { near = λ j l n. (let near = may.near j l n in omega (arith, near, less));
+    most = omega (arith, may.most, less) }
 
 -- no clock may go nowhere
 pub may_stay : (c : ClockPlace) → MayGo 0 c
 may_stay c = record { near = λ j l n. omega arith; most = omega arith }
 
 -- a tick behind
-pub ticked_on : (bits made : ℕ) (c d : ClockPlace) → d.pace ≡ c.pace → d.view ≡ ticked c.view → TicksAt bits made c → TicksAt bits (made + 1) d
+pub ticked_on : (bits made : ℕ) (c d : ClockPlace) → d.pace ≡ c.pace → d.view ≡ ticked c.view → TicksAt bits made c →
+    TicksAt bits (made + 1) d
 ticked_on bits made c d same e t = record {
   one = ap (λ (v : Pacer). v.end) e ∙ t.one ∙ sym (ap (λ (v : Pacer). v.first + 1) e);
   made_is = ap (λ (v : Pacer). v.made) e ∙ ap (λ n. n + 1) t.made_is;
@@ -29,7 +32,8 @@ ticked_on bits made c d same e t = record {
 }
 
 -- it may still go as far
-pub may_go_on : (limit : ℕ) (c d : ClockPlace) → d.pace ≡ c.pace → d.view ≡ ticked c.view → MayGo limit c → MayGo limit d
+pub may_go_on : (limit : ℕ) (c d : ClockPlace) → d.pace ≡ c.pace → d.view ≡ ticked c.view → MayGo limit c →
+    MayGo limit d
 may_go_on limit c d same e may = record {
   near = λ j l n. (
       let first = ap (λ (v : Pacer). v.first) e in
@@ -57,10 +61,12 @@ same-on a b c p q = record {
 }
 
 pub same-self : (a b : ClockPlace) → b ≡ a → SameClocks a b
-same-self a b e = subst (SameClocks a) (sym e) (record { pace_is = refl; first_is = refl; end_is = refl; made_is = refl })
+same-self a b e =
+    subst (SameClocks a) (sym e) (record { pace_is = refl; first_is = refl; end_is = refl; made_is = refl })
 
 -- the seat that is dealt ticks one clock, at 0
-pub dealt_one : (bits dealt segments : ℕ) (c d : ClockPlace) → d.pace ≡ c.pace → d.view ≡ one_of c.view → Deals bits dealt segments c → TicksAt bits 0 d
+pub dealt_one : (bits dealt segments : ℕ) (c d : ClockPlace) → d.pace ≡ c.pace → d.view ≡ one_of c.view →
+    Deals bits dealt segments c → TicksAt bits 0 d
 dealt_one bits dealt segments c d same e t = record {
   one = ap (λ (v : Pacer). v.end) e ∙ sym (ap (λ (v : Pacer). v.first + 1) e);
   made_is = ap (λ (v : Pacer). v.made) e ∙ t.made_is;
@@ -68,7 +74,8 @@ dealt_one bits dealt segments c d same e t = record {
 }
 
 -- and the other one has the rest
-pub dealt_rest : (bits dealt segments : ℕ) (c d : ClockPlace) → d.pace ≡ c.pace → d.view ≡ rest_of c.view → Deals bits dealt segments c → Deals bits (dealt + 1) segments d
+pub dealt_rest : (bits dealt segments : ℕ) (c d : ClockPlace) → d.pace ≡ c.pace → d.view ≡ rest_of c.view →
+    Deals bits dealt segments c → Deals bits (dealt + 1) segments d
 dealt_rest bits dealt segments c d same e t = record {
   first_is = ap (λ (v : Pacer). v.first) e ∙ ap (λ n. n + 1) t.first_is;
   end_is = ap (λ (v : Pacer). v.end) e ∙ t.end_is;

@@ -1,12 +1,15 @@
 -- From what a run read, answered and wrote to how it ends, and from the failure that it ends with to its status.
-use Rattle.std.proofs.Common.{◌≡◌, ◌∙◌, inl, inr, ℕ, List, Option, None, Some, Err, IfSome, ap, option_map, refl, subst, sym, take}
+use Rattle.std.proofs.Common.{◌≡◌, ◌∙◌, inl, inr, ℕ, List, Option, None, Some, Err, IfSome, ap, option_map, refl, subst}
+use Rattle.std.proofs.Common.{sym, take}
 use Rattle.std.specs.Prelude.{unwrap_or}
 use Rattle.std.proofs.lemmas.Option.{IfSome_then}
 use Rattle.std.specs.Io.KnownBytes.{Appends, Keeps}
 use Rattle.gw_fields.specs.declared.script_fault.ScriptFault.TheVariants as fault
-use Rattle.gw_fields.specs.Faults.{Fault, UnlessMemory, not_json, missing, wrong_kind, out_of_range, unknown_name, double_name, fifo_twice, too_many, wrong_version}
+use Rattle.gw_fields.specs.Faults.{Fault, UnlessMemory, not_json, missing, wrong_kind, out_of_range, unknown_name}
+use Rattle.gw_fields.specs.Faults.{double_name, fifo_twice, too_many, wrong_version}
 use Rattle.gw_fields.specs.Documents.{IsNoDocument, in_text}
-use Rattle.gw_tool.specs.Outcomes.{Answers, Begins, Ends, EndsWith, IsAnswer, IsFailureOn, IsRefusal, IsWant, input_of, status_of}
+use Rattle.gw_tool.specs.Outcomes.{Answers, Begins, Ends, EndsWith, IsAnswer, IsFailureOn, IsRefusal, IsWant, input_of}
+use Rattle.gw_tool.specs.Outcomes.{status_of}
 use Rattle.gw_command.specs.Words.{Asked, asked_of}
 use Rattle.gw_command.specs.declared.order.Order.{Order}
 use Rattle.gw_run.specs.declared.run_fault.RunFault.{RunFault}
@@ -43,17 +46,20 @@ abbrev pub IsWhole : Option (List ℕ) → List ℕ → Type 0
 IsWhole input bytes = IfSome input (λ xs. bytes ≡ xs)
 
 -- and so is what a slice shows of them
-pub shown_whole : (input : Option (List ℕ)) (bytes shown : List ℕ) → IsWhole input bytes → shown ≡ bytes → IsWhole input shown
+pub shown_whole : (input : Option (List ℕ)) (bytes shown : List ℕ) → IsWhole input bytes → shown ≡ bytes →
+    IsWhole input shown
 shown_whole input bytes shown whole is = IfSome_then input whole (λ xs read. is ∙ read)
 
 -- the text is written whole
-pub answered : (t : Task) (bytes text : List ℕ) (input old new : Option (List ℕ)) → IsWhole input bytes → IsAnswer t bytes text →
+pub answered : (t : Task) (bytes text : List ℕ) (input old new : Option (List ℕ)) → IsWhole input bytes →
+    IsAnswer t bytes text →
     Appends old new text → Answers t input old new
 answered t bytes text input old new whole answer grows =
     IfSome_then input whole (λ xs is. (text, subst (λ b. IsAnswer t b text) is answer, grows))
 
 -- or a front of it
-pub begun : (t : Task) (bytes text : List ℕ) (input old new : Option (List ℕ)) → IsWhole input bytes → IsAnswer t bytes text →
+pub begun : (t : Task) (bytes text : List ℕ) (input old new : Option (List ℕ)) → IsWhole input bytes →
+    IsAnswer t bytes text →
     ((n : ℕ) × Appends old new (take n text)) → Begins t input old new
 begun t bytes text input old new whole answer grows =
     IfSome_then input whole (λ xs is. (text, subst (λ b. IsAnswer t b text) is answer, grows))
@@ -68,28 +74,42 @@ fails_on t bytes input known failure.Read whole h = absurd h
 fails_on t bytes input known failure.Write whole h = absurd h
 
 -- the input is refused for its first fault
-refused : (t : Task) (input old new : Option (List ℕ)) (status : ℕ) (f : Fault) → status ≡ 2 → IfSome input (λ bytes. IsRefusal t bytes f) → Keeps old new →
+refused : (t : Task) (input old new : Option (List ℕ)) (status : ℕ) (f : Fault) → status ≡ 2 →
+    IfSome input (λ bytes. IsRefusal t bytes f) → Keeps old new →
     EndsWith t input old new status
 refused t input old new status f is first keeps = inr (inl (is, IfSome_then input first (λ bytes h. (f, h)), keeps))
 
-pub ends_with : (t : Task) (input old new : Option (List ℕ)) (status : ℕ) (e : Failure) → status ≡ status_of e → Ends t input old new (Err e) → EndsWith t input old new status
-ends_with t input old new status (failure.Script fault.NotJson) is h = refused t input old new status not_json is h.0 h.1
-ends_with t input old new status (failure.Script (fault.Missing name)) is h = refused t input old new status (missing name.now) is h.0 h.1
-ends_with t input old new status (failure.Script (fault.Kind name)) is h = refused t input old new status (wrong_kind name.now) is h.0 h.1
-ends_with t input old new status (failure.Script (fault.Range name)) is h = refused t input old new status (out_of_range name.now) is h.0 h.1
-ends_with t input old new status (failure.Script (fault.UnknownName name)) is h = refused t input old new status (unknown_name name.now) is h.0 h.1
-ends_with t input old new status (failure.Script (fault.DoubleName name)) is h = refused t input old new status (double_name name.now) is h.0 h.1
-ends_with t input old new status (failure.Script (fault.FifoTwice place)) is h = refused t input old new status (fifo_twice place) is h.0 h.1
-ends_with t input old new status (failure.Script (fault.TooMany name)) is h = refused t input old new status (too_many name.now) is h.0 h.1
-ends_with t input old new status (failure.Script fault.Version) is h = refused t input old new status wrong_version is h.0 h.1
+pub ends_with : (t : Task) (input old new : Option (List ℕ)) (status : ℕ) (e : Failure) → status ≡ status_of e →
+    Ends t input old new (Err e) → EndsWith t input old new status
+ends_with t input old new status (failure.Script fault.NotJson) is h =
+    refused t input old new status not_json is h.0 h.1
+ends_with t input old new status (failure.Script (fault.Missing name)) is h =
+    refused t input old new status (missing name.now) is h.0 h.1
+ends_with t input old new status (failure.Script (fault.Kind name)) is h =
+    refused t input old new status (wrong_kind name.now) is h.0 h.1
+ends_with t input old new status (failure.Script (fault.Range name)) is h =
+    refused t input old new status (out_of_range name.now) is h.0 h.1
+ends_with t input old new status (failure.Script (fault.UnknownName name)) is h =
+    refused t input old new status (unknown_name name.now) is h.0 h.1
+ends_with t input old new status (failure.Script (fault.DoubleName name)) is h =
+    refused t input old new status (double_name name.now) is h.0 h.1
+ends_with t input old new status (failure.Script (fault.FifoTwice place)) is h =
+    refused t input old new status (fifo_twice place) is h.0 h.1
+ends_with t input old new status (failure.Script (fault.TooMany name)) is h =
+    refused t input old new status (too_many name.now) is h.0 h.1
+ends_with t input old new status (failure.Script fault.Version) is h =
+    refused t input old new status wrong_version is h.0 h.1
 ends_with t input old new status (failure.Script fault.Memory) is h = inr (inr (inl (is, h.1)))
 ends_with t input old new status (failure.Run e) is h = inr (inr (inl (is, h.1)))
 ends_with t input old new status failure.Read is keeps = inr (inr (inr (is, inl keeps)))
 ends_with t input old new status failure.Write is begins = inr (inr (inr (is, inr begins)))
 
 -- and it does what was asked for with the input that was
-pub as_asked : (contents : List ℕ → Option (List ℕ)) (standard old new : Option (List ℕ)) (taken : Option Order) (order : Order) (asked : Asked) (status : ℕ) → taken ≡ Some order →
-    option_map asked_of taken ≡ Some asked → EndsWith order.task (input_of contents standard (asked_of order).1) old new status → EndsWith asked.0 (input_of contents standard asked.1) old new status
+pub as_asked : (contents : List ℕ → Option (List ℕ)) (standard old new : Option (List ℕ)) (taken : Option Order)
+    (order : Order) (asked : Asked) (status : ℕ) → taken ≡ Some order →
+    option_map asked_of taken ≡ Some asked →
+    EndsWith order.task (input_of contents standard (asked_of order).1) old new status →
+    EndsWith asked.0 (input_of contents standard asked.1) old new status
 as_asked contents standard old new taken order asked status is taken_as ends =
     let same : asked_of order ≡ asked = ap (λ o. unwrap_or o asked) (ap (option_map asked_of) (sym is) ∙ taken_as) in
     subst (λ (a : Asked). EndsWith a.0 (input_of contents standard a.1) old new status) same ends

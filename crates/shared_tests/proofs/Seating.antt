@@ -7,7 +7,8 @@ use Rattle.bx_shared.specs.Closing.{IsSideOf, routes_of, routes-stay, side-stays
 use Rattle.bx_shared.specs.Seats.{BusPlace, RoutePlace}
 use Rattle.bx_shared.specs.Sides.{SameRoute}
 
-pub sides_after : (a b : BusPlace) (xs ys : List RoutePlace) → SameMailboxes a b → length ys ≡ length xs → ((k : ℕ) (s : RoutePlace) → k < length xs → SameRoute (slice_index_or xs k s) (slice_index_or ys k s)) →
+pub sides_after : (a b : BusPlace) (xs ys : List RoutePlace) → SameMailboxes a b → length ys ≡ length xs →
+    ((k : ℕ) (s : RoutePlace) → k < length xs → SameRoute (slice_index_or xs k s) (slice_index_or ys k s)) →
     AreSides IsSideOf a xs → AreSides IsSideOf b ys
 sides_after a b xs ys same size each sides k t there =
     let less = slice_get_within ys k t there in
@@ -16,5 +17,6 @@ sides_after a b xs ys same size each sides k t there =
     let after = side-moves a k (slice_index_or xs k t) (slice_index_or ys k t) (each k t here) before in
     side-stays a b k t same (subst (λ r. IsSideOf a k r) (get_or_from_slice_get ys k t t there) after)
 
-pub all_after : (a b : BusPlace) (xs ys : List RoutePlace) → SameMailboxes a b → length ys ≡ length xs → length xs ≡ routes_of a → length ys ≡ routes_of b
+pub all_after : (a b : BusPlace) (xs ys : List RoutePlace) → SameMailboxes a b → length ys ≡ length xs →
+    length xs ≡ routes_of a → length ys ≡ routes_of b
 all_after a b xs ys same size all = size ∙ all ∙ sym (routes-stay a b same)

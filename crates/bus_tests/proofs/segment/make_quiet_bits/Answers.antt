@@ -8,5 +8,6 @@ returns g c =
     let left = left_quietly c.quiet_bits.ensures.bits in
     record {
       size = c.requires.size ∙ ap length (sym left.sending_is);
-      transmits = λ k sends p e f. c.requires.transmits k sends p (ap (λ all. slice_get all k) (sym left.sending_is) ∙ e) f;
+      transmits =
+          λ k sends p e f. c.requires.transmits k sends p (ap (λ all. slice_get all k) (sym left.sending_is) ∙ e) f;
     }

@@ -10,15 +10,19 @@ pub learn_as-requires-clause-rule : goal.learn_as-requires-clause-rule
 learn_as-requires-clause-rule g c = learns_total _ _ (ap (λ v. v.gets) c.requires.bus)
 
 pub pop_as-requires-clause-rule : goal.pop_as-requires-clause-rule
-pop_as-requires-clause-rule g c = let may = ap (λ v. v.gets) c.loop.invariant.1 in (takes_one _ _ may, learns_total _ _ may)
+pop_as-requires-clause-rule g c = let may = ap (λ v. v.gets) c.loop.invariant.1 in
+    (takes_one _ _ may, learns_total _ _ may)
 
 pub learn_as-requires-2-clause-rule : goal.learn_as-requires-2-clause-rule
 learn_as-requires-2-clause-rule g c = learns_total _ _ (ap (λ v. v.gets) c.loop.invariant.1)
 
 pub returns : goal.returns
-returns g c = let v = view c.args.pass.now in let w = view c.loop.pass in let h = c.learn_as-2.ensures.rule in let i = c.loop.invariant in let n = i.2 in
-    drained v w c.loop.posts.items h.0 i.1 h.1 (none_behind v w c.loop.posts.items h.0 c.requires.all i.3 i.1 h.1 (omega (arith, n, c.loop-test.false)))
+returns g c = let v = view c.args.pass.now in let w = view c.loop.pass in let h = c.learn_as-2.ensures.rule in let i =
+    c.loop.invariant in let n = i.2 in
+    drained v w c.loop.posts.items h.0 i.1 h.1
+        (none_behind v w c.loop.posts.items h.0 c.requires.all i.3 i.1 h.1 (omega (arith, n, c.loop-test.false)))
 
 pub returns-in_default : goal.returns-in_default
-returns-in_default g c = let v = view c.args.pass.now in let w = view c.loop.pass in let h = c.in_default.ensures.rule.1 in
+returns-in_default g c = let v = view c.args.pass.now in let w = view c.loop.pass in let h =
+    c.in_default.ensures.rule.1 in
     drained v w c.loop.posts.items h.0 c.loop.invariant.1 h.2 (nil_from_length h.0 h.1)

@@ -6,4 +6,6 @@ use Rattle.crossbeam_queue.specs.Passes.{view, IsPassOf}
 use Rattle.bx_mail.proofs.closing.drain.Given as goal
 
 abbrev pub invariant-loop : goal.invariant-loop
-invariant-loop g l = IsPassOf l.line l.pass × (view l.pass ≡ bus_log ((view l.fn.pass).got ++ l.posts.items) (view l.fn.pass).made (view l.fn.pass).known) × (length l.posts.items ≡ l.counter) × FewLeft (view l.fn.pass)
+invariant-loop g l = IsPassOf l.line l.pass
+    × (view l.pass ≡ bus_log ((view l.fn.pass).got ++ l.posts.items) (view l.fn.pass).made (view l.fn.pass).known)
+    × (length l.posts.items ≡ l.counter) × FewLeft (view l.fn.pass)

@@ -14,7 +14,9 @@ use Rattle.bx_shared.proofs.Showing.{length-snoc}
 use Rattle.bx_shared.proofs.dealing.deal.Goals as goal
 
 pub of_words-requires : goal.of_words-requires
-of_words-requires c = subst (λ (ws : List ℕ). IsKept c.args.txfp (table_start {S = Said} ws [] (first_view c.args.txfp))) (sym c.first_words.ensures) (begins c.args.txfp)
+of_words-requires c =
+    subst (λ (ws : List ℕ). IsKept c.args.txfp (table_start {S = Said} ws [] (first_view c.args.txfp)))
+    (sym c.first_words.ensures) (begins c.args.txfp)
 
 pub loop-route-preserved : goal.loop-route-preserved
 loop-route-preserved c =
@@ -24,10 +26,15 @@ loop-route-preserved c =
     let pushed = route_place c.cut-own.result.table_id c.cut-own.result.me in (
       record { same = table ∙ i.0.same; seven = i.0.seven },
       i.1,
-      c.cut-own.ensures.rest ∙ ap (λ n. bus_seat (opening_bus c.deref.result.now.shared.key) (openings n)) (omega arith) ∙ ap (λ b. bus_seat (opening_bus b) (openings (8 - (c.loop-route.route + 1)))) (ap (λ t. t.shared.key) c.deref.ensures),
+      c.cut-own.ensures.rest ∙ ap (λ n. bus_seat (opening_bus c.deref.result.now.shared.key) (openings n)) (omega arith)
+          ∙ ap (λ b. bus_seat (opening_bus b) (openings (8 - (c.loop-route.route + 1))))
+          (ap (λ t. t.shared.key) c.deref.ensures),
       (let h = ap length items in let l = length-snoc c.loop-route.seats.items pushed in let n = i.3 in omega arith),
-      subst (AreDealt c.cut-own.new.seat.table_id) (sym items) (dealt-push _ c.loop-route.seat.table_id c.loop-route.seats.items c.loop-route.route pushed i.3 i.4 table (c.cut-own.ensures.theirs ∙ sym table)
-          (ap part_of c.cut-own.ensures.one ∙ ap opening (let few = c.requires in let end = c.loop-route.auto.route-end in let on = c.loop-route-test.true in omega arith))),
+      subst (AreDealt c.cut-own.new.seat.table_id) (sym items)
+          (dealt-push _ c.loop-route.seat.table_id c.loop-route.seats.items c.loop-route.route pushed i.3 i.4 table
+          (c.cut-own.ensures.theirs ∙ sym table)
+          (ap part_of c.cut-own.ensures.one ∙ ap opening (let few = c.requires in
+                let end = c.loop-route.auto.route-end in let on = c.loop-route-test.true in omega arith))),
     )
 
 pub invariant_of-bus : goal.invariant_of-bus

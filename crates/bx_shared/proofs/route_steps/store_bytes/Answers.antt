@@ -9,10 +9,13 @@ use Rattle.bx_shared.proofs.Claiming.{stores_bytes-keep}
 use Rattle.bx_shared.proofs.route_steps.store_bytes.Goals as goal
 
 pub store-requires : goal.store-requires
-store-requires c = let h = c.args.words.now.shared in let t = h.table_id in let id = c.args.seat.now.id in let seven = c.requires.table.seven in let a = c.args in let from = c.from.ensures in let i = 2 * c.from.result + 2 in
+store-requires c = let h = c.args.words.now.shared in let t = h.table_id in let id = c.args.seat.now.id in let seven =
+    c.requires.table.seven in let a = c.args in let from = c.from.ensures in let i = 2 * c.from.result + 2 in
     let small = c.requires.fills.0 in let at = c.requires.fills.2 in (
       c.requires.table.same,
       omega arith,
-      subst (λ (m : Me Said View). Allows (IsKept h.key) t.slots id m i (λ _. a.bytes) (λ _. StoresBytes (step t.slots i a.bytes 0 none) m a.bytes)) (sym c.requires.route)
-          (stores_bytes-keep h.key t.slots id a.bytes i (part_of a.seat.now.me) (omega arith) c.requires.fills.1 c.requires.head),
+      subst (λ (m : Me Said View). Allows (IsKept h.key) t.slots id m i (λ _. a.bytes)
+          (λ _. StoresBytes (step t.slots i a.bytes 0 none) m a.bytes)) (sym c.requires.route)
+          (stores_bytes-keep h.key t.slots id a.bytes i (part_of a.seat.now.me)
+              (omega arith) c.requires.fills.1 c.requires.head),
     )

@@ -10,8 +10,10 @@ returns-then-highest-level-clause-fits c =
 
 pub returns-then-highest-level-clause-step : goal.returns-then-highest-level-clause-step
 returns-then-highest-level-clause-step c =
-    next-divide c.args.register c.args.level c.requires (sym (differ (nat_le 16384 c.args.register) c.args.level) ∙ c.if-highest-level.true)
+    next-divide c.args.register c.args.level c.requires (sym (differ (nat_le 16384 c.args.register) c.args.level)
+        ∙ c.if-highest-level.true)
 
 pub returns-else-highest-level-clause-step : goal.returns-else-highest-level-clause-step
 returns-else-highest-level-clause-step c =
-    next-keep c.args.register c.args.level c.requires (sym (differ (nat_le 16384 c.args.register) c.args.level) ∙ c.if-highest-level.false)
+    next-keep c.args.register c.args.level c.requires (sym (differ (nat_le 16384 c.args.register) c.args.level)
+        ∙ c.if-highest-level.false)

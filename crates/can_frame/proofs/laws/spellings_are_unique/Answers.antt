@@ -4,4 +4,5 @@ use Rattle.can_frame.proofs.Spellings.{one_spelling, one_frame}
 use Rattle.can_frame.proofs.laws.spellings_are_unique.Goals as goal
 
 pub returns : goal.returns
-returns c = record { check = one_crc; stuffed = one_stuffed; text = one_unstuffed; spelling = one_spelling; frame = one_frame }
+returns c =
+    record { check = one_crc; stuffed = one_stuffed; text = one_unstuffed; spelling = one_spelling; frame = one_frame }

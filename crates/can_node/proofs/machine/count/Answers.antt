@@ -5,4 +5,5 @@ pub returns-in-None : goal.returns-in-None
 returns-in-None c = counts_none c.args.counters.now c.args.event c.in-None.is
 
 pub returns-in-Some : goal.returns-in-Some
-returns-in-Some c = counts_some c.args.counters.now c.apply.new.self c.args.event c.in-Some.event c.is_off.result c.in-Some.is c.apply.ensures c.is_off.ensures.shown
+returns-in-Some c = counts_some c.args.counters.now c.apply.new.self c.args.event c.in-Some.event c.is_off.result
+    c.in-Some.is c.apply.ensures c.is_off.ensures.shown

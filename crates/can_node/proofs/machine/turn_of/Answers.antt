@@ -9,34 +9,42 @@ receiver Receiver is = refl
 receiver Sender is = absurd (cc is)
 
 pub returns-in-Syncing-clause-goes : goal.returns-in-Syncing-clause-goes
-returns-in-Syncing-clause-goes c = rw c.in-Syncing.is (λ reads_none sends_none. c.after_sync.ensures c.args.now c.args.errors)
+returns-in-Syncing-clause-goes c =
+    rw c.in-Syncing.is (λ reads_none sends_none. c.after_sync.ensures c.args.now c.args.errors)
 
 pub returns-in-Idling-clause-goes : goal.returns-in-Idling-clause-goes
 returns-in-Idling-clause-goes c = rw c.in-Idling.is (λ reads_none sends_none. c.after_idle.ensures c.args.errors)
 
 pub returns-in-Closing-clause-goes : goal.returns-in-Closing-clause-goes
-returns-in-Closing-clause-goes c = rw c.in-Closing.is (λ reads_none sends_none. c.after_closing.ensures c.args.now c.args.errors)
+returns-in-Closing-clause-goes c =
+    rw c.in-Closing.is (λ reads_none sends_none. c.after_closing.ensures c.args.now c.args.errors)
 
 pub returns-in-Flagging-clause-goes : goal.returns-in-Flagging-clause-goes
-returns-in-Flagging-clause-goes c = rw c.in-Flagging.is (λ reads_none sends_none. c.after_flag.ensures.goes c.args.now c.args.errors)
+returns-in-Flagging-clause-goes c =
+    rw c.in-Flagging.is (λ reads_none sends_none. c.after_flag.ensures.goes c.args.now c.args.errors)
 
 pub returns-in-PassiveFlagging-clause-goes : goal.returns-in-PassiveFlagging-clause-goes
-returns-in-PassiveFlagging-clause-goes c = rw c.in-PassiveFlagging.is (λ reads_none sends_none. c.after_passive_flag.ensures c.args.now c.args.errors)
+returns-in-PassiveFlagging-clause-goes c =
+    rw c.in-PassiveFlagging.is (λ reads_none sends_none. c.after_passive_flag.ensures c.args.now c.args.errors)
 
 pub returns-in-Waiting-clause-goes : goal.returns-in-Waiting-clause-goes
-returns-in-Waiting-clause-goes c = rw c.in-Waiting.is (λ reads_none sends_none. c.after_waiting.ensures.goes c.args.now c.args.errors)
+returns-in-Waiting-clause-goes c =
+    rw c.in-Waiting.is (λ reads_none sends_none. c.after_waiting.ensures.goes c.args.now c.args.errors)
 
 pub returns-in-Delimiting-clause-goes : goal.returns-in-Delimiting-clause-goes
-returns-in-Delimiting-clause-goes c = rw c.in-Delimiting.is (λ reads_none sends_none. c.after_delimiting.ensures.goes c.args.now)
+returns-in-Delimiting-clause-goes c =
+    rw c.in-Delimiting.is (λ reads_none sends_none. c.after_delimiting.ensures.goes c.args.now)
 
 pub returns-in-Resting-clause-goes : goal.returns-in-Resting-clause-goes
 returns-in-Resting-clause-goes c = rw c.in-Resting.is (λ reads_none sends_none. c.after_resting.ensures.goes)
 
 pub returns-in-Suspending-clause-goes : goal.returns-in-Suspending-clause-goes
-returns-in-Suspending-clause-goes c = rw c.in-Suspending.is (λ reads_none sends_none. c.after_suspending.ensures.goes c.args.errors)
+returns-in-Suspending-clause-goes c =
+    rw c.in-Suspending.is (λ reads_none sends_none. c.after_suspending.ensures.goes c.args.errors)
 
 pub returns-in-Recovering-clause-goes : goal.returns-in-Recovering-clause-goes
-returns-in-Recovering-clause-goes c = rw c.in-Recovering.is (λ reads_none sends_none. c.after_recovering.ensures c.args.now c.args.errors)
+returns-in-Recovering-clause-goes c =
+    rw c.in-Recovering.is (λ reads_none sends_none. c.after_recovering.ensures c.args.now c.args.errors)
 
 pub returns-in-Syncing-clause-alike : goal.returns-in-Syncing-clause-alike
 returns-in-Syncing-clause-alike c alike = rw c.in-Syncing.is (c.after_sync.ensures c.args.now)
@@ -63,7 +71,10 @@ pub returns-in-Recovering-clause-alike : goal.returns-in-Recovering-clause-alike
 returns-in-Recovering-clause-alike c alike = rw c.in-Recovering.is (c.after_recovering.ensures c.args.now)
 
 pub returns-in-Delimiting-clause-alike : goal.returns-in-Delimiting-clause-alike
-returns-in-Delimiting-clause-alike c alike = rw c.in-Delimiting.is (c.after_delimiting.ensures.alike (sym (ap (turns_alike c.args.level) c.in-Delimiting.is) ∙ alike) c.args.now)
+returns-in-Delimiting-clause-alike c alike = rw c.in-Delimiting.is
+    (c.after_delimiting.ensures.alike (sym (ap (turns_alike c.args.level) c.in-Delimiting.is) ∙ alike) c.args.now)
 
 pub returns-in-Resting-clause-alike : goal.returns-in-Resting-clause-alike
-returns-in-Resting-clause-alike c alike = rw c.in-Resting.is (c.after_resting.ensures.alike (receiver c.in-Resting.role (sym (ap (turns_alike c.args.level) c.in-Resting.is) ∙ alike)))
+returns-in-Resting-clause-alike c alike = rw c.in-Resting.is
+    (c.after_resting.ensures.alike
+    (receiver c.in-Resting.role (sym (ap (turns_alike c.args.level) c.in-Resting.is) ∙ alike)))

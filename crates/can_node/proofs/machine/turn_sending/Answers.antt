@@ -1,6 +1,6 @@
 use Rattle.std.proofs.Common.{◌++◌, ◌∷◌, [], subst}
 use Rattle.can_frame.specs.Reading.{StandsAfter}
-use Rattle.can_node.proofs.Samples.{sending_advances}
+use Rattle.can_node.proofs.Advancing.{sending_advances}
 use Rattle.can_node.proofs.machine.turn_sending.Goals as goal
 
 pub returns-then-is_taking : goal.returns-then-is_taking
@@ -8,8 +8,11 @@ returns-then-is_taking c now = record {
   turn = c.after_sending-turn.result;
   errors = c.state-errors.result;
   shows = c.state-errors.ensures.counted;
-  advances = sending_advances c.args.start c.args.place c.args.reader.now c.reader_behind.result c.args.spelling.now now c.state-errors.result c.args.level c.after_sending-turn.result c.after_sending-turn.ensures.goes
-      c.after_sending-turn.ensures.lost (λ is. subst (λ t. StandsAfter c.reader_behind.result (t ++ c.args.level ∷ [])) c.before-then-is_taking.ensures c.reader_behind.ensures);
+  advances = sending_advances c.args.start c.args.place c.args.reader.now c.reader_behind.result c.args.spelling.now now
+      c.state-errors.result c.args.level c.after_sending-turn.result c.after_sending-turn.ensures.goes
+      c.after_sending-turn.ensures.lost
+          (λ is. subst (λ t. StandsAfter c.reader_behind.result (t ++ c.args.level ∷ []))
+          c.before-then-is_taking.ensures c.reader_behind.ensures);
   is_made = c.make.ensures;
 }
 
@@ -18,7 +21,8 @@ returns c now = record {
   turn = c.after_sending-turn.result;
   errors = c.state-errors.result;
   shows = c.state-errors.ensures.counted;
-  advances = sending_advances c.args.start c.args.place c.args.reader.now c.args.reader.now c.args.spelling.now now c.state-errors.result c.args.level c.after_sending-turn.result c.after_sending-turn.ensures.goes
+  advances = sending_advances c.args.start c.args.place c.args.reader.now c.args.reader.now c.args.spelling.now now
+      c.state-errors.result c.args.level c.after_sending-turn.result c.after_sending-turn.ensures.goes
       c.after_sending-turn.ensures.lost (λ is. absurd (cc (is, c.is_taking.ensures, c.if-is_taking.false)));
   is_made = c.make-2.ensures;
 }

@@ -1,4 +1,4 @@
-use Rattle.can_node.proofs.Samples.{reading_advances}
+use Rattle.can_node.proofs.Advancing.{reading_advances}
 use Rattle.can_node.proofs.machine.turn_taking.Goals as goal
 
 pub returns : goal.returns
@@ -6,6 +6,7 @@ returns c may_begin old new spelling now push = record {
   turn = c.after_taking.result;
   errors = c.state-errors.result;
   shows = c.state-errors.ensures.counted;
-  advances = reading_advances c.args.start may_begin c.args.stage old new spelling now c.state-errors.result c.args.level c.args.step c.after_taking.result push c.after_taking.ensures.goes;
+  advances = reading_advances c.args.start may_begin c.args.stage old new spelling now c.state-errors.result
+      c.args.level c.args.step c.after_taking.result push c.after_taking.ensures.goes;
   is_made = c.make.ensures;
 }

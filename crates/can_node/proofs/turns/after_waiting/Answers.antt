@@ -2,7 +2,8 @@ use Rattle.can_node.proofs.FlagMoves.{wait_over, wait_run, wait_first, wait_on}
 use Rattle.can_node.proofs.turns.after_waiting.Goals as goal
 
 pub returns-then-level-clause-goes : goal.returns-then-level-clause-goes
-returns-then-level-clause-goes c now errors = rw (c.plain.ensures, c.if-level.true) (wait_over c.args.kind c.args.role c.args.until now c.args.first errors)
+returns-then-level-clause-goes c now errors =
+    rw (c.plain.ensures, c.if-level.true) (wait_over c.args.kind c.args.role c.args.until now c.args.first errors)
 
 pub returns-then-until-le1-clause-goes : goal.returns-then-until-le1-clause-goes
 returns-then-until-le1-clause-goes c now errors = rw (c.counted.ensures, c.if-level.false)

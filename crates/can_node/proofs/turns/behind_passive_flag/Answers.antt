@@ -1,5 +1,6 @@
 use Rattle.std.proofs.Common.{◌≡◌, ◌≤◌, Bool, true, false, refl, arith}
-use Rattle.can_node.proofs.PassiveMoves.{passive_recessive, passive_dominant, passive_ends_recessive, passive_ends_dominant}
+use Rattle.can_node.proofs.PassiveMoves.{passive_recessive, passive_dominant, passive_ends_recessive}
+use Rattle.can_node.proofs.PassiveMoves.{passive_ends_dominant}
 use Rattle.can_node.proofs.turns.behind_passive_flag.Goals as goal
 
 pub returns-then-ones-lt5-clause-goes : goal.returns-then-ones-lt5-clause-goes
@@ -11,7 +12,8 @@ returns-then-level-clause-goes c none now errors = rw c.if-level.true
     (passive_ends_recessive c.args.role c.args.owes c.args.ones c.args.zeros now errors c.if-ones-lt5.false)
 
 pub returns-then-zeros-lt5-clause-goes : goal.returns-then-zeros-lt5-clause-goes
-returns-then-zeros-lt5-clause-goes c none now errors = rw (c.if-level.false, by c.args.owes (λ is. none is c.if-level.false))
+returns-then-zeros-lt5-clause-goes c none now errors =
+    rw (c.if-level.false, by c.args.owes (λ is. none is c.if-level.false))
     (passive_dominant c.args.role c.args.ones c.args.zeros now errors c.if-zeros-lt5.true)
   where
     by : (owes : Bool) → (owes ≡ true → 5 ≤ c.args.zeros) → owes ≡ false

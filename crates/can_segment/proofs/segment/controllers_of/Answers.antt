@@ -6,6 +6,9 @@ use Rattle.can_segment.proofs.segment.controllers_of.Goals as goal
 pub loop-controller-preserved : goal.loop-controller-preserved
 loop-controller-preserved c =
     let place = c.loop-controller.controller-index in
-    subst (λ ms. FreshBelow (λ controller. controller.on) c.args.controllers.now ms (place + 1)) (sym c.in_ok-push.ensures.items)
-    (fresh_step (λ controller. controller.on) c.args.controllers.now c.loop-controller.members.items place _ c.new.result
-    (slice_get-get_or c.args.controllers.now place _ (omega (arith, c.loop-controller-test.true))) c.new.ensures c.loop-controller.invariant)
+    subst (λ ms. FreshBelow (λ controller. controller.on) c.args.controllers.now ms (place + 1))
+        (sym c.in_ok-push.ensures.items)
+    (fresh_step (λ controller. controller.on) c.args.controllers.now c.loop-controller.members.items place _
+        c.new.result
+    (slice_get-get_or c.args.controllers.now place _ (omega (arith, c.loop-controller-test.true))) c.new.ensures
+        c.loop-controller.invariant)

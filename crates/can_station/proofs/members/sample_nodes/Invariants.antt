@@ -6,6 +6,7 @@ use Rattle.can_station.proofs.members.sample_nodes.Given as goal
 
 abbrev pub invariant-loop-place : goal.invariant-loop-place
 invariant-loop-place l = record {
-  samples : AtPlacesBelow (λ k. IfAwake (NodeSamples l.first l.bit l.level l.faults k)) l.initial.members l.members l.place;
+  samples : AtPlacesBelow (λ k. IfAwake (NodeSamples l.first l.bit l.level l.faults k)) l.initial.members l.members
+      l.place;
   quiet : l.told ≡ false → AwakeQuietBelow l.bit l.members l.place;
 }

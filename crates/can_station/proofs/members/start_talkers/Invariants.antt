@@ -4,4 +4,5 @@ use Rattle.can_station.specs.RestingNodes.{IfAwake}
 use Rattle.can_station.proofs.members.start_talkers.Given as goal
 
 abbrev pub invariant-loop-place : goal.invariant-loop-place
-invariant-loop-place l = AtPlacesBelow (λ k. IfAwake (TalkerStarts l.bit l.talkers k)) l.initial.members l.members l.place
+invariant-loop-place l =
+    AtPlacesBelow (λ k. IfAwake (TalkerStarts l.bit l.talkers k)) l.initial.members l.members l.place

@@ -7,17 +7,22 @@ use Rattle.can_station.proofs.tell.tell_rests.Goals as goal
 
 pub loop-place-init : goal.loop-place-init
 loop-place-init c = record {
-  value = sym (ap (λ es. c.args.events.now.items ++ es) (told-nil rest_by c.args.bit c.args.first) ∙ append-nil c.args.events.now.items);
+  value = sym (ap (λ es. c.args.events.now.items ++ es) (told-nil rest_by c.args.bit c.args.first)
+      ∙ append-nil c.args.events.now.items);
   len = omega arith;
   capacity = omega arith;
 }
 
 pub loop-place-preserved : goal.loop-place-preserved
 loop-place-preserved c =
-    let more = lines c.args.bit (c.args.first + c.loop-place.place) (rest_by (get_or c.args.members.now c.loop-place.place c.index-members-place.result).deed) in
+    let more = lines c.args.bit (c.args.first + c.loop-place.place)
+        (rest_by (get_or c.args.members.now c.loop-place.place c.index-members-place.result).deed) in
     record {
-      value = c.tell_rest.ensures.value ∙ ap (λ es. es ++ more) c.loop-place.invariant.value ∙ append_assoc c.args.events.now.items _ more
-          ∙ ap (λ es. c.args.events.now.items ++ es) (sym (told_next rest_by c.args.bit c.args.first c.args.members.now c.loop-place.place c.index-members-place.result (omega (arith, c.loop-place-test.true))));
+      value = c.tell_rest.ensures.value ∙ ap (λ es. es ++ more) c.loop-place.invariant.value
+          ∙ append_assoc c.args.events.now.items _ more
+          ∙ ap (λ es. c.args.events.now.items ++ es)
+              (sym (told_next rest_by c.args.bit c.args.first c.args.members.now c.loop-place.place
+                c.index-members-place.result (omega (arith, c.loop-place-test.true))));
       len = omega (arith, c.tell_rest.ensures.len, c.loop-place.invariant.len);
       capacity = omega (arith, c.tell_rest.ensures.capacity, c.loop-place.invariant.capacity);
     }

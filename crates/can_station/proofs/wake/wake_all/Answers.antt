@@ -9,7 +9,10 @@ loop-place-preserved c =
     let members = c.loop-place.members in
     let place = c.loop-place.place in
     places_step (λ k a b. b ≡ woken c.args.listener.now c.args.bit a) c.args.members.now members place _ c.wake.new.self
-    (omega (arith, c.loop-place-test.true, c.loop-place.invariant.size)) (slice_get-get_or members place c.index-members-place.result (omega (arith, c.loop-place-test.true))) c.wake.ensures c.loop-place.invariant
+    (omega (arith, c.loop-place-test.true, c.loop-place.invariant.size))
+        (slice_get-get_or members place c.index-members-place.result (omega (arith, c.loop-place-test.true)))
+        c.wake.ensures c.loop-place.invariant
 
 pub returns : goal.returns
-returns c = places_end (λ k a b. b ≡ woken c.args.listener.now c.args.bit a) c.args.members.now c.loop-place.members c.loop-place.place (omega (arith, c.loop-place-test.false, c.loop-place.invariant.size)) c.loop-place.invariant
+returns c = places_end (λ k a b. b ≡ woken c.args.listener.now c.args.bit a) c.args.members.now c.loop-place.members
+    c.loop-place.place (omega (arith, c.loop-place-test.false, c.loop-place.invariant.size)) c.loop-place.invariant

@@ -4,4 +4,5 @@ use Rattle.gw_config.specs.Segments.{all_talker_names}
 use Rattle.gw_config.proofs.segment.is_talker.Given as goal
 
 abbrev pub invariant-loop-segment : goal.invariant-loop-segment
-invariant-loop-segment l = is_among l.name (all_talker_names (drop l.segment-index l.segments)) ≡ is_among l.name (all_talker_names l.segments)
+invariant-loop-segment l =
+    is_among l.name (all_talker_names (drop l.segment-index l.segments)) ≡ is_among l.name (all_talker_names l.segments)

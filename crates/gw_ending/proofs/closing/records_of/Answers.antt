@@ -9,7 +9,8 @@ pub loop-site-preserved : goal.loop-site-preserved
 loop-site-preserved c =
     let l = c.loop-site in
     let here = c.record_of.ensures in (
-      append_assoc l.yielded (c.in-Some.site ∷ []) (into_iter_items c.next.new.self) ∙ ap (λ rest. l.yielded ++ rest) (sym c.in-Some.ensures.steps.0) ∙ l.invariant.0,
+      append_assoc l.yielded (c.in-Some.site ∷ []) (into_iter_items c.next.new.self)
+          ∙ ap (λ rest. l.yielded ++ rest) (sym c.in-Some.ensures.steps.0) ∙ l.invariant.0,
       subst (Pairs (λ i. IsRecordAt) (l.yielded ++ c.in-Some.site ∷ [])) (sym c.in_ok-push_one.ensures)
           (pairs_more (λ i. IsRecordAt) l.yielded l.records.items c.in-Some.site c.record_of.result here l.invariant.1),
     )

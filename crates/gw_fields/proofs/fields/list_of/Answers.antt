@@ -7,7 +7,8 @@ use Rattle.gw_fields.specs.Fields.{list_of, items_count}
 use Rattle.gw_fields.proofs.Lists.{count-view}
 use Rattle.gw_fields.proofs.fields.list_of.Goals as goal
 
-within : (name : List ℕ) (most : ℕ) (value : Json) (items : Items) (n : ℕ) → Some items ≡ as_array value → items_count items ≡ n → n ≤ most →
+within : (name : List ℕ) (most : ℕ) (value : Json) (items : Items) (n : ℕ) → Some items ≡ as_array value →
+    items_count items ≡ n → n ≤ most →
     list_of name most value ≡ Ok items
 unfolding list_of
 within name most value items n is count le = elim (leb_tells n most) [
@@ -15,7 +16,8 @@ within name most value items n is count le = elim (leb_tells n most) [
   | inr over ↦ absurd (omega (arith, over.1, le))
 ]
 
-beyond : (name : List ℕ) (most : ℕ) (value : Json) (items : Items) (n : ℕ) → Some items ≡ as_array value → items_count items ≡ n → most < n →
+beyond : (name : List ℕ) (most : ℕ) (value : Json) (items : Items) (n : ℕ) → Some items ≡ as_array value →
+    items_count items ≡ n → most < n →
     list_of name most value ≡ Err (too_many name)
 unfolding list_of
 beyond name most value items n is count lt = elim (leb_tells n most) [

@@ -7,5 +7,7 @@ use Rattle.gw_opening.proofs.plan.line_faults_of.Goals as goal
 pub returns : goal.returns
 returns c =
     let faults = c.args.script.now.faults in
-    let all = take_all c.loop-fault.fault-index faults (omega (arith, c.loop-fault-test.false, ap length c.faults-fault-items.ensures)) in
-    c.loop-fault.invariant ∙ ap (kept_of (line_fault_in c.args.segment) []) all ∙ kept-all (line_fault_in c.args.segment) faults
+    let all = take_all c.loop-fault.fault-index faults
+        (omega (arith, c.loop-fault-test.false, ap length c.faults-fault-items.ensures)) in
+    c.loop-fault.invariant ∙ ap (kept_of (line_fault_in c.args.segment) []) all
+        ∙ kept-all (line_fault_in c.args.segment) faults

@@ -7,5 +7,6 @@ use Rattle.gw_opening.proofs.route_start.aborts_of.Goals as goal
 pub returns : goal.returns
 returns c =
     let aborts = c.args.script.now.aborts in
-    let all = take_all c.loop-abort.abort-index aborts (omega (arith, c.loop-abort-test.false, ap length c.aborts-abort-items.ensures)) in
+    let all = take_all c.loop-abort.abort-index aborts
+        (omega (arith, c.loop-abort-test.false, ap length c.aborts-abort-items.ensures)) in
     c.loop-abort.invariant ∙ ap (kept_of (abort_in c.args.route) []) all ∙ kept-all (abort_in c.args.route) aborts

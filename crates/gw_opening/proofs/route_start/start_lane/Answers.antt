@@ -7,12 +7,14 @@ pub put-requires : goal.put-requires
 put-requires g c =
     let value = some_there c.args.script.now.routes c.args.route c.requires.there in
     let lane = c.in_ok-lane.ensures.lane value.0 value.1 in
-    let there = place_there c.args.script.now c.args.sites.now value.0.source c.in_ok-lane.lane.source c.requires.sound c.requires.sites lane.lane_is.source_is in
+    let there = place_there c.args.script.now c.args.sites.now value.0.source c.in_ok-lane.lane.source c.requires.sound
+        c.requires.sites lane.lane_is.source_is in
     (there.port, there.at)
 
 pub returns-clause-sites : goal.returns-clause-sites
 returns-clause-sites g c =
-    sites_set c.args.script.now c.in_ok-lane.lane.fifo _ c.args.sites.now c.put.new.sites c.in_ok-lane.lane.source c.in-Ok.ensures.stands c.put.ensures c.requires.sites
+    sites_set c.args.script.now c.in_ok-lane.lane.fifo _ c.args.sites.now c.put.new.sites c.in_ok-lane.lane.source
+        c.in-Ok.ensures.stands c.put.ensures c.requires.sites
 
 pub returns-clause-takes : goal.returns-clause-takes
 returns-clause-takes g c =
@@ -27,7 +29,9 @@ returns-clause-takes g c =
     }
 
 pub returns-clause-others : goal.returns-clause-others
-returns-clause-others g c = λ other apart takes. takes_other c.in_ok-lane.lane.fifo _ c.args.sites.now c.put.new.sites c.in_ok-lane.lane.source other c.put.ensures apart takes
+returns-clause-others g c = λ other apart takes. takes_other c.in_ok-lane.lane.fifo _ c.args.sites.now c.put.new.sites
+    c.in_ok-lane.lane.source other c.put.ensures apart takes
 
 pub returns-clause-mails : goal.returns-clause-mails
-returns-clause-mails g c = mails_set c.in_ok-lane.lane.fifo _ c.args.sites.now c.put.new.sites c.in_ok-lane.lane.source c.put.ensures
+returns-clause-mails g c =
+    mails_set c.in_ok-lane.lane.fifo _ c.args.sites.now c.put.new.sites c.in_ok-lane.lane.source c.put.ensures

@@ -10,12 +10,14 @@ pub loop-courier-preserved : goal.loop-courier-preserved
 loop-courier-preserved g c =
     let l = c.loop-courier in
     let start = c.args.seat.now.account in (
-      walked l.yielded c.in-Some.courier (into_iter_items c.next.new.self) (into_iter_items l.courier-iterator) (into_iter_items c.into_iter-courier-iterator.result) l.invariant.0 c.in-Some.ensures.steps.0,
+      walked l.yielded c.in-Some.courier (into_iter_items c.next.new.self) (into_iter_items l.courier-iterator)
+          (into_iter_items c.into_iter-courier-iterator.result) l.invariant.0 c.in-Some.ensures.steps.0,
       l.invariant.1,
       l.invariant.2,
       l.invariant.3,
       omega (arith, l.invariant.4, length-append l.yielded (c.in-Some.courier ∷ [])),
       l.invariant.5,
       c.put.ensures.queue ∙ l.invariant.6,
-      one_place start l.seat.account c.put.new.self.account start.put l.place c.new.result c.new.ensures l.invariant.7 c.put.ensures.put,
+      one_place start l.seat.account c.put.new.self.account start.put l.place c.new.result c.new.ensures l.invariant.7
+          c.put.ensures.put,
     )

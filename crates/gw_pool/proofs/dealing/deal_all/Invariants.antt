@@ -14,4 +14,5 @@ invariant-loop-courier g l =
     × (l.place ≡ length l.yielded)
     × (0 < l.initial.seat.account.parts)
     × (l.seat.queue ≡ l.initial.seat.queue)
-    × (l.seat.account ≡ account l.initial.seat.account.parts (l.initial.seat.account.put ++ places l.place) l.initial.seat.account.taken)
+    × (l.seat.account ≡ account l.initial.seat.account.parts (l.initial.seat.account.put ++ places l.place)
+        l.initial.seat.account.taken)

@@ -10,10 +10,13 @@ loop-place-preserved c =
     let event = c.index-events-place.result in
     let left = events-left events i event c.index-events-place.is c.loop-place-test.true in
     record {
-      core = run-step c.loop-place.core c.apply_one.new.core event _ _ left c.in_ok-apply_one.ensures.core ∙ c.loop-place.invariant.core;
-      text = refused-step c.loop-place.core c.apply_one.new.core i event _ _ _ _ left c.in_ok-apply_one.ensures.core c.in_ok-apply_one.ensures.text ∙ c.loop-place.invariant.text;
+      core = run-step c.loop-place.core c.apply_one.new.core event _ _ left c.in_ok-apply_one.ensures.core
+          ∙ c.loop-place.invariant.core;
+      text = refused-step c.loop-place.core c.apply_one.new.core i event _ _ _ _ left c.in_ok-apply_one.ensures.core
+          c.in_ok-apply_one.ensures.text ∙ c.loop-place.invariant.text;
       routes = c.in_ok-apply_one.ensures.routes ∙ c.loop-place.invariant.routes;
     }
 
 pub returns-clause-text : goal.returns-clause-text
-returns-clause-text c = refused-end c.loop-place.core c.loop-place.place c.args.events.now _ _ (omega arith) c.loop-place.invariant.text
+returns-clause-text c =
+    refused-end c.loop-place.core c.loop-place.place c.args.events.now _ _ (omega arith) c.loop-place.invariant.text

@@ -5,4 +5,5 @@ use Rattle.gw_run.specs.Finals.{ClosesPort}
 use Rattle.gw_run.proofs.closing.close_ports.Given as goal
 
 abbrev pub invariant-loop-port : goal.invariant-loop-port
-invariant-loop-port l = (l.yielded ++ into_iter_items l.port-iterator ≡ into_iter_items l.initial.port-iterator) × Pairs (λ k. ClosesPort) l.yielded l.closed.items
+invariant-loop-port l = (l.yielded ++ into_iter_items l.port-iterator ≡ into_iter_items l.initial.port-iterator)
+    × Pairs (λ k. ClosesPort) l.yielded l.closed.items

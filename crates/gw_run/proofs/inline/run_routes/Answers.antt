@@ -6,6 +6,8 @@ use Rattle.gw_run.proofs.inline.run_routes.Goals as goal
 
 pub make_bits_and_turns-requires-clause-opens : goal.make_bits_and_turns-requires-clause-opens
 make_bits_and_turns-requires-clause-opens g c = record {
-  opens = subst (λ lanes. Opens c.args.script.now c.lanes_of.new.sites lanes) (sym c.as_mut_slice.ensures.value) c.in_ok-lanes.ensures.opens;
-  mails = have_mails-on IsNewMail c.args.script.now c.args.sites.now c.lanes_of.new.sites c.in_ok-lanes.ensures.mails c.requires.mails;
+  opens = subst (λ lanes. Opens c.args.script.now c.lanes_of.new.sites lanes)
+      (sym c.as_mut_slice.ensures.value) c.in_ok-lanes.ensures.opens;
+  mails = have_mails-on IsNewMail c.args.script.now c.args.sites.now c.lanes_of.new.sites c.in_ok-lanes.ensures.mails
+      c.requires.mails;
 }

@@ -8,5 +8,7 @@ pub returns-in-Ok : goal.returns-in-Ok
 returns-in-Ok c = record {
   plan_is = c.in-Ok.ensures.plan;
   opens = c.in-Ok.ensures.opens;
-  ports = subst (λ ports. Pairs (λ k. StartsPort c.args.script.now) (controller_places c.args.script.now c.args.segment) ports.items) (sym c.in-Ok.ensures.ports) c.in_ok-ports.ensures;
+  ports = subst (λ ports. Pairs (λ k. StartsPort c.args.script.now)
+      (controller_places c.args.script.now c.args.segment) ports.items)
+      (sym c.in-Ok.ensures.ports) c.in_ok-ports.ensures;
 }

@@ -9,4 +9,5 @@ loop-nth-preserved c =
     let s = c.args.script.now in
     let places = controller_places s c.args.segment in
     subst (λ ports. PairsBelow (λ k. StartsPort s) places ports (c.loop-nth.nth + 1)) (sym c.in_ok-push_one.ensures)
-    (pairs_step (λ k. StartsPort s) places c.loop-nth.ports.items c.loop-nth.nth c.controller_there-controller.result c.plain_port.result c.controller_there-controller.ensures.place c.plain_port.ensures c.loop-nth.invariant)
+    (pairs_step (λ k. StartsPort s) places c.loop-nth.ports.items c.loop-nth.nth c.controller_there-controller.result
+        c.plain_port.result c.controller_there-controller.ensures.place c.plain_port.ensures c.loop-nth.invariant)

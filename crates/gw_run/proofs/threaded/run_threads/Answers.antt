@@ -8,7 +8,8 @@ pub returns-in-Ok-clause-sum : goal.returns-in-Ok-clause-sum
 returns-in-Ok-clause-sum g c = all_balance 3 c.args.script.now c.in-Ok.report c.in-Ok.ensures.routes
 
 pub returns-in-Ok-clause-no_refill : goal.returns-in-Ok-clause-no_refill
-returns-in-Ok-clause-no_refill g c = λ place r started e starts. none_refilled 3 c.args.script.now c.in-Ok.report place r started c.in-Ok.ensures.routes e starts
+returns-in-Ok-clause-no_refill g c = λ place r started e starts. none_refilled 3 c.args.script.now c.in-Ok.report place
+    r started c.in-Ok.ensures.routes e starts
 
 pub run_over-requires-clause-priority : goal.run_over-requires-clause-priority
 run_over-requires-clause-priority g c κs within = λ controller value at. tt

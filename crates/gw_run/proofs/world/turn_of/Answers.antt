@@ -15,8 +15,10 @@ returns-clause-turns g c =
     let within : t < length sites = slice_get_within sites t c.requires.to_is.site c.requires.to_is.site_is in
     let site : Site = get_or sites t c.index-sites-place.result in
     let found : slice_get sites t ≡ Some site = slice_get-get_or sites t c.index-sites-place.result within in
-    let same : c.requires.to_is.site ≡ site = same_some c.requires.to_is.site site (sym c.requires.to_is.site_is ∙ found) in
-    let inside : q < length site.ports.items = subst (λ (s : Site). q < length s.ports.items) same (slice_get_within c.requires.to_is.site.ports.items q c.requires.to c.requires.to_is.port_is) in
+    let same : c.requires.to_is.site ≡ site =
+        same_some c.requires.to_is.site site (sym c.requires.to_is.site_is ∙ found) in
+    let inside : q < length site.ports.items = subst (λ (s : Site). q < length s.ports.items) same
+        (slice_get_within c.requires.to_is.site.ports.items q c.requires.to c.requires.to_is.port_is) in
     record {
       at = record {
         site = site;
@@ -25,7 +27,8 @@ returns-clause-turns g c =
         late = c.turn_on.new.port;
         site_is = found;
         late_site_is = get_set_same sites t _ within;
-        port_is = slice_get-get_or site.ports.items q c.index_mut.result.now inside ∙ ap Some (sym c.index_mut.ensures.value);
+        port_is =
+            slice_get-get_or site.ports.items q c.index_mut.result.now inside ∙ ap Some (sym c.index_mut.ensures.value);
         late_is = get_set_same site.ports.items q c.turn_on.new.port inside;
         other_sites = λ i ne. get_set_other sites t i _ ne;
         other_ports = λ j ne. get_set_other site.ports.items q j c.turn_on.new.port ne;
@@ -36,9 +39,12 @@ returns-clause-turns g c =
       };
       linked = c.turn_on.ensures.linked;
       log = c.turn_on.ensures.log;
-      keeps = record { source_is = refl; fifo_is = refl; target_is = refl; number_is = refl; queue_is = c.turn_on.ensures.queue; rewrites_is = c.turn_on.ensures.rewrites; plan = c.turn_on.ensures.plan };
+      keeps = record { source_is = refl; fifo_is = refl; target_is = refl; number_is = refl;
+          queue_is = c.turn_on.ensures.queue; rewrites_is = c.turn_on.ensures.rewrites; plan = c.turn_on.ensures.plan };
     }
 
 pub returns-clause-short : goal.returns-clause-short
 unfolding returns-clause-turns
-returns-clause-short g c = on_ok_weaker c.turn_on.result (λ unshort h. short_turn c.args.sites.now _ c.args.lane.now _ (returns-clause-turns g c) unshort h) c.turn_on.ensures.short
+returns-clause-short g c = on_ok_weaker c.turn_on.result
+    (λ unshort h. short_turn c.args.sites.now _ c.args.lane.now _ (returns-clause-turns g c) unshort h)
+    c.turn_on.ensures.short

@@ -22,5 +22,6 @@ loop-left-preserved c =
     record {
       room = omega arith;
       at = omega arith;
-      written = rw (c.write_pair.ensures, e) (rw (decimal_pair l.left c.loop-left-test.true (omega arith), append_assoc) at l.invariant.written);
+      written = rw (c.write_pair.ensures, e)
+          (rw (decimal_pair l.left c.loop-left-test.true (omega arith), append_assoc) at l.invariant.written);
     }

@@ -1,6 +1,7 @@
 -- Eight digits of an extended identifier, three of a standard one.
 use Rattle.std.proofs.Common.{◌≡◌, ◌/◌, ◌%◌, ◌<◌, arith, append_assoc}
-use Rattle.gw_script.proofs.Hexadecimal.{extended-text, standard-text, standard-fits, eight-digits, three-digits, PAIRS_at}
+use Rattle.gw_script.proofs.Hexadecimal.{extended-text, standard-text, standard-fits, eight-digits, three-digits}
+use Rattle.gw_script.proofs.Hexadecimal.{PAIRS_at}
 use Rattle.gw_script.proofs.frame_text.push_identifier.Goals as goal
 
 pub returns-then-is_extended-clause-items : goal.returns-then-is_extended-clause-items

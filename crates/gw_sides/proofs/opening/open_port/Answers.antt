@@ -13,11 +13,13 @@ pub returns-in-Ok-clause-opens : goal.returns-in-Ok-clause-opens
 returns-in-Ok-clause-opens g c =
     let made = c.in-Ok.ensures in
     let mail = c.port_of.ensures.mail in
-    let Set = IsNewSet g.B.TxBus.bus_after g.B.TxBus.bus_asked g.B.TxBus.transmitting g.M.Mailboxes.routes_of g.M.Mailboxes.txfp_of in
+    let Set = IsNewSet g.B.TxBus.bus_after g.B.TxBus.bus_asked g.B.TxBus.transmitting g.M.Mailboxes.routes_of
+        g.M.Mailboxes.txfp_of in
     let Side = IsNewSide g.M.Mailboxes.side_of g.S.RouteTx.route_after in
     record {
       is_new = c.port_of.ensures.new;
-      mail = λ value e. subst (Set (priority_of value) (routes_at c.args.script.now c.args.controller)) (sym mail) (record {
+      mail = λ value e. subst (Set (priority_of value) (routes_at c.args.script.now c.args.controller)) (sym mail)
+          (record {
         bus = made.bus;
         asked_none = made.asked;
         idle = made.idle;
@@ -25,11 +27,13 @@ returns-in-Ok-clause-opens g c =
         priority_is = made.priority ∙ c.priority_at-txfp.ensures value e;
       });
       seated = subst (λ m. Seated Side c.args.script.now c.args.controller m c.put_all.new.seats) (sym mail)
-          (seated g.M.Mailboxes.side_of g.S.RouteTx.route_after c.args.script.now c.args.controller _ _ c.put_all.new.seats (made.size ∙ c.routes_at.ensures.value) made.sides made.new c.put_all.ensures.holds);
+          (seated g.M.Mailboxes.side_of g.S.RouteTx.route_after c.args.script.now c.args.controller _ _
+              c.put_all.new.seats (made.size ∙ c.routes_at.ensures.value) made.sides made.new c.put_all.ensures.holds);
     }
 
 pub open-requires-clause-priority : goal.open-requires-clause-priority
 open-requires-clause-priority g c =
     let s = c.args.script.now in
     let value = some_there s.controllers c.args.controller c.requires.there in
-    subst g.M.Mailboxes.can_send_by (sym (c.priority_at-txfp.ensures value.0 value.1)) (c.requires.priority c.args.controller value.0 value.1)
+    subst g.M.Mailboxes.can_send_by (sym (c.priority_at-txfp.ensures value.0 value.1))
+        (c.requires.priority c.args.controller value.0 value.1)

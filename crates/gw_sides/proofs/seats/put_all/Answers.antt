@@ -1,4 +1,5 @@
-use Rattle.std.proofs.Common.{◌≡◌, ◌<◌, ◌+◌, ◌++◌, ◌∷◌, [], Some, length, slice_get, append_assoc, length-append, refl, sym, ap, subst, arith, ◌∙◌}
+use Rattle.std.proofs.Common.{◌≡◌, ◌<◌, ◌+◌, ◌++◌, ◌∷◌, [], Some, length, slice_get, append_assoc, length-append, refl}
+use Rattle.std.proofs.Common.{sym, ap, subst, arith, ◌∙◌}
 use Rattle.std.specs.Vec.Iter.{into_iter_items}
 use Rattle.gw_opening.specs.Openings.{routes_at}
 use Rattle.gw_sides.specs.Seats.{seat_of, HoldsAll}
@@ -21,12 +22,18 @@ loop-side-preserved g c =
     let d = c.args.controller in
     let whole = ap length l.invariant.0 in
     let rest = ap length c.in-Some.ensures.steps.0 in
-    let less : length l.yielded < routes_at s d = omega (arith, whole, rest, length-append l.yielded (into_iter_items l.side-iterator), l.invariant.2) in
-    let place : c.seat_of.result ≡ seat_of s d (length l.yielded) = c.seat_of.ensures.value ∙ ap (seat_of s d) l.invariant.1 in
-    let there : slice_get c.put.new.seats (seat_of s d (length l.yielded)) ≡ Some (Some c.in-Some.side) = ap (slice_get c.put.new.seats) (sym place) ∙ c.put.ensures.there in (
-      append_assoc l.yielded (c.in-Some.side ∷ []) (into_iter_items c.next.new.self) ∙ ap (λ rest. l.yielded ++ rest) (sym c.in-Some.ensures.steps.0) ∙ l.invariant.0,
+    let less : length l.yielded < routes_at s d =
+        omega (arith, whole, rest, length-append l.yielded (into_iter_items l.side-iterator), l.invariant.2) in
+    let place : c.seat_of.result ≡ seat_of s d (length l.yielded) =
+        c.seat_of.ensures.value ∙ ap (seat_of s d) l.invariant.1 in
+    let there : slice_get c.put.new.seats (seat_of s d (length l.yielded)) ≡ Some (Some c.in-Some.side) =
+        ap (slice_get c.put.new.seats) (sym place) ∙ c.put.ensures.there in (
+      append_assoc l.yielded (c.in-Some.side ∷ []) (into_iter_items c.next.new.self)
+          ∙ ap (λ rest. l.yielded ++ rest) (sym c.in-Some.ensures.steps.0) ∙ l.invariant.0,
       omega (arith, l.invariant.1, length-append l.yielded (c.in-Some.side ∷ [])),
       l.invariant.2,
-      holds_more s d l.yielded c.in-Some.side l.seats c.put.new.seats less there (λ k ne. c.put.ensures.others k (λ e. ne (e ∙ place))) l.invariant.3,
-      leaves_more s d (length l.yielded) c.args.seats.now l.seats c.put.new.seats less (λ k ne. c.put.ensures.others k (λ e. ne (e ∙ place))) c.put.ensures.size l.invariant.4,
+      holds_more s d l.yielded c.in-Some.side l.seats c.put.new.seats less there
+          (λ k ne. c.put.ensures.others k (λ e. ne (e ∙ place))) l.invariant.3,
+      leaves_more s d (length l.yielded) c.args.seats.now l.seats c.put.new.seats less
+          (λ k ne. c.put.ensures.others k (λ e. ne (e ∙ place))) c.put.ensures.size l.invariant.4,
     )

@@ -21,6 +21,8 @@ returns-in_err-write_output-clause-front g c =
     let begun = subst P c.as_slice.ensures.value c.in_err-write_output.ensures.front in
     on_err c.from_residual.result _ (
       length (whole_of (take i pieces)) + length (take begun.0 piece.items),
-      subst (Appends old new) (front_more (λ one. one.items) pieces i piece begun.0 c.loop-piece-test.true c.piece-item.is)
-          (appends_on old before new (whole_of (take i pieces)) (take begun.0 piece.items) c.loop-piece.invariant begun.1),
+      subst (Appends old new) (front_more (λ one. one.items) pieces i piece begun.0 c.loop-piece-test.true
+          c.piece-item.is)
+          (appends_on old before new (whole_of (take i pieces)) (take begun.0 piece.items) c.loop-piece.invariant
+              begun.1),
     )

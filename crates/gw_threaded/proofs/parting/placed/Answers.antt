@@ -6,6 +6,7 @@ use Rattle.gw_threaded.proofs.parting.placed.Goals as goal
 pub loop-one-preserved : goal.loop-one-preserved
 loop-one-preserved g c =
     let l = c.loop-one in (
-      append_assoc l.yielded (c.in-Some.one ∷ []) (into_iter_items c.next.new.self) ∙ ap (λ rest. l.yielded ++ rest) (sym c.in-Some.ensures.steps.0) ∙ l.invariant.0,
+      append_assoc l.yielded (c.in-Some.one ∷ []) (into_iter_items c.next.new.self)
+          ∙ ap (λ rest. l.yielded ++ rest) (sym c.in-Some.ensures.steps.0) ∙ l.invariant.0,
       c.in_ok-push_one.ensures ∙ map_pushed Some l.yielded c.in-Some.one l.slots.items l.invariant.1,
     )

@@ -9,7 +9,8 @@ loop-made-init g c = (
   c.requires.new.holds,
   refl,
   ap length c.requires.new.no_levels,
-  leave-self g.P.RxSink.port_stays c.args.ports.now (λ x. g.met.P.RxSink.port_of_bus x x (g.met.P.TxBus.bus_stays_self x)),
+  leave-self g.P.RxSink.port_stays c.args.ports.now
+      (λ x. g.met.P.RxSink.port_of_bus x x (g.met.P.TxBus.bus_stays_self x)),
   c.requires.clock,
   may_stay c.args.clock.now,
   omega arith,
@@ -18,23 +19,27 @@ loop-made-init g c = (
 pub tick_up-requires-clause-ticks : goal.tick_up-requires-clause-ticks
 tick_up-requires-clause-ticks g c =
     let l = c.loop-made in
-    let looked = same-on l.clock c.is_stopped.new.self c.wait_for_others.new.clock (same-self l.clock c.is_stopped.new.self c.is_stopped.ensures) c.in_ok-limit.ensures.same in
+    let looked = same-on l.clock c.is_stopped.new.self c.wait_for_others.new.clock
+        (same-self l.clock c.is_stopped.new.self c.is_stopped.ensures) c.in_ok-limit.ensures.same in
     let at = looked_on c.args.bits l.made l.clock c.wait_for_others.new.clock looked l.invariant.4 in
     subst (λ bits. TicksAt bits l.made c.wait_for_others.new.clock) (sym at.bits_is) at
 
 pub tick_up-requires-clause-go : goal.tick_up-requires-clause-go
-tick_up-requires-clause-go g c = less_far c.in-Ok.now c.in_ok-limit.limit c.wait_for_others.new.clock (omega (arith, c.in-Ok.ensures.made, c.in-Ok.ensures.most)) c.in_ok-limit.ensures.go
+tick_up-requires-clause-go g c = less_far c.in-Ok.now c.in_ok-limit.limit c.wait_for_others.new.clock
+    (omega (arith, c.in-Ok.ensures.made, c.in-Ok.ensures.most)) c.in_ok-limit.ensures.go
 
 pub loop-made-preserved : goal.loop-made-preserved
 loop-made-preserved g c =
     let l = c.loop-made in
     let was = l.invariant in
-    let looked = same-on l.clock c.is_stopped.new.self c.wait_for_others.new.clock (same-self l.clock c.is_stopped.new.self c.is_stopped.ensures) c.in_ok-limit.ensures.same in
+    let looked = same-on l.clock c.is_stopped.new.self c.wait_for_others.new.clock
+        (same-self l.clock c.is_stopped.new.self c.is_stopped.ensures) c.in_ok-limit.ensures.same in
     let at = looked_on c.args.bits l.made l.clock c.wait_for_others.new.clock looked was.4 in (
       c.in-Ok.ensures.holds,
       c.in-Ok.ensures.plan ∙ was.1,
       sym c.in-Ok.ensures.made,
-      leave-on g.P.RxSink.port_stays c.args.ports.now l.ports c.make_bits.new.ports (λ x y z. g.met.P.RxSink.port_stays_on x y z) was.3 c.in-Ok.ensures.ports,
+      leave-on g.P.RxSink.port_stays c.args.ports.now l.ports c.make_bits.new.ports
+          (λ x y z. g.met.P.RxSink.port_stays_on x y z) was.3 c.in-Ok.ensures.ports,
       subst (λ bits. TicksAt bits c.in-Ok.now c.tick_up.new.clock) at.bits_is c.tick_up.ensures.ticks,
       c.tick_up.ensures.go c.in_ok-limit.limit c.in_ok-limit.ensures.go,
       omega (arith, c.in-Ok.ensures.made, c.in-Ok.ensures.most, c.in_ok-limit.ensures.go.most, at.bits_is),

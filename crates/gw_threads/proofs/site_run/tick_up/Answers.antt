@@ -6,11 +6,14 @@ pub loop-init : goal.loop-init
 loop-init c = (refl, c.requires.ticks, λ limit may. may)
 
 pub tick-requires : goal.tick-requires
-tick-requires c = may_tick c.args.clock.now.pace.bits c.loop.counter c.args.now c.loop.clock c.loop.invariant.1 (c.loop.invariant.2 c.args.now c.requires.go) c.loop-test.true
+tick-requires c = may_tick c.args.clock.now.pace.bits c.loop.counter c.args.now c.loop.clock c.loop.invariant.1
+    (c.loop.invariant.2 c.args.now c.requires.go) c.loop-test.true
 
 pub loop-preserved : goal.loop-preserved
 loop-preserved c = (
   c.tick.ensures.same ∙ c.loop.invariant.0,
-  ticked_on c.args.clock.now.pace.bits c.loop.counter c.loop.clock c.tick.new.self c.tick.ensures.same c.tick.ensures.ticked c.loop.invariant.1,
-  λ limit may. may_go_on limit c.loop.clock c.tick.new.self c.tick.ensures.same c.tick.ensures.ticked (c.loop.invariant.2 limit may),
+  ticked_on c.args.clock.now.pace.bits c.loop.counter c.loop.clock c.tick.new.self c.tick.ensures.same
+      c.tick.ensures.ticked c.loop.invariant.1,
+  λ limit may. may_go_on limit c.loop.clock c.tick.new.self c.tick.ensures.same c.tick.ensures.ticked
+      (c.loop.invariant.2 limit may),
 )

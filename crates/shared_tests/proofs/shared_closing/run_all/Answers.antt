@@ -6,4 +6,5 @@ pub invariant_of-result-clause-all : goal.invariant_of-result-clause-all
 invariant_of-result-clause-all g c = all_after _ _ _ _ c.in_ok-bus.ensures.bus c.in_ok-bus.ensures.size c.args.seats.all
 
 pub invariant_of-result-clause-sides : goal.invariant_of-result-clause-sides
-invariant_of-result-clause-sides g c = sides_after _ _ _ _ c.in_ok-bus.ensures.bus c.in_ok-bus.ensures.size c.in_ok-bus.ensures.same c.args.seats.sides
+invariant_of-result-clause-sides g c =
+    sides_after _ _ _ _ c.in_ok-bus.ensures.bus c.in_ok-bus.ensures.size c.in_ok-bus.ensures.same c.args.seats.sides

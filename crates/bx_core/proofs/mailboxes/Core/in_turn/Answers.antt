@@ -6,4 +6,5 @@ use Rattle.bx_core.proofs.Found.{find-in_place}
 use Rattle.bx_core.proofs.mailboxes.Core.in_turn.Goals as goal
 
 pub returns-clause-in_place : goal.returns-clause-in_place
-returns-clause-in_place c = find-in_place c.args.self.now (λ (w : Waiting). is_scheduled w.status) c.in_turn.result c.keep_law.ensures.law (search rules)
+returns-clause-in_place c = find-in_place c.args.self.now (λ (w : Waiting). is_scheduled w.status) c.in_turn.result
+    c.keep_law.ensures.law (search rules)

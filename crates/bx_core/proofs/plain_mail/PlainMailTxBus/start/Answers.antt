@@ -19,10 +19,12 @@ pub returns-clause-transmits : goal.returns-clause-transmits
 returns-clause-transmits g c = starts-sends _ _ _ c.keep_law.ensures.law c.start_scheduled.ensures.core
 
 pub returns-clause-none : goal.returns-clause-none
-returns-clause-none g c = starts-none c.args.self.now.core c.start_scheduled.new.self.core _ c.start_scheduled.ensures.core
+returns-clause-none g c =
+    starts-none c.args.self.now.core c.start_scheduled.new.self.core _ c.start_scheduled.ensures.core
 
 pub returns-clause-stays : goal.returns-clause-stays
-returns-clause-stays g c = starts-keeps _ _ _ c.keep_law.ensures.law c.start_scheduled.ensures.core c.start_scheduled.ensures.short
+returns-clause-stays g c =
+    starts-keeps _ _ _ c.keep_law.ensures.law c.start_scheduled.ensures.core c.start_scheduled.ensures.short
 
 pub returns-clause-oldest : goal.returns-clause-oldest
 returns-clause-oldest g c = starts_oldest _ _ _ c.keep_law.ensures.law c.start_scheduled.ensures.core

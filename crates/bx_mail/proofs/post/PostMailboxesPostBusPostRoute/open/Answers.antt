@@ -6,4 +6,6 @@ use Rattle.bx_mail.proofs.Leaving.{if_ok-more}
 use Rattle.bx_mail.proofs.post.PostMailboxesPostBusPostRoute.open.Goals as goal
 
 pub returns-clause-bus : goal.returns-clause-bus
-returns-clause-bus g c = if_ok-more (λ made. IsNewBus c.args.routes made.0) (λ made. Runs made.0 no_bus_past) c.new.result (λ made new. new_runs c.args.routes made.0 c.requires.few new) c.new.ensures.bus
+returns-clause-bus g c = if_ok-more (λ made. IsNewBus c.args.routes made.0)
+    (λ made. Runs made.0 no_bus_past) c.new.result (λ made new. new_runs c.args.routes made.0 c.requires.few new)
+    c.new.ensures.bus

@@ -6,10 +6,14 @@ use Rattle.bx_mail.proofs.post_bus.PostBusTxBus.start.Goals as goal
 
 pub invariant_of-self : goal.invariant_of-self
 invariant_of-self g c = let i = c.self.invariant in let v = bus_view c.self.inside in
-    (i.0, i.1, (_, started-past v v c.start.new.boxes.items c.start.result refl c.start.ensures.boxes c.start.ensures.result i.2.0 i.2.1))
+    (i.0, i.1,
+        (_, started-past v v c.start.new.boxes.items c.start.result refl c.start.ensures.boxes c.start.ensures.result
+          i.2.0 i.2.1))
 
 pub returns-clause-past : goal.returns-clause-past
-returns-clause-past g c = λ past h. started-past c.args.self.now (bus_view c.self.inside) c.start.new.boxes.items c.start.result (sym c.self.view_is) c.start.ensures.boxes c.start.ensures.result past h
+returns-clause-past g c = λ past h. started-past c.args.self.now (bus_view c.self.inside) c.start.new.boxes.items
+    c.start.result (sym c.self.view_is) c.start.ensures.boxes c.start.ensures.result past h
 
 pub returns-clause-undone : goal.returns-clause-undone
-returns-clause-undone g c = λ past h. started-new c.args.self.now (bus_view c.self.inside) c.start.result (sym c.self.view_is) c.start.ensures.result past h
+returns-clause-undone g c = λ past h. started-new c.args.self.now (bus_view c.self.inside) c.start.result
+    (sym c.self.view_is) c.start.ensures.result past h

@@ -7,7 +7,8 @@ use Rattle.bx_rx.proofs.Choices.{found-none, found-best, found_number}
 use Rattle.bx_rx.proofs.banks.Banks.find.Goals as goal
 
 pub returns-in_err-number : goal.returns-in_err-number
-returns-in_err-number c = subst (IsFound c.args.self.now c.args.frame.now) (sym c.from_residual.ensures) (found-none _ _ (ap length (sym c.self.view_is) ∙ c.self.invariant) c.in_err-number.ensures)
+returns-in_err-number c = subst (IsFound c.args.self.now c.args.frame.now) (sym c.from_residual.ensures)
+    (found-none _ _ (ap length (sym c.self.view_is) ∙ c.self.invariant) c.in_err-number.ensures)
 
 pub returns : goal.returns
 returns c =
@@ -17,5 +18,7 @@ returns c =
     let number = found_number _ _ n c.in_ok-number.place c.in_ok-number.ensures in
     let all = c.self.invariant in
     let within : n < length banks = omega arith in
-    found-best _ _ n c.in_ok-number.place c.fifo-fifo.result _ (get_or banks n d) (ap length (sym c.self.view_is) ∙ all) c.in_ok-number.ensures
-    (subst (λ bs. slice_get bs n ≡ Some (get_or banks n d)) c.self.view_is (slice_get-get_or banks n d within)) c.fifo-fifo.ensures.value c.count_below.ensures.value
+    found-best _ _ n c.in_ok-number.place c.fifo-fifo.result _ (get_or banks n d)
+        (ap length (sym c.self.view_is) ∙ all) c.in_ok-number.ensures
+    (subst (λ bs. slice_get bs n ≡ Some (get_or banks n d)) c.self.view_is (slice_get-get_or banks n d within))
+        c.fifo-fifo.ensures.value c.count_below.ensures.value

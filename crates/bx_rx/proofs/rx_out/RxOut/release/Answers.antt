@@ -7,4 +7,5 @@ pub is_empty_as-requires-clause-rule : goal.is_empty_as-requires-clause-rule
 is_empty_as-requires-clause-rule g c = learns_released _ _ (ap (λ v. v.releases) c.self.invariant.2)
 
 pub pop_as-requires-clause-rule : goal.pop_as-requires-clause-rule
-pop_as-requires-clause-rule g c = let may = ap (λ v. v.releases) (c.is_empty_as.ensures.queue.1 ∙ c.self.invariant.2) in (releases_one _ _ may, learns_released _ _ may)
+pop_as-requires-clause-rule g c = let may = ap (λ v. v.releases) (c.is_empty_as.ensures.queue.1 ∙ c.self.invariant.2) in
+    (releases_one _ _ may, learns_released _ _ may)

@@ -28,5 +28,6 @@ invariant_of-self c =
       priority = ap (λ (x : BusView). x.txfp) t.bus ∙ v.priority;
       due = ap (λ (x : BusView). x.reaps) t.bus ∙ v.due;
       route = subst (λ (o : Option Item). IfSome o (λ x. x.0 < 8)) (sym after) tt;
-      tally = counts_done b (bus_of me) item c.add_done.new.self t.bus sends (c.add_done.ensures b.done (map label_of b.reaped) v.tally);
+      tally = counts_done b (bus_of me) item c.add_done.new.self t.bus sends
+          (c.add_done.ensures b.done (map label_of b.reaped) v.tally);
     }

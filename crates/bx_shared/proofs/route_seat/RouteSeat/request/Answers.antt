@@ -18,10 +18,15 @@ invariant_of-self g c =
       own = a.0.route ∙ v.own;
       small = v.small;
       idle = a.0.claims;
-      newest = ap last_number a.1.requested ∙ last_of-push 0 (part_of c.self.inside.seat.me).requested (entry c.args.number c.args.frame);
-      requested = (let n = ap length a.1.requested in let l = length-snoc (part_of c.self.inside.seat.me).requested (entry c.args.number c.args.frame) in let o = v.requested in omega arith);
+      newest = ap last_number a.1.requested ∙ last_of-push 0 (part_of c.self.inside.seat.me).requested
+          (entry c.args.number c.args.frame);
+      requested = (let n = ap length a.1.requested in
+          let l = length-snoc (part_of c.self.inside.seat.me).requested (entry c.args.number c.args.frame) in let o =
+          v.requested in omega arith);
       aborted = ap length a.0.aborted ∙ v.aborted;
-      rises = (let n = c.requires in let s = ap (λ (q : RoutePlace). last_number q.part.requested) c.self.view_is in let w = v.newest in let r = v.rises in omega arith);
+      rises = (let n = c.requires in let s = ap (λ (q : RoutePlace). last_number q.part.requested) c.self.view_is in
+          let w = v.newest in let r = v.rises in omega arith);
       most = omega arith;
-      put = a.1.last ∙ ap (λ (l : List ℕ). set l c.in-Taken.mailbox c.args.number) v.put ∙ ap (λ (k : ℕ). set c.self.inside.tops k c.args.number) (sym c.from.ensures);
+      put = a.1.last ∙ ap (λ (l : List ℕ). set l c.in-Taken.mailbox c.args.number) v.put
+          ∙ ap (λ (k : ℕ). set c.self.inside.tops k c.args.number) (sym c.from.ensures);
     }

@@ -10,4 +10,5 @@ returns c is =
     let other = c.is_in_region-2.ensures c.if-not-is_in_region-2.false in
     let items : c.as_slice.result.now ≡ c.as_slice-2.result.now =
     (slice_eq-Decides booleans_Decides c.as_slice.result.now c.as_slice-2.result.now c.eq.result c.eq.ensures).0 is in
-    stands_as c.args.self.now c.args.other.now place other (search rules) (sym c.as_slice.ensures.value ∙ items ∙ c.as_slice-2.ensures.value)
+    stands_as c.args.self.now c.args.other.now place other (search rules)
+        (sym c.as_slice.ensures.value ∙ items ∙ c.as_slice-2.ensures.value)

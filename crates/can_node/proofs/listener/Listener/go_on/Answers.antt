@@ -10,8 +10,13 @@ returns-clause-follows c followed no_take no_send =
     let unseen = c.is_unseen.ensures c.if-not-is_unseen.false in
     let goes = c.turn_of-turn.ensures.alike (sym c.turns_alike.ensures ∙ c.if-not-turns_alike.false) in
     elim c.if-is_taking.branch [
-      | then-is_taking w ↦ rw w.self-is (other_follows c.args.known c.args.self.now w.reader_after_sof-self.result c.args.bit c.args.level turn no_send goes unseen
+      | then-is_taking w ↦ rw w.self-is
+          (other_follows c.args.known c.args.self.now w.reader_after_sof-self.result c.args.bit c.args.level turn
+          no_send goes unseen
           (λ is. w.reader_after_sof-self.ensures.stands) (λ is. w.reader_after_sof-self.ensures.reading))
-      | else-is_taking w ↦ rw w.self-is (other_follows c.args.known c.args.self.now c.args.self.now.reader c.args.bit c.args.level turn no_send goes unseen
-          (λ is. absurd (cc (is, c.is_taking.ensures, w.if-is_taking.false))) (λ is. absurd (cc (is, c.is_taking.ensures, w.if-is_taking.false))))
+      | else-is_taking w ↦ rw w.self-is
+          (other_follows c.args.known c.args.self.now c.args.self.now.reader c.args.bit c.args.level turn no_send goes
+          unseen
+          (λ is. absurd (cc (is, c.is_taking.ensures, w.if-is_taking.false)))
+              (λ is. absurd (cc (is, c.is_taking.ensures, w.if-is_taking.false))))
     ]

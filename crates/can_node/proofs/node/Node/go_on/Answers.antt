@@ -10,10 +10,12 @@ returns-in-Sending c =
     goes_sending node here._start here.sent c.saturating_add.result c.args.level here.is on c.saturating_add.ensures
 
 pub returns-then-is_in_region : goal.returns-then-is_in_region
-returns-then-is_in_region c = goes_reading c.args.self.now c.args.level _ (sym c.is_in_region.ensures ∙ c.if-is_in_region.true) c.read_on.ensures
+returns-then-is_in_region c =
+    goes_reading c.args.self.now c.args.level _ (sym c.is_in_region.ensures ∙ c.if-is_in_region.true) c.read_on.ensures
 
 pub returns : goal.returns
 returns c =
     let node = c.args.self.now in
-    let plain = in_plain node c.args.level c.in_default.not-Sending (sym c.is_in_region.ensures ∙ c.if-is_in_region.false) c.requires.goes in
+    let plain = in_plain node c.args.level c.in_default.not-Sending (sym c.is_in_region.ensures
+        ∙ c.if-is_in_region.false) c.requires.goes in
     goes_plainly node c.args.level c.go_plainly.new.state plain (c.go_plainly.ensures plain)

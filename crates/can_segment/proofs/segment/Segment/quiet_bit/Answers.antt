@@ -1,4 +1,5 @@
-use Rattle.std.proofs.Common.{rules, length-append, ◌≡◌, ◌+◌, ◌<◌, ◌++◌, ◌∷◌, [], length, slice_get, refl, arith, sym, ap, subst, ◌∙◌}
+use Rattle.std.proofs.Common.{rules, length-append, ◌≡◌, ◌+◌, ◌<◌, ◌++◌, ◌∷◌, [], length, slice_get, refl, arith, sym}
+use Rattle.std.proofs.Common.{ap, subst, ◌∙◌}
 use Rattle.can_station.specs.FaultOrder.{StandsAt}
 use Rattle.can_segment.specs.QuietBits.{GrowsQuietly}
 use Rattle.can_segment.specs.Rests.{members_at}
@@ -16,8 +17,10 @@ grow_quietly-requires-clause-talker_room c k m e awake on =
     let rest = inside.rest in
     let levels = inside.made.levels.items in
     let bit = length levels in
-    talker_clocks inside.plan levels inside.made.events.items (members_at rest bit inside.talkers.items) (members_at rest bit inside.controllers.items) bit _ c.self.invariant.0.kept refl (search rules) k m
-    (found_awake rest.listener bit inside.talkers.items k m (ap (λ ms. slice_get ms k) (sym c.as_mut_slice.ensures.value) ∙ e) awake) on
+    talker_clocks inside.plan levels inside.made.events.items (members_at rest bit inside.talkers.items)
+        (members_at rest bit inside.controllers.items) bit _ c.self.invariant.0.kept refl (search rules) k m
+    (found_awake rest.listener bit inside.talkers.items k m
+        (ap (λ ms. slice_get ms k) (sym c.as_mut_slice.ensures.value) ∙ e) awake) on
 
 pub grow_quietly-requires-clause-room : goal.grow_quietly-requires-clause-room
 grow_quietly-requires-clause-room c k m e awake on =
@@ -25,17 +28,23 @@ grow_quietly-requires-clause-room c k m e awake on =
     let rest = inside.rest in
     let levels = inside.made.levels.items in
     let bit = length levels in
-    controller_clocks inside.plan levels inside.made.events.items (members_at rest bit inside.talkers.items) (members_at rest bit inside.controllers.items) bit _ c.self.invariant.0.kept refl (search rules) k m
-    (found_awake rest.listener bit inside.controllers.items k m (ap (λ ms. slice_get ms k) (sym c.as_mut_slice-2.ensures.value) ∙ e) awake) on
+    controller_clocks inside.plan levels inside.made.events.items (members_at rest bit inside.talkers.items)
+        (members_at rest bit inside.controllers.items) bit _ c.self.invariant.0.kept refl (search rules) k m
+    (found_awake rest.listener bit inside.controllers.items k m
+        (ap (λ ms. slice_get ms k) (sym c.as_mut_slice-2.ensures.value) ∙ e) awake) on
 
 pub invariant_of-self : goal.invariant_of-self
 invariant_of-self c =
     let inside = c.self.inside in
     let none = c.grow_quietly.ensures.none (search rules) in
-    let talkers = put_back inside.talkers.len c.grow_quietly.new.talkers inside.talkers.items (omega (arith, c.as_mut_slice.ensures.len, ap length c.as_mut_slice.ensures.value, ap length none.2)) (omega (arith, ap length c.as_mut_slice.ensures.value, ap length none.2))
+    let talkers = put_back inside.talkers.len c.grow_quietly.new.talkers inside.talkers.items
+        (omega (arith, c.as_mut_slice.ensures.len, ap length c.as_mut_slice.ensures.value, ap length none.2))
+        (omega (arith, ap length c.as_mut_slice.ensures.value, ap length none.2))
     ∙ none.2 ∙ c.as_mut_slice.ensures.value in
     let controllers =
-    put_back inside.controllers.len c.grow_quietly.new.controllers inside.controllers.items (omega (arith, c.as_mut_slice-2.ensures.len, ap length c.as_mut_slice-2.ensures.value, ap length none.3)) (omega (arith, ap length c.as_mut_slice-2.ensures.value, ap length none.3))
+    put_back inside.controllers.len c.grow_quietly.new.controllers inside.controllers.items
+        (omega (arith, c.as_mut_slice-2.ensures.len, ap length c.as_mut_slice-2.ensures.value, ap length none.3))
+        (omega (arith, ap length c.as_mut_slice-2.ensures.value, ap length none.3))
     ∙ none.3 ∙ c.as_mut_slice-2.ensures.value in
     rw (talkers, controllers, none.0, none.1) c.self.invariant
 
@@ -47,20 +56,30 @@ invariant_of-self-2 c =
     let bit = length inside.made.levels.items in
     let next = length c.grow_quietly.new.made.levels.items in
     let told = c.grow_quietly.ensures.quiet (search rules) in
-    let grown = subst (λ ms. GrowsQuietly inside.faults inside.made c.grow_quietly.new.made rest new inside.talkers.items c.grow_quietly.new.talkers ms c.grow_quietly.new.controllers) c.as_mut_slice-2.ensures.value
-    (subst (λ ms. GrowsQuietly inside.faults inside.made c.grow_quietly.new.made rest new ms c.grow_quietly.new.talkers c.as_mut_slice-2.result.now c.grow_quietly.new.controllers) c.as_mut_slice.ensures.value told) in
+    let grown = subst (λ ms. GrowsQuietly inside.faults inside.made c.grow_quietly.new.made rest new
+        inside.talkers.items c.grow_quietly.new.talkers ms c.grow_quietly.new.controllers)
+        c.as_mut_slice-2.ensures.value
+    (subst (λ ms. GrowsQuietly inside.faults inside.made c.grow_quietly.new.made rest new ms c.grow_quietly.new.talkers
+          c.as_mut_slice-2.result.now c.grow_quietly.new.controllers) c.as_mut_slice.ensures.value told) in
     let t_size = grown.sends.talkers.size in
     let c_size = grown.sends.controllers.size in
-    let controllers = put_back inside.controllers.len c.grow_quietly.new.controllers inside.controllers.items (omega (arith, c.as_mut_slice-2.ensures.len, ap length c.as_mut_slice-2.ensures.value, c_size)) (sym c_size) in
-    let talkers = put_back inside.talkers.len c.grow_quietly.new.talkers inside.talkers.items (omega (arith, c.as_mut_slice.ensures.len, ap length c.as_mut_slice.ensures.value, t_size)) (sym t_size) in
+    let controllers = put_back inside.controllers.len c.grow_quietly.new.controllers inside.controllers.items
+        (omega (arith, c.as_mut_slice-2.ensures.len, ap length c.as_mut_slice-2.ensures.value, c_size)) (sym c_size) in
+    let talkers = put_back inside.talkers.len c.grow_quietly.new.talkers inside.talkers.items
+        (omega (arith, c.as_mut_slice.ensures.len, ap length c.as_mut_slice.ensures.value, t_size)) (sym t_size) in
     let held = c.self.invariant in
     let still : bit < inside.plan.bits = search rules in
-    let holds = grown_holds inside.plan inside.faults inside.made c.grow_quietly.new.made rest new inside.talkers.items c.grow_quietly.new.talkers inside.controllers.items c.grow_quietly.new.controllers grown held.0 still held.1 held.2 in
-    let rests = grown_rests inside.plan inside.faults inside.made c.grow_quietly.new.made rest new inside.talkers.items c.grow_quietly.new.talkers inside.controllers.items c.grow_quietly.new.controllers grown held.2 in
+    let holds = grown_holds inside.plan inside.faults inside.made c.grow_quietly.new.made rest new inside.talkers.items
+        c.grow_quietly.new.talkers inside.controllers.items c.grow_quietly.new.controllers grown held.0 still held.1
+        held.2 in
+    let rests = grown_rests inside.plan inside.faults inside.made c.grow_quietly.new.made rest new inside.talkers.items
+        c.grow_quietly.new.talkers inside.controllers.items c.grow_quietly.new.controllers grown held.2 in
     let here : c.len-made.result ≡ bit = search rules in
-    let longer : c.len-made.result + 1 ≡ next = omega (arith, here, ap length grown.levels_is, length-append inside.made.levels.items (grown.level ∷ [])) in
+    let longer : c.len-made.result + 1 ≡ next =
+        omega (arith, here, ap length grown.levels_is, length-append inside.made.levels.items (grown.level ∷ [])) in
     let stood = subst (λ n. StandsAt inside.plan n inside.faults) (sym here) held.1 in
-    (rw (talkers, controllers) holds, subst (λ n. StandsAt inside.plan n c.pass.new.self) longer (c.pass.ensures.stands inside.plan stood), rw (talkers, controllers) rests)
+    (rw (talkers, controllers) holds, subst (λ n. StandsAt inside.plan n c.pass.new.self) longer
+        (c.pass.ensures.stands inside.plan stood), rw (talkers, controllers) rests)
 
 pub returns-clause-made : goal.returns-clause-made
 returns-clause-made c was_made =
@@ -70,11 +89,16 @@ returns-clause-made c was_made =
     let bit = length inside.made.levels.items in
     let next = length c.grow_quietly.new.made.levels.items in
     let told = c.grow_quietly.ensures.quiet (search rules) in
-    let grown = subst (λ ms. GrowsQuietly inside.faults inside.made c.grow_quietly.new.made rest new inside.talkers.items c.grow_quietly.new.talkers ms c.grow_quietly.new.controllers) c.as_mut_slice-2.ensures.value
-    (subst (λ ms. GrowsQuietly inside.faults inside.made c.grow_quietly.new.made rest new ms c.grow_quietly.new.talkers c.as_mut_slice-2.result.now c.grow_quietly.new.controllers) c.as_mut_slice.ensures.value told) in
+    let grown = subst (λ ms. GrowsQuietly inside.faults inside.made c.grow_quietly.new.made rest new
+        inside.talkers.items c.grow_quietly.new.talkers ms c.grow_quietly.new.controllers)
+        c.as_mut_slice-2.ensures.value
+    (subst (λ ms. GrowsQuietly inside.faults inside.made c.grow_quietly.new.made rest new ms c.grow_quietly.new.talkers
+          c.as_mut_slice-2.result.now c.grow_quietly.new.controllers) c.as_mut_slice.ensures.value told) in
     let c_size = grown.sends.controllers.size in
-    let controllers = put_back inside.controllers.len c.grow_quietly.new.controllers inside.controllers.items (omega (arith, c.as_mut_slice-2.ensures.len, ap length c.as_mut_slice-2.ensures.value, c_size)) (sym c_size) in
-    let longer : next ≡ bit + 1 = ap length grown.levels_is ∙ length-append inside.made.levels.items (grown.level ∷ []) in
+    let controllers = put_back inside.controllers.len c.grow_quietly.new.controllers inside.controllers.items
+        (omega (arith, c.as_mut_slice-2.ensures.len, ap length c.as_mut_slice-2.ensures.value, c_size)) (sym c_size) in
+    let longer : next ≡ bit + 1 =
+        ap length grown.levels_is ∙ length-append inside.made.levels.items (grown.level ∷ []) in
     let rests = c.self.invariant.2 in
     record {
       level = grown.level;
@@ -82,8 +106,13 @@ returns-clause-made c was_made =
       levels_is = grown.levels_is ∙ ap (λ s. s.levels ++ grown.level ∷ []) c.self.view_is;
       events_is = ap (λ v. v.items) grown.events_is ∙ ap (λ s. s.events) c.self.view_is;
       counters_is = ap (λ v. v.items) grown.counters_is ∙ ap (λ s. s.counters) c.self.view_is;
-      sending_is = ap (λ ms. sending_of_all (members_at new next ms)) controllers ∙ ap (λ n. sending_of_all (members_at new n c.grow_quietly.new.controllers)) longer
-          ∙ sending_alone inside.plan.talkers.items bit grown.level rest new inside.talkers.items c.grow_quietly.new.talkers inside.controllers.items c.grow_quietly.new.controllers grown.sends rests ∙ ap (λ s. s.sending) c.self.view_is;
+      sending_is = ap (λ ms. sending_of_all (members_at new next ms)) controllers
+          ∙ ap (λ n. sending_of_all (members_at new n c.grow_quietly.new.controllers)) longer
+          ∙ sending_alone inside.plan.talkers.items bit grown.level rest new inside.talkers.items
+              c.grow_quietly.new.talkers inside.controllers.items c.grow_quietly.new.controllers grown.sends rests
+          ∙ ap (λ s. s.sending) c.self.view_is;
       none_wants = λ k. ap (λ s. wants_next s k) (sym c.self.view_is)
-          ∙ none_wanted bit (members_at rest bit inside.controllers.items) (wishes_alone inside.plan.talkers.items bit grown.level rest new inside.talkers.items c.grow_quietly.new.talkers inside.controllers.items c.grow_quietly.new.controllers grown.sends rests) k;
+          ∙ none_wanted bit (members_at rest bit inside.controllers.items)
+              (wishes_alone inside.plan.talkers.items bit grown.level rest new inside.talkers.items
+              c.grow_quietly.new.talkers inside.controllers.items c.grow_quietly.new.controllers grown.sends rests) k;
     }

@@ -10,7 +10,8 @@ loop-init c =
 
 pub loop-preserved : goal.loop-preserved
 loop-preserved c =
-    quiet_more c.args.self.now c.loop.self c.quiet_bit.new.self c.loop.counter (c.quiet_bit.ensures.made (search rules)) (c.quiet_bit.ensures.still (search rules)) c.loop.invariant
+    quiet_more c.args.self.now c.loop.self c.quiet_bit.new.self c.loop.counter (c.quiet_bit.ensures.made (search rules))
+        (c.quiet_bit.ensures.still (search rules)) c.loop.invariant
 
 pub returns-clause-copies : goal.returns-clause-copies
 returns-clause-copies c = copies _ _ _

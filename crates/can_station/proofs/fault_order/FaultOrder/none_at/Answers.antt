@@ -9,8 +9,11 @@ returns c before plan stands =
     let next = c.args.self.now.next_bit in
     let less : bit < next = search rules in
     let no_line = none_here (λ fault. fault.bit) bit next plan.line_faults.items _ less stands.line stands.next.line in
-    let no_node = none_here (λ fault. fault.bit) bit next plan.node_faults.items _ less stands.nodes stands.next.nodes in
+    let no_node =
+        none_here (λ fault. fault.bit) bit next plan.node_faults.items _ less stands.nodes stands.next.nodes in
     record {
-      line = λ driven. sym (line_level_at plan.line_faults.items bit driven) ∙ ap (λ faults. line_level faults bit driven) no_line;
-      nodes = λ node level. sym (sampled_level_at plan.node_faults.items node bit level) ∙ ap (λ faults. sampled_level faults node bit level) no_node;
+      line = λ driven. sym (line_level_at plan.line_faults.items bit driven)
+          ∙ ap (λ faults. line_level faults bit driven) no_line;
+      nodes = λ node level. sym (sampled_level_at plan.node_faults.items node bit level)
+          ∙ ap (λ faults. sampled_level faults node bit level) no_node;
     }

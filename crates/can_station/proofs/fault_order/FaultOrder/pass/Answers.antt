@@ -7,6 +7,8 @@ returns-then-bit-self-clause-stands c plan stands =
     record {
       within = stands.within;
       next = stands.next;
-      line = ahead_of_next (λ fault. fault.bit) c.args.bit next plan.line_faults.items _ c.if-bit-self.true stands.line stands.next.line;
-      nodes = ahead_of_next (λ fault. fault.bit) c.args.bit next plan.node_faults.items _ c.if-bit-self.true stands.nodes stands.next.nodes;
+      line = ahead_of_next (λ fault. fault.bit) c.args.bit next plan.line_faults.items _ c.if-bit-self.true stands.line
+          stands.next.line;
+      nodes = ahead_of_next (λ fault. fault.bit) c.args.bit next plan.node_faults.items _ c.if-bit-self.true
+          stands.nodes stands.next.nodes;
     }

@@ -7,7 +7,8 @@ use Rattle.gw_route.proofs.Turns.{turned-matches, turned-logs}
 use Rattle.gw_route.proofs.route_hand.RouteHand.turn.Goals as goal
 
 pub returns-clause-keeps : goal.returns-clause-keeps
-returns-clause-keeps g c past next made l = turned-matches _ _ past next _ made (matches-counted (hand_value c.args.self.now) past l)
+returns-clause-keeps g c past next made l =
+    turned-matches _ _ past next _ made (matches-counted (hand_value c.args.self.now) past l)
 
 pub returns-clause-log : goal.returns-clause-log
 returns-clause-log g c logs =
@@ -17,7 +18,8 @@ returns-clause-log g c logs =
     let aborted = c.reserve-2.ensures.items in
     let value = c.count.ensures.value in
     let same : hand_value c.count.new.self ≡ counted old = cc in
-    let made = c.act.ensures.turned t.0 t.1 (subst (λ (v : HandValue). LogMatches v t.0) (sym same) (matches-counted old t.0 t.2)) in
+    let made = c.act.ensures.turned t.0 t.1
+        (subst (λ (v : HandValue). LogMatches v t.0) (sym same) (matches-counted old t.0 t.2)) in
     turned-logs _ _ _ _ _ made.2 (subst LogsReleased (sym same) logs)
 
 pub returns-clause-linked : goal.returns-clause-linked
@@ -39,8 +41,10 @@ returns-clause-counted g c =
     let aborted = c.reserve-2.ensures.items in
     let value = c.count.ensures.value in
     let same : hand_value c.count.new.self ≡ counted old = cc in
-    turn_counts (g.T.RouteTx.route_after c.args.tx.now) (g.T.RouteTx.route_after c.act.new.tx) old (hand_value c.act.new.self) c.act.result c.requires.linked
-    (subst (λ v. Acted (g.T.RouteTx.route_after c.args.tx.now) (g.T.RouteTx.route_after c.act.new.tx) v (hand_value c.act.new.self) c.act.result) same c.act.ensures.turned)
+    turn_counts (g.T.RouteTx.route_after c.args.tx.now) (g.T.RouteTx.route_after c.act.new.tx) old
+        (hand_value c.act.new.self) c.act.result c.requires.linked
+    (subst (λ v. Acted (g.T.RouteTx.route_after c.args.tx.now) (g.T.RouteTx.route_after c.act.new.tx) v
+          (hand_value c.act.new.self) c.act.result) same c.act.ensures.turned)
 
 pub returns-clause-plan : goal.returns-clause-plan
 returns-clause-plan g c planned p =
@@ -49,5 +53,7 @@ returns-clause-plan g c planned p =
     let aborted = c.reserve-2.ensures.items in
     let value = c.count.ensures.value in
     let same : hand_value c.count.new.self ≡ counted old = cc in
-    turn_keeps planned (g.T.RouteTx.route_after c.args.tx.now) (g.T.RouteTx.route_after c.act.new.tx) old (hand_value c.act.new.self) c.act.result c.requires.linked
-    (subst (λ v. Acted (g.T.RouteTx.route_after c.args.tx.now) (g.T.RouteTx.route_after c.act.new.tx) v (hand_value c.act.new.self) c.act.result) same c.act.ensures.turned) p
+    turn_keeps planned (g.T.RouteTx.route_after c.args.tx.now) (g.T.RouteTx.route_after c.act.new.tx) old
+        (hand_value c.act.new.self) c.act.result c.requires.linked
+    (subst (λ v. Acted (g.T.RouteTx.route_after c.args.tx.now) (g.T.RouteTx.route_after c.act.new.tx) v
+          (hand_value c.act.new.self) c.act.result) same c.act.ensures.turned) p
