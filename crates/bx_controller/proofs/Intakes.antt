@@ -42,17 +42,17 @@ pub stores : (old new : Intake) (x : RxFrame) (offered : List FrameValue) → ne
     IntakeStands old offered → IntakeStands new (offered ++ x.frame ∷ [])
 stores old new x offered a o is h = let s : new.rxin.stored ≡ old.rxin.stored ++ x ∷ [] =
     ap (λ (r : Inlet). r.stored) is in record {
-  asked = ap (λ (r : Inlet). length r.calls) is
-      ∙ omega (arith, h.asked, length-append old.rxin.calls (Some x ∷ []), length-append offered (x.frame ∷ []));
-  overrun_is = o ∙ h.overrun_is ∙ sym (ap (λ (r : Inlet). discards_in r.calls) is ∙ stored_once old.rxin.calls x);
-  accepted_is = omega (arith, a, h.accepted_is, length-append offered (x.frame ∷ []));
-  stored_is = subst (λ n. LeavesOut (offered ++ x.frame ∷ []) (frames_of new.rxin.stored) n) (sym o)
-      (subst (λ ys. LeavesOut (offered ++ x.frame ∷ []) ys old.overrun)
+      asked = ap (λ (r : Inlet). length r.calls) is
+          ∙ omega (arith, h.asked, length-append old.rxin.calls (Some x ∷ []), length-append offered (x.frame ∷ []));
+      overrun_is = o ∙ h.overrun_is ∙ sym (ap (λ (r : Inlet). discards_in r.calls) is ∙ stored_once old.rxin.calls x);
+      accepted_is = omega (arith, a, h.accepted_is, length-append offered (x.frame ∷ []));
+      stored_is = subst (λ n. LeavesOut (offered ++ x.frame ∷ []) (frames_of new.rxin.stored) n) (sym o)
+          (subst (λ ys. LeavesOut (offered ++ x.frame ∷ []) ys old.overrun)
           (sym (ap frames_of s ∙ map-append (λ (y : RxFrame). y.frame) old.rxin.stored (x ∷ [])))
           (keeps x.frame h.stored_is));
-  full = λ ne. (let before = h.full (λ e. ne (o ∙ e)) in
-      omega (arith, before, ap length s, length-append old.rxin.stored (x ∷ [])));
-}
+      full = λ ne. (let before = h.full (λ e. ne (o ∙ e)) in
+          omega (arith, before, ap length s, length-append old.rxin.stored (x ∷ [])));
+    }
 
 three_of : (stored : List RxFrame) → ((items : List RxFrame) × (length items ≡ 3) × AreLastOf stored items) →
     3 ≤ length stored
@@ -64,15 +64,16 @@ pub discards : (old new : Intake) (x : FrameValue) (offered : List FrameValue) �
     IntakeStands new (offered ++ x ∷ [])
 discards old new x offered a o is held h = let s : new.rxin.stored ≡ old.rxin.stored =
     ap (λ (r : Inlet). r.stored) is in record {
-  asked = ap (λ (r : Inlet). length r.calls) is
-      ∙ omega (arith, h.asked, length-append old.rxin.calls (None ∷ []), length-append offered (x ∷ []));
-  overrun_is =
-      omega (arith, o, h.overrun_is, ap (λ (r : Inlet). discards_in r.calls) is, discarded_once old.rxin.calls);
-  accepted_is = omega (arith, a, h.accepted_is, length-append offered (x ∷ []));
-  stored_is = subst (λ n. LeavesOut (offered ++ x ∷ []) (frames_of new.rxin.stored) n) (sym o)
-      (subst (λ ys. LeavesOut (offered ++ x ∷ []) ys (old.overrun + 1)) (sym (ap frames_of s)) (drops x h.stored_is));
-  full = λ ne. omega (arith, three_of old.rxin.stored held, ap length s);
-}
+      asked = ap (λ (r : Inlet). length r.calls) is
+          ∙ omega (arith, h.asked, length-append old.rxin.calls (None ∷ []), length-append offered (x ∷ []));
+      overrun_is =
+          omega (arith, o, h.overrun_is, ap (λ (r : Inlet). discards_in r.calls) is, discarded_once old.rxin.calls);
+      accepted_is = omega (arith, a, h.accepted_is, length-append offered (x ∷ []));
+      stored_is = subst (λ n. LeavesOut (offered ++ x ∷ []) (frames_of new.rxin.stored) n) (sym o)
+          (subst (λ ys. LeavesOut (offered ++ x ∷ []) ys (old.overrun + 1)) (sym (ap frames_of s))
+          (drops x h.stored_is));
+      full = λ ne. omega (arith, three_of old.rxin.stored held, ap length s);
+    }
 
 pub few_discarded : (intake : Intake) (offered : List FrameValue) → IntakeStands intake offered →
     intake.overrun ≤ length offered

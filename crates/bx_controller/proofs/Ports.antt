@@ -26,8 +26,12 @@ pub passes_by : (banks : List BankValue) (fifo : ℕ) (slot : Option Intake) (ta
     IsFound banks frame found → fifo_of found ≢ Some fifo → SlotStands banks fifo slot taken →
     SlotStands banks fifo slot (taken ++ frame ∷ [])
 passes_by banks fifo None taken frame found is other h = tt
-passes_by banks fifo (Some intake) taken frame found is other h = record { offered = h.offered;
-    goes = elsewhere frame found is other h.goes; stands = h.stands; numbered = h.numbered }
+passes_by banks fifo (Some intake) taken frame found is other h = record {
+  offered = h.offered;
+  goes = elsewhere frame found is other h.goes;
+  stands = h.stands;
+  numbered = h.numbered;
+}
 
 -- or to this one
 pub comes_in : (banks : List BankValue) (fifo : ℕ) (old new : Option Intake) (taken : List FrameValue) (x : RxFrame) →

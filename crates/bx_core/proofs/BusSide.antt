@@ -51,8 +51,8 @@ starts-idle s t (Some x) l h =
     let a = scheduled_alone s w l h.1 in
     let may = and_parts (is_scheduled w.status) (not w.abort_asked) (was_started s t w a.at h.3).0 in
     ap item_in a.split.whole
-        ∙ ap (option_map item_of) (bus-idle a.split.before a.split.behind w a.before a.behind
-        (scheduled_idle w.status may.0))
+    ∙ ap (option_map item_of) (bus-idle a.split.before a.split.behind w a.before a.behind
+    (scheduled_idle w.status may.0))
 
 pub starts-sends : (s t : State) (x : Option Item) → Law s → Starts s x t → IfSome x (λ y. sending t ≡ Some y)
 starts-sends s t None l h = tt
@@ -62,7 +62,7 @@ starts-sends s t (Some x) l h =
     let a = scheduled_alone s w l h.1 in
     let m = was_started s t w a.at h.3 in
     ap sending (sym m.1) ∙ ap item_in (a.split.set y)
-        ∙ ap (option_map item_of) (bus-there a.split.before a.split.behind y a.before refl) ∙ ap Some (sym h.2)
+    ∙ ap (option_map item_of) (bus-there a.split.before a.split.behind y a.before refl) ∙ ap Some (sym h.2)
 
 pub starts-none : (s t : State) (x : Option Item) → Starts s x t → IfNone x (sending t ≡ sending s)
 starts-none s t None h = ap sending h.1
@@ -145,10 +145,12 @@ failed_reaped s u t w a f g =
     let n = was_reaped u t x there.0 g in
     let rest : remove s.queue (at_of s w) ≡ remove (set s.queue (at_of s w) x) (at_of s w) =
     a.split.rest ∙ sym (ap (λ (q : List Waiting). remove q (at_of s w)) (a.split.set x)
-        ∙ ap (remove (a.split.before ++ x ∷ a.split.behind)) a.split.place
-        ∙ remove-here a.split.before a.split.behind x) in
-    ap (λ (q : List Waiting). record s { queue = q;
-          routes = set s.routes w.route (reaped_lists (lists_of s w.route) w) }) rest
+    ∙ ap (remove (a.split.before ++ x ∷ a.split.behind)) a.split.place
+    ∙ remove-here a.split.before a.split.behind x) in
+    ap (λ (q : List Waiting). record s {
+      queue = q;
+      routes = set s.routes w.route (reaped_lists (lists_of s w.route) w);
+    }) rest
     ∙ ap (λ (v : State). without v (at_of s w) w.route (reaped_lists (lists_of v w.route) x)) m.1
     ∙ ap (λ (k : ℕ). without u k w.route (reaped_lists (lists_of u w.route) x)) (sym there.1) ∙ n.1
 
@@ -161,13 +163,13 @@ fails-bus s t None past l h b =
     let k = mark-bus s (at_of s w) (record w { status = Scheduled }) past b in
     subst (λ (v : State). BusStands v (after_fail past None)) m.1
     (subst (BusStands (with_waiting s (at_of s w) (record w { status = Scheduled })))
-        (ap (λ (xs : List (ℕ × ℕ)). record past { reaped = xs }) (sym (append-nil past.reaped))) k)
+    (ap (λ (xs : List (ℕ × ℕ)). record past { reaped = xs }) (sym (append-nil past.reaped))) k)
 fails-bus s t (Some x) past l h b =
     let w = h.0 in
     let a = sent_alone s w l h.2 in
     subst (λ (y : ℕ × ℕ). BusStands t (after_fail past (Some y))) (sym h.4)
     (subst (λ (v : State). BusStands v (after_fail past (Some (w.route, w.number)))) (failed_reaped s h.1 t w a h.5 h.6)
-        (reaped-bus s w past a.split l b))
+    (reaped-bus s w past a.split l b))
 
 pub fails-reaped : (s t : State) (x : Option (ℕ × ℕ)) → Fails s x t →
     IfSome x (λ y. option_map label_of (sending s) ≡ Some y)
@@ -181,12 +183,12 @@ fails-idle s t None l h =
     let a = sent_alone s w l h.1 in
     let m = was_failed s t w a.at h.3 in
     ap sending (sym m.1) ∙ ap item_in (a.split.set y)
-        ∙ ap (option_map item_of) (bus-idle a.split.before a.split.behind y a.before a.behind refl)
+    ∙ ap (option_map item_of) (bus-idle a.split.before a.split.behind y a.before a.behind refl)
 fails-idle s t (Some x) l h =
     let w = h.0 in
     let a = sent_alone s w l h.2 in
     ap sending (sym (failed_reaped s h.1 t w a h.5 h.6))
-        ∙ idle_without s w w.route (reaped_lists (lists_of s w.route) w) a
+    ∙ idle_without s w w.route (reaped_lists (lists_of s w.route) w) a
 
 asked_head : (P : ℕ → Type 0) (w : Waiting) (ws : List Waiting) → w.abort_asked ≡ true →
     Each P (asked_of w.route (w ∷ ws)) → P w.number
@@ -194,7 +196,7 @@ asked_head P w ws asked a =
     let is : (w.route == w.route) ≡ true = eq-eqb w.route w.route refl in
     let asks : ((w.route == w.route) && w.abort_asked) ≡ true = rw (is, asked) refl in
     let all : Each P (w.number ∷ asked_of w.route ws) =
-        subst (λ (b : Bool). Each P (cond b (w.number ∷ asked_of w.route ws) (asked_of w.route ws))) asks a in
+    subst (λ (b : Bool). Each P (cond b (w.number ∷ asked_of w.route ws) (asked_of w.route ws))) asks a in
     all.0
 
 -- the number of a request whose abort was asked is among those asked to end
@@ -208,7 +210,7 @@ asked_there : (P : ℕ → Type 0) (s : State) (w : Waiting) (sp : Split w.mailb
     Each P (asked_of w.route s.queue) → P w.number
 asked_there P s w sp asked a =
     asked_head P w sp.behind asked (asked_behind P w sp.before sp.behind
-        (subst (λ (q : List Waiting). Each P (asked_of w.route q)) sp.whole a))
+    (subst (λ (q : List Waiting). Each P (asked_of w.route q)) sp.whole a))
 
 pub fails-keeps : (a b : PlainMail) (x : Option (ℕ × ℕ)) → Law (core_of a) → Fails (core_of a) x (core_of b) →
     short_of b ≡ short_of a → BusKeeps a b
@@ -235,9 +237,11 @@ fails-keeps a b (Some x) l h short =
       short = short;
       stand = λ r past k. subst (λ (v : State). RouteStands v r past) m
           (leave-route s w y r past f.split l refl refl
-          (λ is waits reaped. each-append (Has past.asked) (lists_of s w.route).reaped (w.number ∷ []) reaped
-          (asked_there (Has past.asked) s w f.split h.3
-              (subst (λ (k : ℕ). Each (Has past.asked) (asked_of k s.queue)) is waits), tt)) k);
+          (λ is waits reaped. each-append (Has past.asked) (lists_of s w.route).reaped (w.number ∷ []) reaped (
+            asked_there (Has past.asked) s w f.split h.3
+                (subst (λ (k : ℕ). Each (Has past.asked) (asked_of k s.queue)) is waits),
+            tt,
+          )) k);
     }
 
 -- ready
@@ -276,7 +280,7 @@ pub readies-bus : (s t : State) (past : BusPast) → Law s → t ≡ readied s �
 readies-bus s t past l is b = subst (λ (v : State). BusStands v past) (sym is) (⊎_elim
     (λ (same : s ≡ readied s). subst (λ (v : State). BusStands v past) same b)
     (λ (r : (w : Waiting) × Readied s w). subst (λ (v : State). BusStands v past) r.1.new
-        (mark-bus s (at_of s r.0) (record r.0 { status = Scheduled }) past b))
+    (mark-bus s (at_of s r.0) (record r.0 { status = Scheduled }) past b))
     (readied_is s l))
 
 pub readies-sends : (s t : State) → Law s → t ≡ readied s → sending t ≡ sending s

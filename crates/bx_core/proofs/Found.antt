@@ -66,7 +66,7 @@ first_there : (q : List Waiting) (w : Waiting) → slice_get q 0 ≡ Some w → 
 first_there [] w e = cc
 first_there (x ∷ q) w e = let same : x ≡ w = cc in
     subst (λ (y : Waiting). Has (x ∷ q) y × (place_of y.mailbox (x ∷ q) ≡ 0)) same
-        (inl refl, ap (λ b. cond b 0 (suc (place_of x.mailbox q))) (eq-eqb x.mailbox x.mailbox refl))
+    (inl refl, ap (λ b. cond b 0 (suc (place_of x.mailbox q))) (eq-eqb x.mailbox x.mailbox refl))
 
 pub next_there : (b : Bool) (q : List Waiting) (w : Waiting) → next_by b q ≡ Some w → Has q w
     × (is_next_by b (place_of w.mailbox q) w q ≡ true)
@@ -156,7 +156,7 @@ pub was_started : (s t : State) (w : Waiting) → at_mailbox w.mailbox s.queue �
 unfolding started
 was_started s t w at h =
     let p = passed_last (not (may_start w)) WrongState _ t
-        (subst (λ (o : Option Waiting). started_at s (at_of s w) o ≡ Ok t) at h) in
+    (subst (λ (o : Option Waiting). started_at s (at_of s w) o ≡ Ok t) at h) in
     (not-false (may_start w) p.0, p.1)
 
 pub was_completed : (s t : State) (w : Waiting) → at_mailbox w.mailbox s.queue ≡ Some w → completed s w.mailbox ≡ Ok t →
@@ -164,7 +164,7 @@ pub was_completed : (s t : State) (w : Waiting) → at_mailbox w.mailbox s.queue
 unfolding completed
 was_completed s t w at h =
     let p = passed_last (not (is_transmitting w.status)) WrongState _ t
-        (subst (λ (o : Option Waiting). completed_at s (at_of s w) o ≡ Ok t) at h) in
+    (subst (λ (o : Option Waiting). completed_at s (at_of s w) o ≡ Ok t) at h) in
     (not-false (is_transmitting w.status) p.0, p.1)
 
 pub was_failed : (s t : State) (w : Waiting) → at_mailbox w.mailbox s.queue ≡ Some w → failed s w.mailbox ≡ Ok t →
@@ -172,7 +172,7 @@ pub was_failed : (s t : State) (w : Waiting) → at_mailbox w.mailbox s.queue �
 unfolding failed
 was_failed s t w at h =
     let p = passed_last (not (is_transmitting w.status)) WrongState _ t
-        (subst (λ (o : Option Waiting). failed_at s (at_of s w) o ≡ Ok t) at h) in
+    (subst (λ (o : Option Waiting). failed_at s (at_of s w) o ≡ Ok t) at h) in
     (not-false (is_transmitting w.status) p.0, p.1)
 
 pub was_reaped : (s t : State) (w : Waiting) → at_mailbox w.mailbox s.queue ≡ Some w → reaped s w.mailbox ≡ Ok t →
@@ -180,7 +180,7 @@ pub was_reaped : (s t : State) (w : Waiting) → at_mailbox w.mailbox s.queue �
 unfolding reaped
 was_reaped s t w at h =
     let p = passed_last (not (may_reap w)) WrongState _ t
-        (subst (λ (o : Option Waiting). reaped_at s (at_of s w) o ≡ Ok t) at h) in
+    (subst (λ (o : Option Waiting). reaped_at s (at_of s w) o ≡ Ok t) at h) in
     (not-false (may_reap w) p.0, p.1)
 
 -- another in its mailbox stands in its place
@@ -210,7 +210,7 @@ pub failed_at_place : (s u : State) (w : Waiting) → at_mailbox w.mailbox s.que
 failed_at_place s u w at f =
     let x : Waiting = record w { status = Scheduled } in
     subst (λ (v : State). InPlace w.mailbox v.queue (at_of s w) x) (was_failed s u w at f).1
-        (set_in_place w.mailbox s.queue w x refl at)
+    (set_in_place w.mailbox s.queue w x refl at)
 
 -- after a failure that was asked to end
 pub goes-reap_after : (s u : State) (w : Waiting) → at_mailbox w.mailbox s.queue ≡ Some w → w.abort_asked ≡ true →

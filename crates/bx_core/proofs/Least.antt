@@ -38,9 +38,14 @@ least w (v ∷ vs) =
       | inr behind ↦ (let before = goes_before-other x v behind in (
         v,
         inr (inl refl),
-        (goes_before-on v x w before of_rest.2.0,
-            (goes_before-self v, each_more (GoesBefore x) (GoesBefore v) vs
-              (λ y. goes_before-on v x y before) of_rest.2.1)),
+        (
+          goes_before-on v x w before of_rest.2.0,
+          (
+            goes_before-self v,
+            each_more (GoesBefore x) (GoesBefore v) vs
+                (λ y. goes_before-on v x y before) of_rest.2.1,
+          ),
+        ),
       ))
     ]
 

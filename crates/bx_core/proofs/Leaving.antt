@@ -43,26 +43,27 @@ idle_without s w r x a =
 
 -- a request leaves into a list of what was sent or reaped
 
-pub leave-route : (s : State) (w : Waiting) (x : RouteLists) (r : ℕ) (past : RoutePast) (sp : Split w.mailbox s.queue w) →
+pub leave-route : (s : State) (w : Waiting) (x : RouteLists) (r : ℕ) (past : RoutePast)
+    (sp : Split w.mailbox s.queue w) →
     Law s →
     (lists_of s w.route).requested ≡ x.requested → (lists_of s w.route).aborted ≡ x.aborted →
     (r ≡ w.route → Each (Has past.asked) (asked_of r s.queue) → Each (Has past.asked) (lists_of s w.route).reaped →
-        Each (Has past.asked) x.reaped) →
+    Each (Has past.asked) x.reaped) →
     RouteStands s r past → RouteStands (without s (at_of s w) w.route x) r past
 leave-route s w x r past sp l a b c h =
     let rest : Each (Has past.asked) (asked_of r (remove s.queue (at_of s w))) =
     subst (λ (q : List Waiting). Each (Has past.asked) (asked_of r q)) (sym sp.rest)
     (asked_of-drop (Has past.asked) r sp.before sp.behind w
-        (subst (λ (q : List Waiting). Each (Has past.asked) (asked_of r q)) sp.whole h.asked_waits)) in
+    (subst (λ (q : List Waiting). Each (Has past.asked) (asked_of r q)) sp.whole h.asked_waits)) in
     ⊎_elim
     (λ (y : (r ≡ w.route) × (lists_of (without s (at_of s w) w.route x) r ≡ x)).
     stands_by (without s (at_of s w) w.route x) r past x y.1 (h.requested_is
-        ∙ ap (λ (k : ℕ). (lists_of s k).requested) y.0 ∙ a) (h.aborted_is ∙ ap (λ (k : ℕ). (lists_of s k).aborted) y.0
-        ∙ b) rest
+    ∙ ap (λ (k : ℕ). (lists_of s k).requested) y.0 ∙ a) (h.aborted_is ∙ ap (λ (k : ℕ). (lists_of s k).aborted) y.0
+    ∙ b) rest
     (c y.0 h.asked_waits (subst (λ (k : ℕ). Each (Has past.asked) (lists_of s k).reaped) y.0 h.asked_reaped)))
     (λ (y : (r ≢ w.route) × (lists_of (without s (at_of s w) w.route x) r ≡ lists_of s r)).
     stands_by (without s (at_of s w) w.route x) r past (lists_of s r) y.1 h.requested_is h.aborted_is rest
-        h.asked_reaped)
+    h.asked_reaped)
     (lists-set s w.route x r (route_there s w sp l))
 
 -- requested is the same after a request left
@@ -87,16 +88,16 @@ sent_push : (s : State) (w : Waiting) (past : BusPast) (r : ℕ) → entries_of 
     entries_of r (past.done ++ item_of w ∷ []) ≡ (lists_of s r).done ++ entry_of w ∷ []
 sent_push s w past r h is =
     entries_of-push r past.done (item_of w)
-        ∙ ap (λ (b : Bool). entries_of r past.done ++ cond b (entry_of w ∷ []) []) is
-        ∙ ap (λ (es : List Entry). es ++ entry_of w ∷ []) h
+    ∙ ap (λ (b : Bool). entries_of r past.done ++ cond b (entry_of w ∷ []) []) is
+    ∙ ap (λ (es : List Entry). es ++ entry_of w ∷ []) h
 
 reaped_push : (s : State) (w : Waiting) (past : BusPast) (r : ℕ) → numbers_of r past.reaped ≡ (lists_of s r).reaped →
     (w.route == r) ≡ true →
     numbers_of r (past.reaped ++ (w.route, w.number) ∷ []) ≡ (lists_of s r).reaped ++ w.number ∷ []
 reaped_push s w past r h is =
     numbers_of-push r past.reaped (w.route, w.number)
-        ∙ ap (λ (b : Bool). numbers_of r past.reaped ++ cond b (w.number ∷ []) []) is
-        ∙ ap (λ (ns : List ℕ). ns ++ w.number ∷ []) h
+    ∙ ap (λ (b : Bool). numbers_of r past.reaped ++ cond b (w.number ∷ []) []) is
+    ∙ ap (λ (ns : List ℕ). ns ++ w.number ∷ []) h
 
 pub done-bus : (s : State) (w : Waiting) (past : BusPast) → Split w.mailbox s.queue w → Law s → BusStands s past →
     BusStands (without s (at_of s w) w.route (done_lists (lists_of s w.route) w))
@@ -110,8 +111,8 @@ done-bus s w past sp l b =
           w.route x no_lists h
           (sent_push s w past w.route (b.done_is w.route) (eq-eqb w.route w.route refl))
           (λ r ne. entries_of-push r past.done (item_of w)
-              ∙ ap (λ (c : Bool). entries_of r past.done ++ cond c (entry_of w ∷ []) [])
-              (ne_eqb w.route r (λ is. ne (sym is))) ∙ append-nil (entries_of r past.done) ∙ b.done_is r);
+          ∙ ap (λ (c : Bool). entries_of r past.done ++ cond c (entry_of w ∷ []) [])
+          (ne_eqb w.route r (λ is. ne (sym is))) ∙ append-nil (entries_of r past.done) ∙ b.done_is r);
       reaped_is = set-each (λ (r : ℕ) (y : RouteLists). numbers_of r past.reaped ≡ y.reaped) s.routes w.route x no_lists
           h (b.reaped_is w.route) (λ r ne. b.reaped_is r);
     }
@@ -130,6 +131,6 @@ reaped-bus s w past sp l b =
           ≡ y.reaped) s.routes w.route x no_lists h
           (reaped_push s w past w.route (b.reaped_is w.route) (eq-eqb w.route w.route refl))
           (λ r ne. numbers_of-push r past.reaped (w.route, w.number)
-              ∙ ap (λ (c : Bool). numbers_of r past.reaped ++ cond c (w.number ∷ []) [])
-              (ne_eqb w.route r (λ is. ne (sym is))) ∙ append-nil (numbers_of r past.reaped) ∙ b.reaped_is r);
+          ∙ ap (λ (c : Bool). numbers_of r past.reaped ++ cond c (w.number ∷ []) [])
+          (ne_eqb w.route r (λ is. ne (sym is))) ∙ append-nil (numbers_of r past.reaped) ∙ b.reaped_is r);
     }

@@ -20,3 +20,4 @@ pub mod Readies
 pub mod RouteSide
 pub mod Hears
 pub mod PlainTied
+pub mod Requesting

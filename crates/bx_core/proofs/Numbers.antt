@@ -51,10 +51,10 @@ has-count : (q : List Waiting) (w : Waiting) → Has q w → 1 ≤ count_at w.ma
 has-count [] w h = absurd h
 has-count (x ∷ q) w h = ⊎_elim
     (λ same. subst (λ (y : Waiting). 1 ≤ count_at y.mailbox (x ∷ q)) same
-        (rw (eq-eqb x.mailbox x.mailbox refl) (omega arith)))
+    (rw (eq-eqb x.mailbox x.mailbox refl) (omega arith)))
     (λ k. let ih = has-count q w k in
-        elim (is_at w.mailbox x) as (λ b. 1 ≤ cond b (suc (count_at w.mailbox q)) (count_at w.mailbox q))
-        [ true ↦ omega arith | false ↦ ih ])
+    elim (is_at w.mailbox x) as (λ b. 1 ≤ cond b (suc (count_at w.mailbox q)) (count_at w.mailbox q))
+    [ true ↦ omega arith | false ↦ ih ])
     h
 
 alone_case : (b : Bool) (x w : Waiting) (q : List Waiting) → is_at w.mailbox x ≡ b → Has (x ∷ q) w →
@@ -65,7 +65,7 @@ alone_case true x w q is h one ih = ⊎_elim
     (λ same. ap Some same)
     (λ k. let here = has-count q w k in
     let two : suc (count_at w.mailbox q) ≤ 1 =
-        subst (λ (b : Bool). cond b (suc (count_at w.mailbox q)) (count_at w.mailbox q) ≤ 1) is one in
+    subst (λ (b : Bool). cond b (suc (count_at w.mailbox q)) (count_at w.mailbox q) ≤ 1) is one in
     absurd (omega arith))
     h
 alone_case false x w q is h one ih = ⊎_elim
@@ -88,6 +88,6 @@ pub goes-abort : (s : State) (r : ℕ) (w : Waiting) → at_mailbox w.mailbox s.
 unfolding aborted
 goes-abort s r w at own asked =
     let e = ok_either (is_transmitting w.status)
-        (with_waiting s (place_of w.mailbox s.queue) (record w { abort_asked = true }))
-        (without s (place_of w.mailbox s.queue) w.route (aborted_lists (lists_of s w.route) w)) in
+    (with_waiting s (place_of w.mailbox s.queue) (record w { abort_asked = true }))
+    (without s (place_of w.mailbox s.queue) w.route (aborted_lists (lists_of s w.route) w)) in
     (e.0, rw (at, eq-eqb w.route r own, asked) e.1)

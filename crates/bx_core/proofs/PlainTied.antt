@@ -52,8 +52,10 @@ left_known : (s : State) (route : ℕ) (ws : List Waiting) →
     Each (Has (lists_of s route).requested) (left_of route (map as_left ws))
 left_known s route [] known = tt
 left_known s route (w ∷ ws) known = elim (eqb_tells w.route route) [
-  | inl same ↦ rw same.0 (subst (λ r. Has (lists_of s r).requested (entry_of w)) same.1 known.0,
-      left_known s route ws known.1)
+  | inl same ↦ rw same.0 (
+    subst (λ r. Has (lists_of s r).requested (entry_of w)) same.1 known.0,
+    left_known s route ws known.1,
+  )
   | inr other ↦ rw other.0 (left_known s route ws known.1)
 ]
 

@@ -70,7 +70,7 @@ busy_same : (s : State) → Law s → (count_busy s.queue ≡ 0 → ⊥) → rea
 busy_same s l busy = ⊎_elim
     (λ (same : readied s ≡ s). same)
     (λ (n : (w : Waiting) × (next s ≡ Some w) × (is_pending w.status ≡ true)). absurd
-        (busy (next_idle s n.0 l n.1 n.2)))
+    (busy (next_idle s n.0 l n.1 n.2)))
     (tries s l)
 
 -- one that is scheduled is there where one is busy and none is on the bus
@@ -84,7 +84,7 @@ busy_turn (x ∷ q) busy idle = by_status x.status refl (busy_turn q)
     by_status Pending e more_of =
         let none : bus_of q ≡ None = ap (λ s. cond (is_transmitting s) (Some x) (bus_of q)) (sym e) ∙ idle in
         let more =
-            more_of (λ zero. busy (one_less (is_pending x.status) (count_busy q) (ap is_pending e) ∙ zero)) none in
+        more_of (λ zero. busy (one_less (is_pending x.status) (count_busy q) (ap is_pending e) ∙ zero)) none in
         (more.0, ap (λ s. cond (is_scheduled s) (Some x) (turn_of q)) e ∙ more.1)
     by_status Scheduled e more_of = (x, ap (λ s. cond (is_scheduled s) (Some x) (turn_of q)) e)
     by_status Transmitting e more_of =
@@ -149,9 +149,10 @@ ready_tells : (s : State) → Law s → is_ready (readied s) ≡ true → (0 < l
 ready_tells s l e = ⊎_elim
     (λ (same : readied s ≡ s). turned s l (ap is_ready (sym same) ∙ e))
     (λ (n : (w : Waiting) × (next s ≡ Some w) × (is_pending w.status ≡ true)).
-    let sp = (found s n.0 l (next_there s.txfp s.queue n.0 n.1).0).split in
-    (omega (arith, ap length sp.whole, length-append sp.before (n.0 ∷ sp.behind)),
-        ap (option_map item_of) (bus-none s.queue (next_idle s n.0 l n.1 n.2))))
+    let sp = (found s n.0 l (next_there s.txfp s.queue n.0 n.1).0).split in (
+      omega (arith, ap length sp.whole, length-append sp.before (n.0 ∷ sp.behind)),
+      ap (option_map item_of) (bus-none s.queue (next_idle s n.0 l n.1 n.2)),
+    ))
     (tries s l)
 
 pub answers_ready : (s : State) (ready : Bool) → Law s → ready ≡ is_ready (readied s) → AnswersReady s ready
@@ -176,9 +177,9 @@ starts_oldest s t (Some x) l h by_order =
     let is : Waiting → Bool = λ (y : Waiting). is_scheduled y.status in
     let scheduled = find-is is s.queue w h.1 in
     let none = touched_first a.split.before a.split.behind w (subst RestUntouched a.split.whole (l.first by_order))
-        (λ u. not_both w.status u.pending scheduled) in
+    (λ u. not_both w.status u.pending scheduled) in
     ap (λ q. option_map item_of (slice_get q 0)) (a.split.whole ∙ ap (λ before. before ++ w ∷ a.split.behind) none)
-        ∙ ap Some (sym h.2)
+    ∙ ap Some (sym h.2)
   where
     not_both : (st : Status) → st ≡ Pending → is_scheduled st ≡ true → ⊥
     not_both st e f = false≢true (ap is_scheduled (sym e) ∙ f)

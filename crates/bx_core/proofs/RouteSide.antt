@@ -1,139 +1,29 @@
 -- The calls of a route: what they add to its past, and what they leave as it was.
 use Rattle.std.proofs.Common.{◌≡◌, ◌≢◌, ℕ, ◌<◌, ◌==◌, ◌&&◌, ◌⊎◌, ⊎_elim, Bool, true, false, cond, not, List, [], ◌∷◌}
-use Rattle.std.proofs.Common.{◌++◌, length, set, refl, sym, ap, ◌∙◌, subst, Option, Some, Ok, Err, Result, ne_eqb}
+use Rattle.std.proofs.Common.{◌++◌, length, set, refl, sym, ap, ◌∙◌, subst, Option, Some, Ok, ne_eqb}
 use Rattle.std.specs.List.{remove}
 use Rattle.std.proofs.lemmas.Bool.{false≢true}
 use Rattle.std.proofs.lemmas.List.{append-nil, length-set, get_or-set_same, get_or-set_other}
-use Rattle.can_frame.specs.Frames.{FrameValue}
 use Rattle.bx_core.specs.declared.entry.Entry.{Entry}
-use Rattle.bx_core.specs.declared.answer.Sent.{Sent}
-use Rattle.bx_core.specs.declared.answer.Sent.TheVariants.{Yes, NotNow}
 use Rattle.bx_core.specs.declared.answer.AbortAnswer.{AbortAnswer}
 use Rattle.bx_core.specs.declared.answer.AbortAnswer.TheVariants.{Ended, Asked, Gone}
-use Rattle.bx_core.specs.declared.answer.NumberTooLarge.{NumberTooLarge}
 use Rattle.bx_core.specs.declared.plain_mail.PlainMail.{PlainMail}
 use Rattle.bx_core.specs.declared.waiting.Waiting.{Waiting}
-use Rattle.bx_core.specs.declared.refused.Refused.TheVariants.{NotOwner, NumberOrder, WrongState}
+use Rattle.bx_core.specs.declared.refused.Refused.TheVariants.{NotOwner, WrongState}
 use Rattle.bx_core.specs.Lists.{Each, Has}
-use Rattle.bx_core.specs.States.{State, RouteLists, no_lists, claim_of, lists_of, at_mailbox, place_of, is_transmitting}
-use Rattle.bx_core.specs.States.{IsEmpty}
-use Rattle.bx_core.specs.Steps.{with_claim, with_request, with_waiting, without, new_waiting, requested_lists}
-use Rattle.bx_core.specs.Steps.{aborted_lists, is_claim_of, may_follow, claimed, requested, aborted, aborted_at}
+use Rattle.bx_core.specs.States.{State, RouteLists, no_lists, lists_of, at_mailbox, place_of, is_transmitting}
+use Rattle.bx_core.specs.Steps.{with_waiting, without, aborted_lists, requested, aborted, aborted_at}
 use Rattle.bx_core.specs.Law.{Law}
 use Rattle.bx_core.specs.TxBus.{BusPast}
-use Rattle.bx_core.specs.RouteTx.{RoutePast, after_request, after_abort}
-use Rattle.bx_core.specs.PlainMail.{core_of, short_of, sending, Requests, Aborts}
+use Rattle.bx_core.specs.RouteTx.{RoutePast, after_abort}
+use Rattle.bx_core.specs.PlainMail.{core_of, short_of, sending, Aborts}
 use Rattle.bx_core.specs.Stands.{BusStands, RouteStands, RouteKeeps, asked_of}
-use Rattle.bx_core.proofs.Words.{passed, passed_last, each_more, has-left, has-last, set-each}
+use Rattle.bx_core.proofs.Words.{passed, each_more, has-left, has-last, set-each}
 use Rattle.bx_core.proofs.Queues.{Split, split_at}
 use Rattle.bx_core.proofs.Reaches.{either_ok}
 use Rattle.bx_core.proofs.Found.{found, at_of}
 use Rattle.bx_core.proofs.Sending.{item_in, item-drop, item-asked}
-use Rattle.bx_core.proofs.Empties.{goes-claim}
-use Rattle.bx_core.proofs.Standing.{each_rest, each_step, other_past, stands_by, bus_on, asked_of-push, asked_of-drop}
-use Rattle.bx_core.proofs.Standing.{mark-bus}
-
--- request
-
--- a claim, and the request in its place
-abbrev claimed_requested : State → ℕ → ℕ → ℕ → FrameValue → State
-claimed_requested s r m n f = with_request (with_claim s m (Some r)) r m n f
-
-was_requested : (s t : State) (r m n : ℕ) (f : FrameValue) → requested s r m n f ≡ Ok t → with_request s r m n f ≡ t
-unfolding requested
-was_requested s t r m n f e =
-    let p = passed (not (is_claim_of (claim_of s m) r)) NotOwner _ t e in
-    (passed_last (not (may_follow s r n)) NumberOrder (with_request s r m n f) t p.1).1
-
-was_claimed_requested : (s u t : State) (r m n : ℕ) (f : FrameValue) → IsEmpty s m → claimed s r m ≡ Ok u →
-    requested u r m n f ≡ Ok t → claimed_requested s r m n f ≡ t
-was_claimed_requested s u t r m n f empty a b =
-    let new = goes-claim s r m empty in
-    let is : with_claim s m (Some r) ≡ u = cc in
-    ap (λ (v : State). with_request v r m n f) is ∙ was_requested u t r m n f b
-
--- a route's lists after its request
-abbrev more_lists : State → ℕ → ℕ → FrameValue → RouteLists
-more_lists s r n f = requested_lists (lists_of s r) (record { number = n; frame = f })
-
-request-bus : (s : State) (r m n : ℕ) (f : FrameValue) (past : BusPast) → r < length s.routes → BusStands s past →
-    BusStands (claimed_requested s r m n f) past
-request-bus s r m n f past there b =
-    let x = more_lists s r n f in
-    let e : Entry = record { number = n; frame = f } in
-    bus_on s (claimed_requested s r m n f) past
-    (set-each (λ (k : ℕ) (l : RouteLists). (y : Entry) → Has (lists_of s k).requested y → Has l.requested y) s.routes r
-        x no_lists there
-    (λ y h. has-left (lists_of s r).requested (e ∷ []) y h) (λ k ne y h. h))
-    (set-each (λ (k : ℕ) (l : RouteLists). (lists_of s k).done ≡ l.done) s.routes r x no_lists there refl
-        (λ k ne. refl))
-    (set-each (λ (k : ℕ) (l : RouteLists). (lists_of s k).reaped ≡ l.reaped) s.routes r x no_lists there refl
-        (λ k ne. refl)) b
-
-request-other : (s : State) (r m n k : ℕ) (f : FrameValue) (past : RoutePast) → k ≢ r → RouteStands s k past →
-    RouteStands (claimed_requested s r m n f) k past
-request-other s r m n k f past ne h =
-    stands_by (claimed_requested s r m n f) k past (lists_of s k)
-        (get_or-set_other s.routes r k (more_lists s r n f) no_lists ne) h.requested_is h.aborted_is
-    (subst (Each (Has past.asked)) (sym (asked_of-push k s.queue (new_waiting r m n f) refl)) h.asked_waits)
-        h.asked_reaped
-
-request-own : (s : State) (r m n : ℕ) (f : FrameValue) (past : RoutePast) → r < length s.routes → RouteStands s r past →
-    RouteStands (claimed_requested s r m n f) r (after_request past n f (Ok Yes))
-request-own s r m n f past there h =
-    stands_by (claimed_requested s r m n f) r (after_request past n f (Ok Yes)) (more_lists s r n f)
-        (get_or-set_same s.routes r (more_lists s r n f) no_lists there)
-    (ap (λ (es : List Entry). es ++ record { number = n; frame = f } ∷ []) h.requested_is) h.aborted_is
-    (subst (Each (Has past.asked)) (sym (asked_of-push r s.queue (new_waiting r m n f) refl)) h.asked_waits)
-        h.asked_reaped
-
--- a request behind the others is not on the bus
-item-push : (q : List Waiting) (r m n : ℕ) (f : FrameValue) → item_in (q ++ new_waiting r m n f ∷ []) ≡ item_in q
-item-push q r m n f = item-drop q [] (new_waiting r m n f) refl ∙ ap item_in (append-nil q)
-
--- nothing changed
-unsent-own : (s : State) (r n : ℕ) (f : FrameValue) (answer : Result Sent NumberTooLarge) (past : RoutePast) →
-    (after_request past n f answer).requested ≡ past.requested ++ [] →
-    RouteStands s r past → RouteStands s r (after_request past n f answer)
-unsent-own s r n f answer past none h =
-    other_past s r past (after_request past n f answer) (sym (none ∙ append-nil past.requested)) refl refl h
-
-pub requests-own : (a b : PlainMail) (r n : ℕ) (f : FrameValue) (sent : Sent) (past : RoutePast) →
-    r < length (core_of a).routes → Requests a r n f sent b →
-    RouteStands (core_of a) r past → RouteStands (core_of b) r (after_request past n f (Ok sent))
-requests-own a b r n f Yes past there h k =
-    subst (λ (v : State). RouteStands v r (after_request past n f (Ok Yes)))
-        (was_claimed_requested (core_of a) h.2 (core_of b) r h.1 n f h.3.empty h.4 h.5)
-    (request-own (core_of a) r h.1 n f past there k)
-requests-own a b r n f NotNow past there h k =
-    subst (λ (v : State). RouteStands v r (after_request past n f (Ok NotNow))) (sym h.0)
-        (unsent-own (core_of a) r n f (Ok NotNow) past refl k)
-
-pub refused-own : (s : State) (r n : ℕ) (f : FrameValue) (why : NumberTooLarge) (past : RoutePast) →
-    RouteStands s r past → RouteStands s r (after_request past n f (Err why))
-refused-own s r n f why past k = unsent-own s r n f (Err why) past refl k
-
-pub requests-keeps : (a b : PlainMail) (r n : ℕ) (f : FrameValue) (sent : Sent) → r < length (core_of a).routes →
-    Requests a r n f sent b → RouteKeeps r a b
-requests-keeps a b r n f Yes there h =
-    let s = core_of a in
-    let is = was_claimed_requested s h.2 (core_of b) r h.1 n f h.3.empty h.4 h.5 in
-    record {
-      routes = ap (λ (v : State). length v.routes) (sym is) ∙ length-set s.routes r (more_lists s r n f);
-      priority = ap (λ (v : State). v.txfp) (sym is);
-      short = λ e. h.0 ∙ e;
-      sends = ap sending (sym is) ∙ item-push s.queue r h.1 n f;
-      bus = λ past k. subst (λ (v : State). BusStands v past) is (request-bus s r h.1 n f past there k);
-      others = λ r' ne past k. subst (λ (v : State). RouteStands v r' past) is (request-other s r h.1 n r' f past ne k);
-    }
-requests-keeps a b r n f NotNow there h = record {
-  routes = ap (λ (v : State). length v.routes) h.0;
-  priority = ap (λ (v : State). v.txfp) h.0;
-  short = λ e. ⊎_elim (λ none. none.1 ∙ e) (λ refused. refused.2) h.1;
-  sends = ap sending h.0;
-  bus = λ past k. subst (λ (v : State). BusStands v past) (sym h.0) k;
-  others = λ r' ne past k. subst (λ (v : State). RouteStands v r' past) (sym h.0) k;
-}
+use Rattle.bx_core.proofs.Standing.{each_rest, each_step, other_past, stands_by, bus_on, asked_of-drop, mark-bus}
 
 -- abort
 
@@ -141,13 +31,13 @@ requests-keeps a b r n f NotNow there h = record {
 pub was_aborted : (s t : State) (r : ℕ) (w : Waiting) → at_mailbox w.mailbox s.queue ≡ Some w →
     aborted s r w.mailbox ≡ Ok t → (w.abort_asked ≡ false)
     × (((is_transmitting w.status ≡ true)
-          × (with_waiting s (place_of w.mailbox s.queue) (record w { abort_asked = true }) ≡ t))
+    × (with_waiting s (place_of w.mailbox s.queue) (record w { abort_asked = true }) ≡ t))
     ⊎ ((is_transmitting w.status ≡ false)
-        × (without s (place_of w.mailbox s.queue) w.route (aborted_lists (lists_of s w.route) w) ≡ t)))
+    × (without s (place_of w.mailbox s.queue) w.route (aborted_lists (lists_of s w.route) w) ≡ t)))
 unfolding aborted
 was_aborted s t r w at e =
     let h : aborted_at s r w.mailbox (place_of w.mailbox s.queue) (Some w) ≡ Ok t =
-        subst (λ (o : Option Waiting). aborted_at s r w.mailbox (place_of w.mailbox s.queue) o ≡ Ok t) at e in
+    subst (λ (o : Option Waiting). aborted_at s r w.mailbox (place_of w.mailbox s.queue) o ≡ Ok t) at e in
     let p = passed (not (w.route == r)) NotOwner _ t h in
     let o = passed w.abort_asked WrongState _ t p.1 in (
       o.0,
@@ -174,10 +64,10 @@ was_left s t r w l h idle e =
     let at = (found s w l h).at in
     ⊎_elim
     (λ (y : (is_transmitting w.status ≡ true)
-          × (with_waiting s (place_of w.mailbox s.queue) (record w { abort_asked = true }) ≡ t)). absurd
-        (false≢true (sym idle ∙ y.0)))
+    × (with_waiting s (place_of w.mailbox s.queue) (record w { abort_asked = true }) ≡ t)). absurd
+    (false≢true (sym idle ∙ y.0)))
     (λ (y : (is_transmitting w.status ≡ false)
-          × (without s (place_of w.mailbox s.queue) w.route (aborted_lists (lists_of s w.route) w) ≡ t)).
+    × (without s (place_of w.mailbox s.queue) w.route (aborted_lists (lists_of s w.route) w) ≡ t)).
     record { split = split_at w.mailbox s.queue w at; idle = idle; new = y.1 })
     (was_aborted s t r w at e).1
 
@@ -188,11 +78,11 @@ was_marked s t r w l h sends e =
     let a = was_aborted s t r w f.at e in
     ⊎_elim
     (λ (y : (is_transmitting w.status ≡ true)
-          × (with_waiting s (place_of w.mailbox s.queue) (record w { abort_asked = true }) ≡ t)).
-        record { split = f.split; unasked = a.0; new = y.1 })
+    × (with_waiting s (place_of w.mailbox s.queue) (record w { abort_asked = true }) ≡ t)).
+    record { split = f.split; unasked = a.0; new = y.1 })
     (λ (y : (is_transmitting w.status ≡ false)
-          × (without s (place_of w.mailbox s.queue) w.route (aborted_lists (lists_of s w.route) w) ≡ t)). absurd
-        (false≢true (sym y.0 ∙ sends)))
+    × (without s (place_of w.mailbox s.queue) w.route (aborted_lists (lists_of s w.route) w) ≡ t)). absurd
+    (false≢true (sym y.0 ∙ sends)))
     a.1
 
 -- the asked of fewer requests
@@ -200,7 +90,7 @@ fewer_asked : (P : ℕ → Type 0) (s t : State) (w : Waiting) (k : ℕ) → Lef
     Each P (asked_of k (remove s.queue (place_of w.mailbox s.queue)))
 fewer_asked P s t w k h a = subst (λ (q : List Waiting). Each P (asked_of k q)) (sym h.split.rest)
     (asked_of-drop P k h.split.before h.split.behind w
-        (subst (λ (q : List Waiting). Each P (asked_of k q)) h.split.whole a))
+    (subst (λ (q : List Waiting). Each P (asked_of k q)) h.split.whole a))
 
 left-own : (s t : State) (w : Waiting) (past : RoutePast) → w.route < length s.routes → Left s t w →
     RouteStands s w.route past → RouteStands t w.route (after_abort past w.number Ended false)
@@ -211,7 +101,7 @@ left-own s t w past there h k =
     subst (λ (u : State). RouteStands u w.route (after_abort past w.number Ended false)) h.new
     (other_past v w.route new (after_abort past w.number Ended false) refl refl (sym (append-nil past.asked))
     (stands_by v w.route new x (get_or-set_same s.routes w.route x no_lists there) k.requested_is
-        (ap (λ (ns : List ℕ). ns ++ w.number ∷ []) k.aborted_is)
+    (ap (λ (ns : List ℕ). ns ++ w.number ∷ []) k.aborted_is)
     (fewer_asked (Has past.asked) s t w w.route h k.asked_waits) k.asked_reaped))
 
 left-other : (s t : State) (w : Waiting) (k : ℕ) (past : RoutePast) → k ≢ w.route → Left s t w → RouteStands s k past →
@@ -220,7 +110,7 @@ left-other s t w k past ne h a =
     let x = aborted_lists (lists_of s w.route) w in
     subst (λ (u : State). RouteStands u k past) h.new
     (stands_by (without s (place_of w.mailbox s.queue) w.route x) k past (lists_of s k)
-        (get_or-set_other s.routes w.route k x no_lists ne) a.requested_is a.aborted_is
+    (get_or-set_other s.routes w.route k x no_lists ne) a.requested_is a.aborted_is
     (fewer_asked (Has past.asked) s t w k h a.asked_waits) a.asked_reaped)
 
 left-bus : (s t : State) (w : Waiting) (past : BusPast) → w.route < length s.routes → Left s t w → BusStands s past →
@@ -230,16 +120,16 @@ left-bus s t w past there h b =
     subst (λ (u : State). BusStands u past) h.new
     (bus_on s (without s (place_of w.mailbox s.queue) w.route x) past
     (set-each (λ (k : ℕ) (l : RouteLists). (y : Entry) → Has (lists_of s k).requested y → Has l.requested y) s.routes
-        w.route x no_lists there (λ y e. e) (λ k ne y e. e))
+    w.route x no_lists there (λ y e. e) (λ k ne y e. e))
     (set-each (λ (k : ℕ) (l : RouteLists). (lists_of s k).done ≡ l.done) s.routes w.route x no_lists there refl
-        (λ k ne. refl))
+    (λ k ne. refl))
     (set-each (λ (k : ℕ) (l : RouteLists). (lists_of s k).reaped ≡ l.reaped) s.routes w.route x no_lists there refl
-        (λ k ne. refl)) b)
+    (λ k ne. refl)) b)
 
 left-sends : (s t : State) (w : Waiting) → Left s t w → sending t ≡ sending s
 left-sends s t w h =
     ap sending (sym h.new) ∙ ap item_in h.split.rest ∙ sym (item-drop h.split.before h.split.behind w h.idle)
-        ∙ ap item_in (sym h.split.whole)
+    ∙ ap item_in (sym h.split.whole)
 
 -- one more is asked to end
 
@@ -264,7 +154,7 @@ marked-own s t w past h k =
     let sp = h.split in
     let more : (n : ℕ) → Has past.asked n → Has new.asked n = λ n e. has-left past.asked (w.number ∷ []) n e in
     let waits : Each (Has past.asked) (asked_of w.route (sp.before ++ w ∷ sp.behind)) =
-        subst (λ (q : List Waiting). Each (Has past.asked) (asked_of w.route q)) sp.whole k.asked_waits in
+    subst (λ (q : List Waiting). Each (Has past.asked) (asked_of w.route q)) sp.whole k.asked_waits in
     let all : Each (Has new.asked) (asked_of w.route (set s.queue (at_of s w) x)) =
     subst (λ (q : List Waiting). Each (Has new.asked) (asked_of w.route q)) (sym (sp.set x))
     (asked_of-ask (Has new.asked) w.route sp.before sp.behind w (has-last past.asked w.number)
@@ -306,7 +196,7 @@ marked-sends : (s t : State) (w : Waiting) → Marked s t w → sending t ≡ se
 marked-sends s t w h =
     let sp = h.split in
     ap sending (sym h.new) ∙ ap item_in (sp.set (record w { abort_asked = true })) ∙ item-asked sp.before sp.behind w
-        ∙ ap item_in (sym sp.whole)
+    ∙ ap item_in (sym sp.whole)
 
 -- nothing changed
 unasked-own : (s : State) (r n : ℕ) (answer : AbortAnswer) (past : RoutePast) →
@@ -323,25 +213,33 @@ aborts-own s t r n Ended past l there h k =
     let own = h.2.route_is in
     let left = was_left s t r w l h.1 h.3 h.4 in
     let new = left-own s t w past (subst (λ (i : ℕ). i < length s.routes) (sym own) there) left
-        (subst (λ (i : ℕ). RouteStands s i past) (sym own) k) in
-    (false, subst (λ (i : ℕ). RouteStands t r (after_abort past i Ended false)) h.2.number_is
-        (subst (λ (i : ℕ). RouteStands t i (after_abort past w.number Ended false)) own new))
+    (subst (λ (i : ℕ). RouteStands s i past) (sym own) k) in (
+      false,
+      subst (λ (i : ℕ). RouteStands t r (after_abort past i Ended false)) h.2.number_is
+          (subst (λ (i : ℕ). RouteStands t i (after_abort past w.number Ended false)) own new),
+    )
 aborts-own s t r n Asked past l there h k =
     let w = h.0 in
     let own = h.2.route_is in
     ⊎_elim
-    (λ (y : (w.abort_asked ≡ true) × (t ≡ s)). (false,
-          subst (λ (v : State). RouteStands v r (after_abort past n Asked false)) (sym y.1)
-          (unasked-own s r n Asked past refl refl k)))
+    (λ (y : (w.abort_asked ≡ true) × (t ≡ s)). (
+      false,
+      subst (λ (v : State). RouteStands v r (after_abort past n Asked false)) (sym y.1)
+          (unasked-own s r n Asked past refl refl k),
+    ))
     (λ (y : (is_transmitting w.status ≡ true) × (aborted s r w.mailbox ≡ Ok t)).
     let new = marked-own s t w past (was_marked s t r w l h.1 y.0 y.1)
-        (subst (λ (i : ℕ). RouteStands s i past) (sym own) k) in
-    (true, subst (λ (i : ℕ). RouteStands t r (after_abort past i Asked true)) h.2.number_is
-        (subst (λ (i : ℕ). RouteStands t i (after_abort past w.number Asked true)) own new)))
+    (subst (λ (i : ℕ). RouteStands s i past) (sym own) k) in (
+      true,
+      subst (λ (i : ℕ). RouteStands t r (after_abort past i Asked true)) h.2.number_is
+          (subst (λ (i : ℕ). RouteStands t i (after_abort past w.number Asked true)) own new),
+    ))
     h.3
-aborts-own s t r n Gone past l there h k =
-    (false, subst (λ (v : State). RouteStands v r (after_abort past n Gone false)) (sym h.1)
-    (unasked-own s r n Gone past refl refl k))
+aborts-own s t r n Gone past l there h k = (
+  false,
+  subst (λ (v : State). RouteStands v r (after_abort past n Gone false)) (sym h.1)
+      (unasked-own s r n Gone past refl refl k),
+)
 aborts-own s t r n answer past l there h k = absurd h
 
 same-keeps : (a b : PlainMail) (r : ℕ) → core_of b ≡ core_of a → short_of b ≡ short_of a → RouteKeeps r a b

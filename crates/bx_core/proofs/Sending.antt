@@ -62,9 +62,9 @@ item-drop [] ys w idle = ap (λ b. option_map item_of (cond b (Some w) (bus_of y
 item-drop (x ∷ xs) ys w idle = elim (is_transmitting x.status) as
     (λ b. option_map item_of (cond b (Some x) (bus_of (xs ++ w ∷ ys)))
     ≡ option_map item_of (cond b (Some x) (bus_of (xs ++ ys)))) [
-  | true ↦ refl
-  | false ↦ item-drop xs ys w idle
-]
+      | true ↦ refl
+      | false ↦ item-drop xs ys w idle
+    ]
 
 -- a request is asked to end
 pub item-asked : (xs ys : List Waiting) (w : Waiting) → item_in (xs ++ record w { abort_asked = true } ∷ ys)
@@ -77,8 +77,8 @@ item-asked [] ys w = either (is_transmitting w.status)
     either false = refl
 item-asked (x ∷ xs) ys w =
     elim (is_transmitting x.status) as
-        (λ b. option_map item_of (cond b (Some x) (bus_of (xs ++ record w { abort_asked = true } ∷ ys)))
-        ≡ option_map item_of (cond b (Some x) (bus_of (xs ++ w ∷ ys)))) [
+    (λ b. option_map item_of (cond b (Some x) (bus_of (xs ++ record w { abort_asked = true } ∷ ys)))
+    ≡ option_map item_of (cond b (Some x) (bus_of (xs ++ w ∷ ys)))) [
       | true ↦ refl
       | false ↦ item-asked xs ys w
     ]

@@ -81,7 +81,7 @@ waiting_undone s w past l h b =
           let number : y.1 ≡ w.number = ap (λ (p : ℕ × ℕ). p.1) same in
           let entry : Has (lists_of s w.route).done (entry_on_bus y) =
           subst (λ es. Has es (entry_on_bus y)) (ap (λ r. entries_of r past.done) route ∙ b.done_is w.route)
-              (own_entry y past.done has) in
+          (own_entry y past.done has) in
           only.not_done (subst (Has (numbers (lists_of s w.route).done)) number
           (has-map (λ (e : Entry). e.number) (lists_of s w.route).done (entry_on_bus y) entry));
       unreaped = λ has. only.not_reaped (subst (λ ns. Has ns w.number) (b.reaped_is w.route)
@@ -105,4 +105,4 @@ starts_unaborted s t None past l h = tt
 starts_unaborted s t (Some x) past l h =
     subst (λ (y : Item). RouteStands s y.0 past → Has past.aborted y.1 → ⊥) (sym h.2)
     (λ stands has. (only_waits s h.0 l (scheduled_waits s h.0 h.1)).not_aborted
-        (subst (λ ns. Has ns h.0.number) stands.aborted_is has))
+    (subst (λ ns. Has ns h.0.number) stands.aborted_is has))

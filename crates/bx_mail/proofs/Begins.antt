@@ -84,7 +84,7 @@ took-request v queue table u n boxes aside p f e same t none is past h =
     let w = side queue u boxes aside in
     subst (λ (y : TableId × Log). Runs (side y.0 y.1 boxes (Some p)) past) (λ i. (sym same i, sym t.0 i))
     (takes-aside w p (ap (λ (x : BusSide). x.aside) e ∙ none) t.1 (subst IsRequest (sym is) tt) past
-        (subst (λ x. Runs x past) (sym e) h))
+    (subst (λ x. Runs x past) (sym e) h))
 
 pub took-abort : (v : BusSide) (queue table : TableId) (u n : Log) (boxes after : List Waiting) (aside : Option Posting)
     (p : Posting) → side queue u boxes aside ≡ v → table ≡ queue → Taken u p n → p.what ≡ Abort →
@@ -92,7 +92,7 @@ pub took-abort : (v : BusSide) (queue table : TableId) (u n : Log) (boxes after 
     (past : BusPast) → Runs v past → Runs (side table n after aside) past
 took-abort v queue table u n boxes after aside p e same t is gone past h =
     subst (λ (y : TableId × Log × List Waiting). Runs (side y.0 y.1 y.2 aside) past)
-        (λ i. (sym same i, sym t.0 i, sym gone i))
+    (λ i. (sym same i, sym t.0 i, sym gone i))
     (takes-abort (side queue u boxes aside) p t.1 is past (subst (λ x. Runs x past) (sym e) h))
 
 pub abort-now : (v : BusSide) (queue : TableId) (u n : Log) (boxes after : List Waiting) (aside : Option Posting)

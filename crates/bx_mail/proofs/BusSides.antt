@@ -1,158 +1,29 @@
 -- Each call of the bus side does what an event of the mailbox core does.
-use Rattle.std.proofs.Common.{◌≡◌, ◌≢◌, ℕ, zero, suc, arith, ◌+◌, ◌<◌, ◌≤◌, ◌==◌, ◌&&◌, ◌⊎◌, inl, inr, ⊎_elim, Bool}
-use Rattle.std.proofs.Common.{true, false, true≢false, cond, not, List, [], ◌∷◌, ◌++◌, length, get_or, set, refl, sym}
-use Rattle.std.proofs.Common.{ap, ◌∙◌, subst, Option, Some, None, Ok, eq-eqb, ne_eqb, append_assoc, append-nil}
-use Rattle.std.specs.Prelude.{IsSome, IfSome, IfNone, option_map, option_to_list}
-use Rattle.std.specs.List.{remove, find}
+use Rattle.std.proofs.Common.{◌≡◌, ◌≢◌, ℕ, ◌&&◌, Bool, true, false, true≢false, cond, not, List, [], ◌∷◌, refl, sym, ap}
+use Rattle.std.proofs.Common.{◌∙◌, subst, Option, Some, None}
+use Rattle.std.specs.Prelude.{IsSome, IfSome, IfNone, option_map}
+use Rattle.std.specs.List.{find}
 use Rattle.std.proofs.lemmas.Bool.{and_parts}
-use Rattle.bx_core.specs.declared.plain_mail.PlainMail.{PlainMail}
 use Rattle.bx_core.specs.declared.waiting.Waiting.{Waiting}
 use Rattle.bx_core.specs.declared.status.Status.{Status}
 use Rattle.bx_core.specs.declared.status.Status.TheVariants.{Pending, Scheduled, Transmitting}
-use Rattle.bx_core.specs.declared.event.Event.TheVariants.{Schedule, Start, Complete, Fail, Reap}
-use Rattle.bx_core.specs.Lists.{Each, Has}
-use Rattle.bx_core.specs.States.{State, lists_of, at_mailbox, place_of, is_pending, is_scheduled, is_transmitting}
-use Rattle.bx_core.specs.States.{on_bus, in_turn}
-use Rattle.bx_core.specs.Priority.{next, next_by, is_next_by}
-use Rattle.bx_core.specs.Steps.{with_waiting, without, done_lists, reaped_lists, may_start, scheduled, after}
-use Rattle.bx_core.specs.Law.{Law, IsInPlace, IsUntouched, RestUntouched, left_by}
+use Rattle.bx_core.specs.declared.event.Event.TheVariants.{Start, Complete, Fail, Reap}
+use Rattle.bx_core.specs.Lists.{Each}
+use Rattle.bx_core.specs.States.{State, lists_of, is_scheduled, is_transmitting, on_bus, in_turn}
+use Rattle.bx_core.specs.Steps.{with_waiting, without, done_lists, reaped_lists, may_start}
+use Rattle.bx_core.specs.Law.{Law, IsUntouched}
 use Rattle.bx_core.specs.TxBus.{Item, BusPast, IsUndone, label_of, after_start, after_complete, after_fail}
-use Rattle.bx_core.specs.PlainMail.{core_of, item_of, sending, is_ready, readied, readied_from, starts_from, Starts}
-use Rattle.bx_core.specs.PlainMail.{Completes, Fails}
-use Rattle.bx_core.specs.Stands.{BusStands, BusKeeps as CoreKeeps}
-use Rattle.bx_core.proofs.Found.{IsFound, at_of, found, goes-schedule, stays-schedule, goes-start, goes-complete}
-use Rattle.bx_core.proofs.Found.{goes-fail, goes-reap_after}
+use Rattle.bx_core.specs.PlainMail.{item_of, starts_from, Starts, Completes, Fails}
+use Rattle.bx_core.specs.Stands.{BusStands}
+use Rattle.bx_core.proofs.Found.{at_of, goes-start, goes-complete, goes-fail, goes-reap_after}
 use Rattle.bx_core.proofs.Reaches.{keeps-after}
-use Rattle.bx_core.proofs.BusSide.{starts-bus, starts-keeps, starts-idle, starts-sends, completes-bus, completes-keeps}
-use Rattle.bx_core.proofs.BusSide.{completes-idle, fails-bus, fails-keeps, fails-idle, fails-reaped, readies-bus}
-use Rattle.bx_core.proofs.BusSide.{readies-keeps, readies-sends}
-use Rattle.bx_core.proofs.Sending.{pending_idle}
+use Rattle.bx_core.proofs.BusSide.{starts-bus, starts-keeps, completes-bus, completes-keeps, completes-idle, fails-bus}
+use Rattle.bx_core.proofs.BusSide.{fails-keeps, fails-idle, fails-reaped}
 use Rattle.bx_core.proofs.Undone.{starts_undone}
 use Rattle.bx_mail.specs.Boxes.{on_bus_now, scheduled_first, started_first, starting, left_first, failed_first, reaping}
 use Rattle.bx_mail.specs.Sides.{BusSide, Runs, IsRunning}
-
--- a core as that of a mail for one thread, of which the events' laws are told
-abbrev pub mail : State → PlainMail
-mail s = record { core = s; short = false }
-
--- the oldest request stands first
-
-pub at_first : (s : State) (w : Waiting) (ws : List Waiting) → s.queue ≡ w ∷ ws → at_mailbox w.mailbox s.queue ≡ Some w
-at_first s w ws e =
-    ap (at_mailbox w.mailbox) e ∙ ap (λ b. cond b (Some w) (at_mailbox w.mailbox ws)) (eq-eqb w.mailbox w.mailbox refl)
-
-pub place_first : (s : State) (w : Waiting) (ws : List Waiting) → s.queue ≡ w ∷ ws → at_of s w ≡ 0
-place_first s w ws e =
-    ap (place_of w.mailbox) e ∙ ap (λ b. cond b 0 (suc (place_of w.mailbox ws))) (eq-eqb w.mailbox w.mailbox refl)
-
-set_first : (s : State) (w x : Waiting) (ws : List Waiting) → s.queue ≡ w ∷ ws → set s.queue (at_of s w) x ≡ x ∷ ws
-set_first s w x ws e = ap (λ i. set s.queue i x) (place_first s w ws e) ∙ ap (λ q. set q 0 x) e
-
-remove_first : (s : State) (w : Waiting) (ws : List Waiting) → s.queue ≡ w ∷ ws → remove s.queue (at_of s w) ≡ ws
-remove_first s w ws e = ap (λ i. remove s.queue i) (place_first s w ws e) ∙ ap (λ q. remove q 0) e
-
-box_first : (s : State) (w : Waiting) (ws : List Waiting) → Law s → s.queue ≡ w ∷ ws → w.mailbox < 3
-box_first s w ws l e = (subst (Each (IsInPlace (length s.routes))) e l.in_place).0.mailbox
-
-rest_first : (s : State) (w : Waiting) (ws : List Waiting) → Law s → s.txfp ≡ true → s.queue ≡ w ∷ ws →
-    Each IsUntouched ws
-rest_first s w ws l o e = subst RestUntouched e (l.first o)
-
--- among requests that were not touched none is scheduled or transmitting
-none_found : (is : Status → Bool) → is Pending ≡ false → (ws : List Waiting) → Each IsUntouched ws →
-    find (λ (w : Waiting). is w.status) ws ≡ None
-none_found is clear [] h = refl
-none_found is clear (w ∷ ws) h = ap (λ b. cond b (Some w) (find (λ (y : Waiting). is y.status) ws))
-    (ap is h.0.pending ∙ clear) ∙ none_found is clear ws h.1
-
--- what is on the bus is the oldest
-head_sends : (w : Waiting) (ws : List Waiting) → Each IsUntouched ws →
-    option_map item_of (find (λ (y : Waiting). is_transmitting y.status) (w ∷ ws)) ≡ on_bus_now (w ∷ ws)
-head_sends w ws h = by_test (is_transmitting w.status)
-  where
-    by_test : (b : Bool) → option_map item_of (cond b (Some w) (find (λ (y : Waiting). is_transmitting y.status) ws))
-        ≡ cond b (Some (item_of w)) None
-    by_test true = refl
-    by_test false = ap (option_map item_of) (none_found is_transmitting refl ws h)
-
-pub sends_now : (s : State) (q : List Waiting) → Law s → s.txfp ≡ true → s.queue ≡ q → sending s ≡ on_bus_now q
-sends_now s [] l o e = ap (λ ws. option_map item_of (find (λ (y : Waiting). is_transmitting y.status) ws)) e
-sends_now s (w ∷ ws) l o e = ap (λ ws. option_map item_of (find (λ (y : Waiting). is_transmitting y.status) ws)) e
-    ∙ head_sends w ws (rest_first s w ws l o e)
-
-pub runs-sends : (v : BusSide) (past : BusPast) (h : Runs v past) → sending h.core ≡ on_bus_now v.boxes
-runs-sends v past h = sends_now h.core v.boxes h.law h.order h.boxes
-
--- the bus side after an event of its core
-pub runs_on : (v : BusSide) (past after_it : BusPast) (q : List Waiting) (h : Runs v past) (t : State) → Law t →
-    t.claims ≡ h.core.claims → t.queue ≡ q → CoreKeeps (mail h.core) (mail t) → BusStands t after_it →
-    Runs (record v { boxes = q }) after_it
-runs_on v past after_it q h t l claims queue k bus = record {
-  core = t;
-  law = l;
-  order = k.priority ∙ h.order;
-  free = claims ∙ h.free;
-  routes = k.routes ∙ h.routes;
-  boxes = queue;
-  bus = bus;
-  asks = h.asks;
-  stands = λ r. k.stand r (h.asks r) (h.stands r);
-  asked = h.asked;
-  aborted = h.aborted;
-  requested = h.requested;
-  orderly = h.orderly;
-  aside = h.aside;
-}
-
--- an event of the core by which the boxes become these
-pub record Becomes (s : State) (q : List Waiting) (t : State) : Type 0 where
-  pub law : Law t
-  pub claims : t.claims ≡ s.claims
-  pub queue : t.queue ≡ q
-
--- schedule
-
-abbrev Readies : State → List Waiting → Type 0
-Readies s q = (t : State) × (t ≡ readied s) × Becomes s q t
-
-readies-core : (s : State) (q : List Waiting) → Law s → s.txfp ≡ true → s.queue ≡ q → Readies s (scheduled_first q)
-readies-core s [] l o e =
-    (s, sym (ap (readied_from s) (ap (λ b. next_by b s.queue) o ∙ ap (λ (ws : List Waiting). next_by true ws) e)),
-    record { law = l; claims = refl; queue = e })
-readies-core s (w ∷ ws) l o e =
-    let at = at_first s w ws e in
-    let first : next s ≡ Some w = ap (λ b. next_by b s.queue) o ∙ ap (λ (q : List Waiting). next_by true q) e in
-    let is : readied s ≡ left_by s (scheduled s w.mailbox) = ap (readied_from s) first in
-    by_test at is (is_pending w.status) refl
-  where
-    by_test : at_mailbox w.mailbox s.queue ≡ Some w → readied s ≡ left_by s (scheduled s w.mailbox) → (b : Bool) →
-        is_pending w.status ≡ b → Readies s (cond b (record w { status = Scheduled }) w ∷ ws)
-    by_test at is true pending =
-        let t : State = with_waiting s (at_of s w) (record w { status = Scheduled }) in
-        let turn : is_next_by s.txfp (at_of s w) w s.queue ≡ true =
-            ap (λ b. is_next_by b (at_of s w) w s.queue) o ∙ eq-eqb (at_of s w) 0 (place_first s w ws e) in
-        let goes : scheduled s w.mailbox ≡ Ok t = goes-schedule s w at pending turn in
-        (t, sym (is ∙ ap (left_by s) goes),
-            record { law = (keeps-after s t (Schedule w.mailbox) (box_first s w ws l e) goes l).0; claims = refl;
-              queue = set_first s w (record w { status = Scheduled }) ws e })
-    by_test at is false pending =
-        (s, sym (is ∙ ap (left_by s) (stays-schedule s w at pending)), record { law = l; claims = refl; queue = e })
-
-pub schedules-run : (v : BusSide) (past : BusPast) → Runs v past →
-    Runs (record v { boxes = scheduled_first v.boxes }) past
-schedules-run v past h =
-    let c = readies-core h.core v.boxes h.law h.order h.boxes in
-    runs_on v past past (scheduled_first v.boxes) h c.0 c.2.law c.2.claims c.2.queue
-        (readies-keeps (mail h.core) (mail c.0) h.law c.1 refl) (readies-bus h.core c.0 past h.law c.1 h.bus)
-
-pub schedules-sends : (q : List Waiting) → on_bus_now (scheduled_first q) ≡ on_bus_now q
-schedules-sends [] = refl
-schedules-sends (w ∷ ws) = by_test (is_pending w.status) refl
-  where
-    by_test : (b : Bool) → is_pending w.status ≡ b → on_bus_now (cond b (record w { status = Scheduled }) w ∷ ws)
-        ≡ on_bus_now (w ∷ ws)
-    by_test true pending = sym (ap (λ c. cond c (Some (item_of w)) None) (pending_idle w.status pending))
-    by_test false pending = refl
+use Rattle.bx_mail.proofs.Scheduling.{mail, at_first, set_first, remove_first, box_first, rest_first, none_found}
+use Rattle.bx_mail.proofs.Scheduling.{sends_now, runs-sends, runs_on, Becomes, schedules-run}
 
 -- start
 
@@ -169,8 +40,11 @@ not_ready_case w ws may rest = by_test (is_scheduled w.status)
 
 starts-core : (s : State) (q : List Waiting) → Law s → s.txfp ≡ true → s.queue ≡ q →
     StartsTo s (starting q) (started_first q)
-starts-core s [] l o e = (s, (ap (λ ws. starts_from (find (λ (y : Waiting). is_scheduled y.status) ws)) e, refl),
-    record { law = l; claims = refl; queue = e })
+starts-core s [] l o e = (
+  s,
+  (ap (λ ws. starts_from (find (λ (y : Waiting). is_scheduled y.status) ws)) e, refl),
+  record { law = l; claims = refl; queue = e },
+)
 starts-core s (w ∷ ws) l o e = by_test (may_start w) refl
   where
     by_test : (b : Bool) → may_start w ≡ b → StartsTo s (cond b (Some (item_of w)) None)
@@ -179,14 +53,26 @@ starts-core s (w ∷ ws) l o e = by_test (may_start w) refl
         let x : Waiting = record w { status = Transmitting } in
         let t : State = with_waiting s (at_of s w) x in
         let turn : in_turn s ≡ Some w = ap (find (λ (y : Waiting). is_scheduled y.status)) e
-            ∙ ap (λ b. cond b (Some w) (find (λ (y : Waiting). is_scheduled y.status) ws))
-            (and_parts (is_scheduled w.status) (not w.abort_asked) may).0 in
-        let goes = goes-start s w (at_first s w ws e) may in
-        (t, (w, turn, refl, goes), record { law = (keeps-after s t (Start w.mailbox) (box_first s w ws l e) goes l).0;
-              claims = refl; queue = set_first s w x ws e })
-    by_test false may =
-        (s, (ap (λ q. starts_from (find (λ (y : Waiting). is_scheduled y.status) q)) e
-          ∙ not_ready_case w ws may (rest_first s w ws l o e), refl), record { law = l; claims = refl; queue = e })
+        ∙ ap (λ b. cond b (Some w) (find (λ (y : Waiting). is_scheduled y.status) ws))
+        (and_parts (is_scheduled w.status) (not w.abort_asked) may).0 in
+        let goes = goes-start s w (at_first s w ws e) may in (
+          t,
+          (w, turn, refl, goes),
+          record {
+            law = (keeps-after s t (Start w.mailbox) (box_first s w ws l e) goes l).0;
+            claims = refl;
+            queue = set_first s w x ws e;
+          },
+        )
+    by_test false may = (
+      s,
+      (
+        ap (λ q. starts_from (find (λ (y : Waiting). is_scheduled y.status) q)) e
+            ∙ not_ready_case w ws may (rest_first s w ws l o e),
+        refl,
+      ),
+      record { law = l; claims = refl; queue = e },
+    )
 
 pub starts-run : (v : BusSide) (past : BusPast) → Runs v past →
     Runs (record v { boxes = started_first v.boxes }) (after_start past (starting v.boxes))
@@ -194,7 +80,7 @@ starts-run v past h =
     let c = starts-core h.core v.boxes h.law h.order h.boxes in
     let x = starting v.boxes in
     runs_on v past (after_start past x) (started_first v.boxes) h c.0 c.2.law c.2.claims c.2.queue
-        (starts-keeps (mail h.core) (mail c.0) x h.law c.1 refl) (starts-bus h.core c.0 x past h.law c.1 h.bus)
+    (starts-keeps (mail h.core) (mail c.0) x h.law c.1 refl) (starts-bus h.core c.0 x past h.law c.1 h.bus)
 
 pub starts-new : (v : BusSide) (past : BusPast) → Runs v past → IfSome (starting v.boxes) (λ x. IsUndone past x)
 starts-new v past h =
@@ -254,19 +140,25 @@ completes-core s [] x l e on = cc
 completes-core s (w ∷ ws) x l e on =
     let sends = sent_first w ws x on in
     let t : State = without s (at_of s w) w.route (done_lists (lists_of s w.route) w) in
-    let goes = goes-complete s w (at_first s w ws e) sends in
-    (t, (w, on_bus_first s w ws e sends, goes),
-        record { law = (keeps-after s t (Complete w.mailbox) (box_first s w ws l e) goes l).0; claims = refl; queue =
-          remove_first s w ws e })
+    let goes = goes-complete s w (at_first s w ws e) sends in (
+      t,
+      (w, on_bus_first s w ws e sends, goes),
+      record {
+        law = (keeps-after s t (Complete w.mailbox) (box_first s w ws l e) goes l).0;
+        claims = refl;
+        queue =
+            remove_first s w ws e;
+      },
+    )
 
 pub completes-run : (v : BusSide) (past : BusPast) (x : Item) → on_bus_now v.boxes ≡ Some x → Runs v past →
     Runs (record v { boxes = left_first v.boxes }) (after_complete past (on_bus_now v.boxes))
 completes-run v past x on h =
     let c = completes-core h.core v.boxes x h.law h.boxes on in
     runs_on v past (after_complete past (on_bus_now v.boxes)) (left_first v.boxes) h c.0 c.2.law c.2.claims c.2.queue
-        (completes-keeps (mail h.core) (mail c.0) h.law c.1 refl)
+    (completes-keeps (mail h.core) (mail c.0) h.law c.1 refl)
     (subst (λ o. BusStands c.0 (after_complete past o)) (runs-sends v past h)
-        (completes-bus h.core c.0 past h.law c.1 h.bus))
+    (completes-bus h.core c.0 past h.law c.1 h.bus))
 
 pub completes-rest : (v : BusSide) (past : BusPast) (x : Item) → on_bus_now v.boxes ≡ Some x → Runs v past →
     on_bus_now (left_first v.boxes) ≡ None
@@ -299,17 +191,29 @@ fails-core s (w ∷ ws) x l e on = by_test w.abort_asked refl
         let t : State = without u (at_of u w) w.route (reaped_lists (lists_of u w.route) y) in
         let reaps = goes-reap_after s u w at asked fails in
         let lu = (keeps-after s u (Fail w.mailbox) m fails l).0 in
-        let eu : u.queue ≡ y ∷ ws = set_first s w y ws e in
-        (t, (w, u, on_bus_first s w ws e sends, asked, refl, fails, reaps),
-            record { law = (keeps-after u t (Reap w.mailbox) m reaps lu).0; claims = refl; queue =
-              remove_first u y ws eu })
+        let eu : u.queue ≡ y ∷ ws = set_first s w y ws e in (
+          t,
+          (w, u, on_bus_first s w ws e sends, asked, refl, fails, reaps),
+          record {
+            law = (keeps-after u t (Reap w.mailbox) m reaps lu).0;
+            claims = refl;
+            queue =
+                remove_first u y ws eu;
+          },
+        )
     by_test false asked =
         let sends = sent_first w ws x on in
         let t : State = with_waiting s (at_of s w) y in
-        let goes = goes-fail s w (at_first s w ws e) sends in
-        (t, (w, on_bus_first s w ws e sends, asked, goes),
-            record { law = (keeps-after s t (Fail w.mailbox) (box_first s w ws l e) goes l).0; claims = refl; queue =
-              set_first s w y ws e })
+        let goes = goes-fail s w (at_first s w ws e) sends in (
+          t,
+          (w, on_bus_first s w ws e sends, asked, goes),
+          record {
+            law = (keeps-after s t (Fail w.mailbox) (box_first s w ws l e) goes l).0;
+            claims = refl;
+            queue =
+                set_first s w y ws e;
+          },
+        )
 
 pub fails-run : (v : BusSide) (past : BusPast) (x : Item) → on_bus_now v.boxes ≡ Some x → Runs v past →
     Runs (record v { boxes = failed_first v.boxes }) (after_fail past (reaping v.boxes))
@@ -317,7 +221,7 @@ fails-run v past x on h =
     let c = fails-core h.core v.boxes x h.law h.boxes on in
     let r = reaping v.boxes in
     runs_on v past (after_fail past r) (failed_first v.boxes) h c.0 c.2.law c.2.claims c.2.queue
-        (fails-keeps (mail h.core) (mail c.0) r h.law c.1 refl) (fails-bus h.core c.0 r past h.law c.1 h.bus)
+    (fails-keeps (mail h.core) (mail c.0) r h.law c.1 refl) (fails-bus h.core c.0 r past h.law c.1 h.bus)
 
 pub fails-rest : (v : BusSide) (past : BusPast) (x : Item) → on_bus_now v.boxes ≡ Some x → Runs v past →
     on_bus_now (failed_first v.boxes) ≡ None
@@ -326,14 +230,14 @@ fails-rest v past x on h =
     let k = fails-keeps (mail h.core) (mail c.0) (reaping v.boxes) h.law c.1 refl in
     let order : c.0.txfp ≡ true = k.priority ∙ h.order in
     sym (sends_now c.0 (failed_first v.boxes) c.2.law order c.2.queue)
-        ∙ fails-idle h.core c.0 (reaping v.boxes) h.law c.1
+    ∙ fails-idle h.core c.0 (reaping v.boxes) h.law c.1
 
 pub fails-label : (v : BusSide) (past : BusPast) (x : Item) → on_bus_now v.boxes ≡ Some x → Runs v past →
     IfSome (reaping v.boxes) (λ y. option_map label_of (on_bus_now v.boxes) ≡ Some y)
 fails-label v past x on h =
     let c = fails-core h.core v.boxes x h.law h.boxes on in
     subst (λ o. IfSome (reaping v.boxes) (λ y. option_map label_of o ≡ Some y)) (runs-sends v past h)
-        (fails-reaped h.core c.0 (reaping v.boxes) c.1)
+    (fails-reaped h.core c.0 (reaping v.boxes) c.1)
 
 -- the same, where the boxes and the side before are told of by other names
 
@@ -363,8 +267,8 @@ completed-past v w q e is on past h =
     let x = some_item (on_bus_now v.boxes) on in
     let k = completes-run v past x.0 x.1 h in
     subst (λ ws. Runs (record w { boxes = ws }) (after_complete past (on_bus_now v.boxes))) (sym is)
-        (subst (λ (u : BusSide). Runs (record u { boxes = left_first u.boxes })
-          (after_complete past (on_bus_now v.boxes))) e k)
+    (subst (λ (u : BusSide). Runs (record u { boxes = left_first u.boxes })
+    (after_complete past (on_bus_now v.boxes))) e k)
 
 pub completed-rest : (v w : BusSide) (q : List Waiting) → v ≡ w → q ≡ left_first w.boxes → IsSome (on_bus_now v.boxes) →
     IsRunning w → on_bus_now q ≡ None
@@ -378,7 +282,7 @@ pub failed-past : (v w : BusSide) (q : List Waiting) (y : Option (ℕ × ℕ)) �
 failed-past v w q y e is told on past h =
     let x = some_item (on_bus_now w.boxes) (subst (λ (u : BusSide). IsSome (on_bus_now u.boxes)) e on) in
     subst (λ (z : List Waiting × Option (ℕ × ℕ)). Runs (record w { boxes = z.0 }) (after_fail past z.1))
-        (λ i. (sym is i, sym told i)) (fails-run w past x.0 x.1 (subst (λ u. Runs u past) e h))
+    (λ i. (sym is i, sym told i)) (fails-run w past x.0 x.1 (subst (λ u. Runs u past) e h))
 
 pub failed-rest : (v w : BusSide) (q : List Waiting) → v ≡ w → q ≡ failed_first w.boxes → IsSome (on_bus_now v.boxes) →
     IsRunning w → on_bus_now q ≡ None
@@ -391,5 +295,5 @@ pub failed-label : (v w : BusSide) (y : Option (ℕ × ℕ)) → v ≡ w → y �
 failed-label v w y e told on h = let x =
     some_item (on_bus_now w.boxes) (subst (λ (u : BusSide). IsSome (on_bus_now u.boxes)) e on) in
     subst (λ (u : BusSide). IfSome y (λ z. option_map label_of (on_bus_now u.boxes) ≡ Some z)) (sym e)
-        (subst (λ o. IfSome o (λ z. option_map label_of (on_bus_now w.boxes) ≡ Some z)) (sym told)
-        (fails-label w h.0 x.0 x.1 h.1))
+    (subst (λ o. IfSome o (λ z. option_map label_of (on_bus_now w.boxes) ≡ Some z)) (sym told)
+    (fails-label w h.0 x.0 x.1 h.1))

@@ -71,8 +71,8 @@ total-length : (n : ℕ) (ps : List Posting) → ((r : ℕ) → n ≤ r → of r
 total-length n [] h = total-none n
 total-length n (p ∷ ps) h =
     let there : p.route < n = dite (dec_le (suc p.route) n) (λ lt. lt)
-        (λ no_route. absurd (not_empty p (of p.route ps) (sym (of-own_first p.route p ps refl)
-            ∙ h p.route (omega (arith, no_route))))) in
+    (λ no_route. absurd (not_empty p (of p.route ps) (sym (of-own_first p.route p ps refl)
+    ∙ h p.route (omega (arith, no_route))))) in
     let a = total-in n p ps there in
     let b = total-length n ps (λ r le. sym (of-other_first r p ps (λ e. omega (arith, there, le, e))) ∙ h r le) in
     omega (arith, a, b)
@@ -92,10 +92,17 @@ none_behind v w posts items all few is fact eight =
     let f : TotalFact (bus_log (v.got ++ posts) v.made v.known) items = subst (λ u. TotalFact u items) is fact in
     let g : TotalFact v few.0 = few.1 in
     let same = same_length v.made (v.got ++ few.0) ((v.got ++ posts) ++ items) g.orderly f.orderly
-        (λ r lt. g.ended r (omega (arith, all, lt)) ∙ sym (f.ended r (omega (arith, all, lt)))) in
+    (λ r lt. g.ended r (omega (arith, all, lt)) ∙ sym (f.ended r (omega (arith, all, lt)))) in
     let most = g.few in
-    nil_from_length items (omega (arith, same, most, eight, length-append v.got few.0,
-          length-append (v.got ++ posts) items, length-append v.got posts))
+    nil_from_length items (omega (
+      arith,
+      same,
+      most,
+      eight,
+      length-append v.got few.0,
+      length-append (v.got ++ posts) items,
+      length-append v.got posts,
+    ))
 
 pub drained : (v w : Log) (posts items : List Posting) → w ≡ bus_log (v.got ++ posts) v.made v.known →
     TotalFact w items → items ≡ [] → TotalFact (bus_log (v.got ++ posts) v.made v.known) []
@@ -138,10 +145,10 @@ left_of-all : (r : ℕ) (v : BusSide) (posts : List Posting) → left_of r (left
     ≡ (left_of r (map as_left v.boxes) ++ requests_in (of r (option_to_list v.aside))) ++ requests_in (of r posts)
 left_of-all r v posts = left_of-append r (map as_left v.boxes ++ lefts_in (option_to_list v.aside)) (lefts_in posts)
     ∙ ap (λ l. l ++ left_of r (lefts_in posts))
-        (left_of-append r (map as_left v.boxes) (lefts_in (option_to_list v.aside))
-        ∙ ap (λ l. left_of r (map as_left v.boxes) ++ l) (left_of-posts r (option_to_list v.aside)))
+    (left_of-append r (map as_left v.boxes) (lefts_in (option_to_list v.aside))
+    ∙ ap (λ l. left_of r (map as_left v.boxes) ++ l) (left_of-posts r (option_to_list v.aside)))
     ∙ ap (λ l. (left_of r (map as_left v.boxes) ++ requests_in (of r (option_to_list v.aside))) ++ l)
-        (left_of-posts r posts)
+    (left_of-posts r posts)
 
 -- requests behind those of a route that are tied
 
@@ -194,7 +201,7 @@ lawful_more l ws es h known rising =
       ordered = λ t. subst Rises (append_assoc (numbers l.done) (numbers ws) (numbers es)
           ∙ ap (λ z. numbers l.done ++ z) (sym ms))
           (rises-join (numbers l.done ++ numbers ws) (numbers es) (h.ordered t) tail
-              (each-append Below (numbers l.done) (numbers ws) done waits));
+          (each-append Below (numbers l.done) (numbers ws) done waits));
       done_known =
           each_more (Has l.requested) (Has (l.requested ++ es)) l.done (λ e. has-left l.requested es e) h.done_known;
     }
@@ -206,9 +213,9 @@ tied_more : (r : ℕ) (did : BusPast) (old past : RoutePast) (ws es : List Entry
 tied_more r did old past ws es t is rising aborted asked =
     let same : t.lists.requested ++ es ≡ past.requested = ap (λ l. l ++ es) t.requested_is ∙ sym is in
     let known : Each (Has t.lists.requested) ws =
-        subst (λ (l : List Entry). Each (Has l) ws) (sym t.requested_is) t.waiting_known in
+    subst (λ (l : List Entry). Each (Has l) ws) (sym t.requested_is) t.waiting_known in
     let left : (e : Entry) → Has old.requested e → Has past.requested e =
-        λ e has. subst (λ (l : List Entry). Has l e) (sym is) (has-left old.requested es e has) in
+    λ e has. subst (λ (l : List Entry). Has l e) (sym is) (has-left old.requested es e has) in
     record {
       lists = record t.lists { requested = t.lists.requested ++ es };
       requested_is = same;
@@ -218,7 +225,7 @@ tied_more r did old past ws es t is rising aborted asked =
       waiting_known = each-append (Has past.requested) ws es
           (each_more (Has old.requested) (Has past.requested) ws left t.waiting_known)
           (each_in (Has past.requested) es (λ e has. subst (λ (l : List Entry). Has l e) (sym is)
-                (has-right old.requested es e has)));
+          (has-right old.requested es e has)));
       ended = λ n has. ⊎_elim (λ h. inr (aborted n h)) (λ h. inr (asked n h)) (t.ended n has);
       reaped_asked = λ n has. asked n (t.reaped_asked n has);
       starts = λ e has. left e (t.starts e has);
@@ -235,29 +242,29 @@ side_tied v sides left route s did past c at h k =
     let rest = requests_in (of route c.posts) in
     let sent : of route (v.got ++ c.posts) ≡ s.sent = c.all.ended route s at in
     let split : requests_in (of route (v.got ++ c.posts)) ≡ requests_in (of route v.got) ++ rest =
-        ap requests_in (of-append route v.got c.posts) ∙ requests_in-append (of route v.got) (of route c.posts) in
+    ap requests_in (of-append route v.got c.posts) ∙ requests_in-append (of route v.got) (of route c.posts) in
     let requested : past.requested ≡ old.requested ++ (aside ++ rest) =
     k.requested ∙ ap requests_in (sym sent) ∙ split ∙ ap (λ l. l ++ rest) (sym (h.requested route))
-        ∙ append_assoc old.requested aside rest in
+    ∙ append_assoc old.requested aside rest in
     let rising : AreRising past.requested =
-        subst AreRising (ap requests_in sent ∙ sym k.requested) (c.all.orderly.rising route) in
+    subst AreRising (ap requests_in sent ∙ sym k.requested) (c.all.orderly.rising route) in
     let known : (n : ℕ) → Has (aborts_in (of route v.got)) n → Has past.asked n =
-        λ n has. subst (λ (l : List ℕ). Has l n)
+    λ n has. subst (λ (l : List ℕ). Has l n)
     (sym (ap aborts_in (of-append route v.got c.posts) ∙ aborts_in-append (of route v.got) (of route c.posts))
-        ∙ ap aborts_in sent ∙ sym k.asked) (has-left (aborts_in (of route v.got))
-        (aborts_in (of route c.posts)) n has) in
+    ∙ ap aborts_in sent ∙ sym k.asked) (has-left (aborts_in (of route v.got))
+    (aborts_in (of route c.posts)) n has) in
     let Got : ℕ → Type 0 = Has (aborts_in (of route v.got)) in
     let t : RouteTied true route did old (left_of route (map as_left v.boxes)) =
     subst (λ (q : List Waiting). RouteTied true route did old (left_of route (map as_left q))) h.boxes
     (subst (λ b. RouteTied b route did old (left_of route (map as_left h.core.queue))) h.order
-        (plain_tied h.core route did old h.law h.bus (h.stands route))) in
+    (plain_tied h.core route did old h.law h.bus (h.stands route))) in
     let is : left_of route (map as_left v.boxes) ++ (aside ++ rest) ≡ left_of route left =
     sym (append_assoc (left_of route (map as_left v.boxes)) aside rest) ∙ sym (left_of-all route v c.posts)
-        ∙ ap (left_of route) (sym c.left_is) in
+    ∙ ap (left_of route) (sym c.left_is) in
     subst (RouteTied true route did past) is
     (tied_more route did old past (left_of route (map as_left v.boxes)) (aside ++ rest) t requested rising
     (λ n has. known n (each_of Got old.aborted n (h.aborted route) has))
-        (λ n has. known n (each_of Got old.asked n (h.asked route) has)))
+    (λ n has. known n (each_of Got old.asked n (h.asked route) has)))
 
 pub all_tied : (v : BusSide) (sides : List RouteSide) (left : List Left) → IsClosed v sides left →
     AllTied Runs RouteRuns true v sides left
@@ -282,17 +289,17 @@ pub all_beyond : (v : BusSide) (sides : List RouteSide) (left : List Left) → I
     NothingBeyond Runs v.routes v left
 all_beyond v sides left c = λ did h route le.
     let none : lists_of h.core route ≡ no_lists =
-        get_or-beyond h.core.routes route no_lists (let same = h.routes in omega (arith, same, le)) in
+    get_or-beyond h.core.routes route no_lists (let same = h.routes in omega (arith, same, le)) in
     let n = plain_beyond h.core route did h.law h.bus none in
     let gone : of route v.got ++ of route c.posts ≡ [] =
-        sym (of-append route v.got c.posts) ∙ c.all.orderly.beyond route le in
+    sym (of-append route v.got c.posts) ∙ c.all.orderly.beyond route le in
     let boxes : left_of route (map as_left v.boxes) ≡ [] =
-        ap (λ (q : List Waiting). left_of route (map as_left q)) (sym h.boxes) ∙ n.none_left in
+    ap (λ (q : List Waiting). left_of route (map as_left q)) (sym h.boxes) ∙ n.none_left in
     let aside : requests_in (of route (option_to_list v.aside)) ≡ [] =
-        append_none-right (h.asks route).requested (requests_in (of route (option_to_list v.aside)))
+    append_none-right (h.asks route).requested (requests_in (of route (option_to_list v.aside)))
     (h.requested route ∙ ap requests_in (append_none-left (of route v.got) (of route c.posts) gone)) in
     let rest : requests_in (of route c.posts) ≡ [] =
-        ap requests_in (append_none-right (of route v.got) (of route c.posts) gone) in
+    ap requests_in (append_none-right (of route v.got) (of route c.posts) gone) in
     record {
       none_started = n.none_started;
       none_done = n.none_done;
@@ -329,8 +336,18 @@ twelve v posts three eight =
     let b = few_posts (option_to_list v.aside) in
     let c = one_aside v.aside in
     let d = few_posts posts in
-    omega (arith, three, eight, a, b, c, d, length-append (map as_left v.boxes ++ lefts_in (option_to_list v.aside))
-        (lefts_in posts), length-append (map as_left v.boxes) (lefts_in (option_to_list v.aside)))
+    omega (
+      arith,
+      three,
+      eight,
+      a,
+      b,
+      c,
+      d,
+      length-append (map as_left v.boxes ++ lefts_in (option_to_list v.aside))
+          (lefts_in posts),
+      length-append (map as_left v.boxes) (lefts_in (option_to_list v.aside)),
+    )
 
 -- of each route all posts are there
 

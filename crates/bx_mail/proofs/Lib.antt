@@ -6,3 +6,4 @@ pub mod Takes
 pub mod Leaving
 pub mod Begins
 pub mod RouteSides
+pub mod Scheduling

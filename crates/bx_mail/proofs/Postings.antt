@@ -52,7 +52,7 @@ InRange n = (1 ≤ n) × (n ≤ greatest_number)
 pub all_below : (es : List Entry) (k : ℕ) → AreRising es → last_number es < k → Each (λ y. y < k) (numbers es)
 all_below es k h above =
     (below_last es 0 k h.rises above (each_more InRange (λ y. 0 < y) (numbers es)
-      (λ y (i : InRange y). i.0) h.in_range)).1
+    (λ y (i : InRange y). i.0) h.in_range)).1
 
 rising-more : (es : List Entry) (e : Entry) → AreRising es → last_number es < e.number → e.number ≤ greatest_number →
     AreRising (es ++ e ∷ [])

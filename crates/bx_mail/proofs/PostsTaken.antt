@@ -30,7 +30,8 @@ use Rattle.bx_mail.specs.Postings.{of, request_by, requests_in, abort_by, aborts
 use Rattle.bx_mail.specs.Sides.{BusSide, Runs}
 use Rattle.bx_mail.proofs.Postings.{of-append, of-own, of-other, requests_in-append, aborts_in-append}
 use Rattle.bx_mail.proofs.Relays.{put, put-same, put-other}
-use Rattle.bx_mail.proofs.BusSides.{mail, Becomes, sends_now}
+use Rattle.bx_mail.proofs.Scheduling.{mail}
+use Rattle.bx_mail.proofs.Scheduling.{Becomes, sends_now}
 
 pub put-each : (Q : ℕ → RoutePast → Type 0) (f : ℕ → RoutePast) (r : ℕ) (x : RoutePast) → Q r x →
     ((k : ℕ) → k ≢ r → Q k (f k)) → (k : ℕ) → Q k (put f r x k)
@@ -49,7 +50,7 @@ more_aborts : (r : ℕ) (got : List Posting) (p : Posting) (ns : List ℕ) → E
     Each (Has (aborts_in (of r (got ++ p ∷ [])))) ns
 more_aborts r got p ns h = each_more (Has (aborts_in (of r got))) (Has (aborts_in (of r (got ++ p ∷ [])))) ns
     (λ n has. subst (λ (l : List ℕ). Has l n) (sym (more_posts r got p))
-        (has-left (aborts_in (of r got)) (aborts_in (of r (p ∷ []))) n has)) h
+    (has-left (aborts_in (of r got)) (aborts_in (of r (p ∷ []))) n has)) h
 
 more_requests : (r : ℕ) (got : List Posting) (p : Posting) → requests_in (of r (got ++ p ∷ [])) ≡ requests_in (of r got)
     ++ requests_in (of r (p ∷ []))
@@ -63,9 +64,9 @@ not_nothing (y ∷ ys) x e = let h : y ∷ (ys ++ x ∷ []) ≡ [] = e in cc
 route_there : (n : ℕ) (got : List Posting) (p : Posting) → AreOrderly n (got ++ p ∷ []) → p.route < n
 route_there n got p o = dite (dec_le (suc p.route) n) (λ h. h)
     (λ h. absurd
-        (not_nothing (of p.route got) p
-          (sym (of-append p.route got (p ∷ []) ∙ ap (λ ps. of p.route got ++ ps) (of-own p.route p refl))
-            ∙ o.beyond p.route (omega (arith, h)))))
+    (not_nothing (of p.route got) p
+    (sym (of-append p.route got (p ∷ []) ∙ ap (λ ps. of p.route got ++ ps) (of-own p.route p refl))
+    ∙ o.beyond p.route (omega (arith, h)))))
 
 -- a request is taken: it is kept aside
 
@@ -117,10 +118,13 @@ aborts-found s r n l there (Some w) is = by_test w.abort_asked refl (is_transmit
     by_test : (a : Bool) → w.abort_asked ≡ a → (b : Bool) → is_transmitting w.status ≡ b →
         AbortsTo s r n
         (cond a s.queue (cond b (set s.queue (at_of s w) (record w { abort_asked = true }))
-              (remove s.queue (at_of s w))))
-    by_test true asked b sends =
-        (s, Asked, (w, of_number_has r n s.queue w is, of_number_is r n s.queue w is, inl (asked, refl)),
-        record { law = l; claims = refl; queue = refl })
+        (remove s.queue (at_of s w))))
+    by_test true asked b sends = (
+      s,
+      Asked,
+      (w, of_number_has r n s.queue w is, of_number_is r n s.queue w is, inl (asked, refl)),
+      record { law = l; claims = refl; queue = refl },
+    )
     by_test false asked true sends =
         let has = of_number_has r n s.queue w is in
         let own = of_number_is r n s.queue w is in
@@ -128,10 +132,17 @@ aborts-found s r n l there (Some w) is = by_test w.abort_asked refl (is_transmit
         let t : State = with_waiting s (at_of s w) (record w { abort_asked = true }) in
         let goes = goes-ask s r w at own.route_is asked sends in
         let m = (each_of (λ (y : Waiting). y.mailbox < 3) s.queue w
-            (each_more _ (λ (y : Waiting). y.mailbox < 3) s.queue (λ y p. p.mailbox) l.in_place) has) in
-        (t, Asked, (w, has, own, inr (sends, goes)),
-            record { law = (keeps-after s t (Aborts_event r w.mailbox) (there, m) goes l).0; claims = refl; queue =
-              refl })
+        (each_more _ (λ (y : Waiting). y.mailbox < 3) s.queue (λ y p. p.mailbox) l.in_place) has) in (
+          t,
+          Asked,
+          (w, has, own, inr (sends, goes)),
+          record {
+            law = (keeps-after s t (Aborts_event r w.mailbox) (there, m) goes l).0;
+            claims = refl;
+            queue =
+                refl;
+          },
+        )
     by_test false asked false sends =
         let has = of_number_has r n s.queue w is in
         let own = of_number_is r n s.queue w is in
@@ -139,10 +150,17 @@ aborts-found s r n l there (Some w) is = by_test w.abort_asked refl (is_transmit
         let t : State = without s (at_of s w) w.route (aborted_lists (lists_of s w.route) w) in
         let goes = goes-end s r w at own.route_is asked sends in
         let m = (each_of (λ (y : Waiting). y.mailbox < 3) s.queue w
-            (each_more _ (λ (y : Waiting). y.mailbox < 3) s.queue (λ y p. p.mailbox) l.in_place) has) in
-        (t, Ended, (w, has, own, sends, goes),
-            record { law = (keeps-after s t (Aborts_event r w.mailbox) (there, m) goes l).0; claims = refl; queue =
-              refl })
+        (each_more _ (λ (y : Waiting). y.mailbox < 3) s.queue (λ y p. p.mailbox) l.in_place) has) in (
+          t,
+          Ended,
+          (w, has, own, sends, goes),
+          record {
+            law = (keeps-after s t (Aborts_event r w.mailbox) (there, m) goes l).0;
+            claims = refl;
+            queue =
+                refl;
+          },
+        )
 
 aborts-core : (s : State) (r n : ℕ) (q : List Waiting) → Law s → r < length s.routes → s.queue ≡ q →
     AbortsTo s r n (aborted_of r n q)
@@ -166,7 +184,7 @@ abort_there : (got : List Posting) (p : Posting) → p.what ≡ Abort →
     Has (aborts_in (of p.route (got ++ p ∷ []))) p.number
 abort_there got p is = subst (λ (l : List ℕ). Has l p.number)
     (sym (more_posts p.route got p ∙ ap (λ ps. aborts_in (of p.route got) ++ aborts_in ps) (of-own p.route p refl)
-      ∙ ap (λ a. aborts_in (of p.route got) ++ (abort_by p.number a ++ [])) is))
+    ∙ ap (λ a. aborts_in (of p.route got) ++ (abort_by p.number a ++ [])) is))
     (has-last (aborts_in (of p.route got)) p.number)
 
 no_request : (r : ℕ) (p : Posting) → p.what ≡ Abort → requests_in (of r (p ∷ [])) ≡ []
@@ -206,13 +224,13 @@ takes-abort v p o is past h =
       stands = put-each (RouteStands t) h.asks r a own.1 (λ i ne. k.others i ne (h.asks i) (h.stands i));
       asked = put-each (λ i (x : RoutePast). Each (Has (aborts_in (of i got))) x.asked) h.asks r a
           (each-append (Has (aborts_in (of r got))) (h.asks r).asked (if_asked answer own.0 n)
-              (more_aborts r v.got p (h.asks r).asked (h.asked r))
-              (each_asked (Has (aborts_in (of r got))) answer own.0 n (abort_there v.got p is)))
+          (more_aborts r v.got p (h.asks r).asked (h.asked r))
+          (each_asked (Has (aborts_in (of r got))) answer own.0 n (abort_there v.got p is)))
           (λ i ne. more_aborts i v.got p (h.asks i).asked (h.asked i));
       aborted = put-each (λ i (x : RoutePast). Each (Has (aborts_in (of i got))) x.aborted) h.asks r a
           (each-append (Has (aborts_in (of r got))) (h.asks r).aborted (if_ended answer n)
-              (more_aborts r v.got p (h.asks r).aborted (h.aborted r))
-              (each_ended (Has (aborts_in (of r got))) answer n (abort_there v.got p is)))
+          (more_aborts r v.got p (h.asks r).aborted (h.aborted r))
+          (each_ended (Has (aborts_in (of r got))) answer n (abort_there v.got p is)))
           (λ i ne. more_aborts i v.got p (h.asks i).aborted (h.aborted i));
       requested = put-each (λ i (x : RoutePast). x.requested ++ requests_in (of i (option_to_list v.aside))
           ≡ requests_in (of i got)) h.asks r a
@@ -225,8 +243,8 @@ pub aborts-sends : (v : BusSide) (p : Posting) → AreOrderly v.routes (v.got ++
     Runs v past → on_bus_now (aborted_of p.route p.number v.boxes) ≡ on_bus_now v.boxes
 aborts-sends v p o past h =
     let there : p.route < length h.core.routes =
-        subst (λ i. p.route < i) (sym h.routes) (route_there v.routes v.got p o) in
+    subst (λ i. p.route < i) (sym h.routes) (route_there v.routes v.got p o) in
     let c = aborts-core h.core p.route p.number v.boxes h.law there h.boxes in
     let k = aborts-keeps (mail h.core) (mail c.0) p.route p.number c.1 h.law there c.2 refl in
     sym (sends_now c.0 (aborted_of p.route p.number v.boxes) c.3.law (k.priority ∙ h.order) c.3.queue) ∙ k.sends
-        ∙ sends_now h.core v.boxes h.law h.order h.boxes
+    ∙ sends_now h.core v.boxes h.law h.order h.boxes

@@ -73,12 +73,24 @@ sent_on l m side v seat sent made k =
 pub begins : Delivers [] (bus_log [] 0 [] ∷ [])
 begins =
     let l : Ledger = record { reader = 0; seat = λ r. None; sent = λ r. []; got = []; made = 0 } in
-    let first : Knows l 0 (bus_log [] 0 []) = ((λ s. absurd (not_true s)),
-        λ g. record { reader = refl; got = refl; made = refl; unmade = λ r le. refl;
-          ended = λ r lt. absurd (omega (arith, lt)) }) in (
+    let first : Knows l 0 (bus_log [] 0 []) = (
+      (λ s. absurd (not_true s)),
+      λ g. record {
+        reader = refl;
+        got = refl;
+        made = refl;
+        unmade = λ r le. refl;
+        ended = λ r lt. absurd (omega (arith, lt));
+      },
+    ) in (
       l,
-      record { whole = λ r. refl; rising = λ r. record { rises = tt; in_range = tt }; beyond = λ r le. refl; few =
-          lit≤ tt },
+      record {
+        whole = λ r. refl;
+        rising = λ r. record { rises = tt; in_range = tt };
+        beyond = λ r le. refl;
+        few =
+            lit≤ tt;
+      },
       all_snoc (Knows l) [] (bus_log [] 0 []) (λ j u e. absurd (some-ne-none u (sym e))) first,
     )
 
@@ -101,7 +113,7 @@ posted-whole : (l : Ledger) (items : List Posting) (x : Posting) (from : ℕ) (s
 posted-whole l items x from sent own is b r =
     let before : of r (l.got ++ (items ++ x ∷ [])) ≡ l.sent r ++ of r (x ∷ []) =
     ap (of r) (sym (append_assoc l.got items (x ∷ []))) ∙ of-append r (l.got ++ items) (x ∷ [])
-        ∙ ap (λ ps. ps ++ of r (x ∷ [])) (b.whole r) in
+    ∙ ap (λ ps. ps ++ of r (x ∷ [])) (b.whole r) in
     elim (eqb_tells r from) [
       | inl same ↦ before ∙ ap (λ ps. l.sent r ++ ps) (of-own r x (own ∙ sym same.1))
           ∙ ap (λ ps. ps ++ x ∷ []) (ap l.sent same.1 ∙ sym is) ∙ sym (put-same l.sent from (sent ++ x ∷ []) r same.1)
@@ -135,24 +147,28 @@ posts_one n side v x eight may own follows items views room h at =
           λ r le. put-other l.sent v.from sent r (λ e. (let t = k.there in omega (arith, t, le, e))) ∙ b.beyond r le;
       few = omega (arith, length-append items (x ∷ []), room, eight);
     } in
-    let mine : Knows m side w =
-        ((λ s. record { seat = k.seat; sent = sym (put-same l.sent v.from sent v.from refl); there = k.there }),
-        λ g. absurd (not_true g)) in
+    let mine : Knows m side w = (
+      (λ s. record { seat = k.seat; sent = sym (put-same l.sent v.from sent v.from refl); there = k.there }),
+      λ g. absurd (not_true g),
+    ) in
     let others : (j : ℕ) (u : Log) → j ≢ side → get_elem? views j ≡ some u → Knows m j u = λ j u other e. (
       (λ s. let t : KnowsSent l j u = (h.2 j u e).0 s in
           sent_on l m j u refl
-              (put-other l.sent v.from sent u.from
-              (λ same. other (same_seat j side (sym t.seat ∙ ap l.seat same ∙ k.seat)))) (omega arith) t),
+          (put-other l.sent v.from sent u.from
+          (λ same. other (same_seat j side (sym t.seat ∙ ap l.seat same ∙ k.seat)))) (omega arith) t),
       λ g. let t : KnowsGot l j u = (h.2 j u e).1 g in
           record {
             reader = t.reader;
             got = t.got;
             made = t.made;
             unmade = t.unmade;
-            ended = λ r lt. ((t.ended r lt).0, (t.ended r lt).1
-                ∙ sym
-                (put-other l.sent v.from sent r
-                  (λ same. no_seat side (sym k.seat ∙ sym (ap l.seat same) ∙ (t.ended r lt).0))));
+            ended = λ r lt. (
+              (t.ended r lt).0,
+              (t.ended r lt).1
+                  ∙ sym
+                  (put-other l.sent v.from sent r
+                  (λ same. no_seat side (sym k.seat ∙ sym (ap l.seat same) ∙ (t.ended r lt).0))),
+            );
           },
     ) in
     (w, (m, balances, all_set (Knows m) views side w mine others), refl)
@@ -176,9 +192,16 @@ takes_one side v may x items views h at =
       beyond = b.beyond;
       few = (let f = b.few in omega (arith, f));
     } in
-    let mine : Knows m side w = ((λ s. absurd (not_true s)),
-        λ g. record { reader = k.reader; got = ap (λ ps. ps ++ x ∷ []) k.got; made = k.made; unmade = k.unmade;
-          ended = k.ended }) in
+    let mine : Knows m side w = (
+      (λ s. absurd (not_true s)),
+      λ g. record {
+        reader = k.reader;
+        got = ap (λ ps. ps ++ x ∷ []) k.got;
+        made = k.made;
+        unmade = k.unmade;
+        ended = k.ended;
+      },
+    ) in
     let others : (j : ℕ) (u : Log) → j ≢ side → get_elem? views j ≡ some u → Knows m j u = λ j u other e. (
       (λ s. sent_on l m j u refl refl (omega arith) ((h.2 j u e).0 s)),
       λ g. let t : KnowsGot l j u = (h.2 j u e).1 g in absurd (other (t.reader ∙ sym k.reader)),
@@ -211,7 +234,7 @@ forks side v may none items views h at =
     let vs : List Log = set views side left in
     let m : Ledger = record l { seat = put l.seat l.made (Some (length vs)); made = l.made + 1 } in
     let balances : Balances m items =
-        record { whole = b.whole; rising = b.rising; beyond = λ r le. b.beyond r (omega (arith, le)); few = b.few } in
+    record { whole = b.whole; rising = b.rising; beyond = λ r le. b.beyond r (omega (arith, le)); few = b.few } in
     let mine : Knows m side left = (
       (λ s. absurd (not_true s)),
       λ g. record {
@@ -226,7 +249,7 @@ forks side v may none items views h at =
     let others : (j : ℕ) (u : Log) → j ≢ side → get_elem? views j ≡ some u → Knows m j u = λ j u other e. (
       (λ s. let t : KnowsSent l j u = (h.2 j u e).0 s in
           sent_on l m j u (put-other l.seat l.made (Some (length vs)) u.from
-              (λ e. (let h = t.there in omega (arith, h, e)))) refl (omega arith) t),
+          (λ e. (let h = t.there in omega (arith, h, e)))) refl (omega arith) t),
       λ g. let t : KnowsGot l j u = (h.2 j u e).1 g in absurd (other (t.reader ∙ sym k.reader)),
     ) in
     let new : Knows m (length vs) right = (
@@ -255,8 +278,11 @@ ended-more : (l : Ledger) (known : List (List Posting)) (from : ℕ) (sent : Lis
     (r : ℕ) → r < length (known ++ sent ∷ []) → (put l.seat from None r ≡ None)
     × (get_or (known ++ sent ∷ []) r [] ≡ l.sent r)
 ended-more l known from sent is same old r lt = elim (eqb_tells r from) [
-  | inl e ↦ (put-same l.seat from None r e.1, ap (λ i. get_or (known ++ sent ∷ []) i []) (e.1 ∙ is)
-      ∙ index-last known sent [] ∙ same ∙ ap l.sent (sym e.1))
+  | inl e ↦ (
+    put-same l.seat from None r e.1,
+    ap (λ i. get_or (known ++ sent ∷ []) i []) (e.1 ∙ is)
+        ∙ index-last known sent [] ∙ same ∙ ap l.sent (sym e.1),
+  )
   | inr e ↦
       (let near : r < length known = (let ne = e.1 in omega (arith, lt, length-append known (sent ∷ []), is, ne)) in
       (put-none l.seat from r (old r near).0, index-left known sent [] r near ∙ (old r near).1))
@@ -271,7 +297,7 @@ merges side v other u may sends next items views h at two at' =
     let both : Log = bus_log v.got v.made (v.known ++ u.sent ∷ []) in
     let vs : List Log = set views side both in
     let was : get_elem? views other ≡ some u =
-        ⊎_elim (λ x. absurd (two x.0)) (λ x. x.1) (at_set views side other both u at') in
+    ⊎_elim (λ x. absurd (two x.0)) (λ x. x.1) (at_set views side other both u at') in
     let t : KnowsSent l other u = (h.2 other u was).0 sends in
     let m : Ledger = record l { seat = put l.seat u.from None } in
     let balances : Balances m items = record { whole = b.whole; rising = b.rising; beyond = b.beyond; few = b.few } in
@@ -289,9 +315,12 @@ merges side v other u may sends next items views h at two at' =
     let now : All Now vs = all_set Now views side both (λ _. mine) (λ j y apart e ne. (
       (λ s. let q : KnowsSent l j y = (h.2 j y e).0 s in
           sent_on l m j y
-              (put-other l.seat u.from None y.from
-              (λ same. ne (same_seat j other (sym q.seat ∙ ap l.seat same ∙ t.seat)))) refl (omega arith) q),
+          (put-other l.seat u.from None y.from
+          (λ same. ne (same_seat j other (sym q.seat ∙ ap l.seat same ∙ t.seat)))) refl (omega arith) q),
       λ g. let q : KnowsGot l j y = (h.2 j y e).1 g in absurd (apart (q.reader ∙ sym k.reader)),
-    )) in
-    (m, balances, all_set (Knows m) vs other idle_log ((λ s. absurd (not_true s)), λ g. absurd (not_true g))
-        (λ j y apart e. now j y e apart))
+    )) in (
+      m,
+      balances,
+      all_set (Knows m) vs other idle_log ((λ s. absurd (not_true s)), λ g. absurd (not_true g))
+          (λ j y apart e. now j y e apart),
+    )

@@ -34,21 +34,24 @@ pub was_posted : (v : RouteSide) (queue table : TableId) (u n : Log) (route numb
     IsPosted v number what true (side table route n)
 was_posted v queue table u n route number what e same is =
     let moved : side table route n ≡ posted (side queue route u) number what =
-        (λ i. record { queue = same i; route = route; sent = (is i).sent }) in
+    (λ i. record { queue = same i; route = route; sent = (is i).sent }) in
     moved ∙ ap (λ (s : RouteSide). posted s number what) e
 
 held_last : (v : RouteSide) (queue : TableId) (u : Log) (route cap : ℕ) → side queue route u ≡ v → u.from ≡ route →
     cap ≡ 8 → Held cap (SentFact u) → Held 8 (AreLastOf v)
 held_last v queue u route cap e own eight h =
-    subst (λ (s : RouteSide). Held 8 (AreLastOf s)) e (h.0, h.1 ∙ eight,
-        (h.2.0, h.2.1 ∙ ap (λ r. of r (h.2.0 ++ h.0)) own))
+    subst (λ (s : RouteSide). Held 8 (AreLastOf s)) e (
+      h.0,
+      h.1 ∙ eight,
+      (h.2.0, h.2.1 ∙ ap (λ r. of r (h.2.0 ++ h.0)) own),
+    )
 
 pub was_full : (v : RouteSide) (queue table : TableId) (u n : Log) (route number cap : ℕ) (what : Asks) →
     side queue route u ≡ v → table ≡ queue → n ≡ u → u.from ≡ route → cap ≡ 8 → Held cap (SentFact u) →
     IsPosted v number what false (side table route n)
 was_full v queue table u n route number cap what e same is own eight h =
     let moved : side table route n ≡ side queue route u =
-        (λ i. record { queue = same i; route = route; sent = (is i).sent }) in
+    (λ i. record { queue = same i; route = route; sent = (is i).sent }) in
     (moved ∙ e, held_last v queue u route cap e own eight h)
 
 -- the past after a post

@@ -27,7 +27,7 @@ use Rattle.bx_core.proofs.Queues.{count_at-none, two_at_most}
 use Rattle.bx_core.proofs.Leads.{goes-request}
 use Rattle.bx_core.proofs.Empties.{goes-claim}
 use Rattle.bx_core.proofs.Reaches.{keeps-after}
-use Rattle.bx_core.proofs.RouteSide.{requests-own, requests-keeps}
+use Rattle.bx_core.proofs.Requesting.{requests-own, requests-keeps}
 use Rattle.bx_mail.specs.declared.posting.Posting.{Posting}
 use Rattle.bx_mail.specs.declared.posting.Asks.{Asks}
 use Rattle.bx_mail.specs.declared.posting.Asks.TheVariants.{Transmit, Abort}
@@ -36,7 +36,7 @@ use Rattle.bx_mail.specs.Postings.{of, request_by, requests_in, aborts_in, AreRi
 use Rattle.bx_mail.specs.Sides.{BusSide, Runs}
 use Rattle.bx_mail.proofs.Postings.{of-own, of-other, InRange}
 use Rattle.bx_mail.proofs.Relays.{put}
-use Rattle.bx_mail.proofs.BusSides.{mail}
+use Rattle.bx_mail.proofs.Scheduling.{mail}
 use Rattle.bx_mail.proofs.PostsTaken.{put-each, not_nothing}
 
 -- a request goes into a mailbox
@@ -96,15 +96,21 @@ seats-core s r n f m l free there low above most =
     let t : State = with_request u r m n f in
     let empty : IsEmpty s m = record { unclaimed = c.1; unrequested = low.free } in
     let lowest : IsLowestEmpty s m =
-        record { within = low.within; empty = empty; lowest = λ k lt e. low.lowest k lt e.unrequested } in
+    record { within = low.within; empty = empty; lowest = λ k lt e. low.lowest k lt e.unrequested } in
     let claims = goes-claim s r m empty in
     let lu : Law u = (keeps-after s u (Claim r m) (there, low.within) claims l).0 in
     let own : is_claim_of (claim_of u m) r ≡ true = ap (λ (o : Option ℕ). is_claim_of o r) c.2 ∙ eq-eqb r r refl in
     let may : may_follow u r n ≡ true =
-        rw (lt-ltb (last_number (lists_of s r).requested) n above, le-leb n greatest_number most) refl in
-    let asks = goes-request u r m n f own may in
-    (t, record { law = (keeps-after u t (Request r m n f) (there, low.within) asks lu).0; queue = refl; free = c.0;
-          requests = (refl, m, u, lowest, claims, asks) })
+    rw (lt-ltb (last_number (lists_of s r).requested) n above, le-leb n greatest_number most) refl in
+    let asks = goes-request u r m n f own may in (
+      t,
+      record {
+        law = (keeps-after u t (Request r m n f) (there, low.within) asks lu).0;
+        queue = refl;
+        free = c.0;
+        requests = (refl, m, u, lowest, claims, asks);
+      },
+    )
 
 -- the last of requests that rise is above the others
 last_below : (es : List Entry) (n k : ℕ) → n < k → Each (λ y. y < k) (numbers es) → last_of n es < k
@@ -120,9 +126,10 @@ last-rising : (es : List Entry) (e : Entry) → AreRising (es ++ e ∷ []) → (
 last-rising es e h =
     let ns : numbers (es ++ e ∷ []) ≡ numbers es ++ e.number ∷ [] = map-append (λ (x : Entry). x.number) es (e ∷ []) in
     let range : InRange e.number = each_of InRange (numbers es ++ e.number ∷ []) e.number
-        (subst (Each InRange) ns h.in_range) (has-last (numbers es) e.number) in
-    (last_below es 0 e.number (omega (arith, range.0)) (rises_last (numbers es) e.number (subst Rises ns h.rises)),
-        range.1)
+    (subst (Each InRange) ns h.in_range) (has-last (numbers es) e.number) in (
+      last_below es 0 e.number (omega (arith, range.0)) (rises_last (numbers es) e.number (subst Rises ns h.rises)),
+      range.1,
+    )
 
 own_request : (p : Posting) (f : FrameValue) → p.what ≡ Transmit f →
     requests_in (of p.route (p ∷ [])) ≡ record { number = p.number; frame = f } ∷ []
@@ -137,18 +144,18 @@ seats-run v p f m held is low past h =
     let e : Entry = record { number = n; frame = f } in
     let all : (h.asks r).requested ++ e ∷ [] ≡ requests_in (of r v.got) =
     ap (λ es. (h.asks r).requested ++ es) (sym (own_request p f is))
-        ∙ ap (λ (a : Option Posting). (h.asks r).requested ++ requests_in (of r (option_to_list a))) (sym held)
-        ∙ h.requested r in
+    ∙ ap (λ (a : Option Posting). (h.asks r).requested ++ requests_in (of r (option_to_list a))) (sym held)
+    ∙ h.requested r in
     let there : r < length h.core.routes = dite (dec_le (suc r) (length h.core.routes)) (λ lt. lt)
     (λ no_room. (let same = h.routes in
-          absurd
-          (not_nothing (h.asks r).requested e
-            (all ∙ ap requests_in (h.orderly.beyond r (omega (arith, no_room, same))))))) in
+    absurd
+    (not_nothing (h.asks r).requested e
+    (all ∙ ap requests_in (h.orderly.beyond r (omega (arith, no_room, same))))))) in
     let last = last-rising (h.asks r).requested e (subst AreRising (sym all) (h.orderly.rising r)) in
     let above : last_number (lists_of h.core r).requested < n =
-        subst (λ (es : List Entry). last_number es < n) (h.stands r).requested_is last.0 in
+    subst (λ (es : List Entry). last_number es < n) (h.stands r).requested_is last.0 in
     let c = seats-core h.core r n f m h.law h.free there
-        (subst (λ (q : List Waiting). IsLowestFree q m) (sym h.boxes) low) above last.1 in
+    (subst (λ (q : List Waiting). IsLowestFree q m) (sym h.boxes) low) above last.1 in
     let t = c.0 in
     let k = requests-keeps (mail h.core) (mail t) r n f Yes there c.1.requests in
     let a : RoutePast = after_request (h.asks r) n f (Ok Yes) in
@@ -171,8 +178,8 @@ seats-run v p f m held is low past h =
       requested = put-each (λ i (x : RoutePast). x.requested ++ [] ≡ requests_in (of i v.got)) h.asks r a
           (append-nil ((h.asks r).requested ++ e ∷ []) ∙ all)
           (λ i ne. ap (λ es. (h.asks i).requested ++ es) (sym (ap requests_in (of-other i p (λ same. ne (sym same)))))
-              ∙ ap (λ (o : Option Posting). (h.asks i).requested ++ requests_in (of i (option_to_list o))) (sym held)
-              ∙ h.requested i);
+          ∙ ap (λ (o : Option Posting). (h.asks i).requested ++ requests_in (of i (option_to_list o))) (sym held)
+          ∙ h.requested i);
       orderly = h.orderly;
       aside = tt;
     }

@@ -95,7 +95,8 @@ impl PostBus {
 }
 
 impl<R: Wait> TxBus<R> for PostBus {
-    ghost use Rattle.std.specs.Prelude.{◌≡◌, ◌++◌, List, [], ◌∷◌, Option, Some, None, IsSome, IfSome, IfNone, option_map};
+    ghost use Rattle.std.specs.Prelude.{◌≡◌, ◌++◌, List, [], ◌∷◌, Option, Some, None, IsSome};
+    ghost use Rattle.std.specs.Prelude.{IfSome, IfNone, option_map};
     ghost use Rattle.bx_core.specs.TxBus.{Item, BusPast, IsUndone, label_of, after_start, after_complete, after_fail};
     ghost use Rattle.bx_core.specs.TxBus.{BusCall, asked_ready, asked_start};
     ghost use Rattle.bx_mail.specs.Boxes.{on_bus_now, may_start_first, starting, left_first, failed_first, reaping};

@@ -83,7 +83,7 @@ best-unmatched banks frame n best bank at none h =
 first_in_bank : (banks : List BankValue) (frame : FrameValue) (n place : ℕ) (bank : BankValue) →
     slice_get banks n ≡ Some bank → IsFirstMatch bank frame (Some place)
     → (q : Placed) → q.number ≡ n → IsMatching banks frame q →
-        ¬ (Precedes q (record { number = n; bank = bank; place = place }))
+    ¬ (Precedes q (record { number = n; bank = bank; place = place }))
 first_in_bank banks frame n place bank at first q e m before = by_rank before
   where
     same : q.bank ≡ bank
@@ -92,8 +92,10 @@ first_in_bank banks frame n place bank at first q e m before = by_rank before
     by_rank : ¬ (Precedes q (record { number = n; bank = bank; place = place }))
     by_rank (inl (inl x)) = apart-scale (sym x.1 ∙ ap (λ (b : BankValue). b.scale) (sym same) ∙ x.0)
     by_rank (inl (inr x)) = apart-mode (sym x.2 ∙ ap (λ (b : BankValue). b.mode) (sym same) ∙ x.1)
-    by_rank (inr x) = elim x.2 as (λ _. ⊥) [ inl y ↦ absurd (omega arith)
-        | inr y ↦ first.1 q.place y.1 (subst (λ b. MatchesAt b frame q.place) same m.matches) ]
+    by_rank (inr x) = elim x.2 as (λ _. ⊥) [
+      | inl y ↦ absurd (omega arith)
+      | inr y ↦ first.1 q.place y.1 (subst (λ b. MatchesAt b frame q.place) same m.matches)
+    ]
 
 pub best-first : (banks : List BankValue) (frame : FrameValue) (n place : ℕ) (bank : BankValue) →
     slice_get banks n ≡ Some bank → bank.active ≡ true → IsFirstMatch bank frame (Some place) →
@@ -103,21 +105,25 @@ best-first banks frame n place bank at on first h = (
   refl,
   omega arith,
   record { stands = at; active = on; matches = first.0 },
-  λ q l m p. elim (below_or_at n q.number l) as (λ _. ⊥) [ inl x ↦ h q x m
-      | inr x ↦ first_in_bank banks frame n place bank at first q x m p ],
+  λ q l m p. elim (below_or_at n q.number l) as (λ _. ⊥) [
+    | inl x ↦ h q x m
+    | inr x ↦ first_in_bank banks frame n place bank at first q x m p
+  ],
 )
 
 pub best-better : (banks : List BankValue) (frame : FrameValue) (n place : ℕ) (bank kept : BankValue) (found : ℕ × ℕ) →
     slice_get banks n ≡ Some bank → bank.active ≡ true → IsFirstMatch bank frame (Some place)
     → slice_get banks found.0 ≡ Some kept → Outranks bank kept → IsBest banks frame n (Some found) →
-        IsBest banks frame (n + 1) (Some (n, place))
+    IsBest banks frame (n + 1) (Some (n, place))
 best-better banks frame n place bank kept found at on first there above h = (
   record { number = n; bank = bank; place = place },
   refl,
   omega arith,
   record { stands = at; active = on; matches = first.0 },
-  λ q l m p. elim (below_or_at n q.number l) as (λ _. ⊥) [ inl x ↦ h.4 q x m (inl (over q p))
-      | inr x ↦ first_in_bank banks frame n place bank at first q x m p ],
+  λ q l m p. elim (below_or_at n q.number l) as (λ _. ⊥) [
+    | inl x ↦ h.4 q x m (inl (over q p))
+    | inr x ↦ first_in_bank banks frame n place bank at first q x m p
+  ],
 )
   where
     same : kept ≡ h.0.bank
@@ -130,7 +136,7 @@ best-better banks frame n place bank kept found at on first there above h = (
 pub best-kept : (banks : List BankValue) (frame : FrameValue) (n : ℕ) (bank kept : BankValue) (found : ℕ × ℕ) →
     slice_get banks n ≡ Some bank
     → slice_get banks found.0 ≡ Some kept → ¬ (Outranks bank kept) → IsBest banks frame n (Some found) →
-        IsBest banks frame (n + 1) (Some found)
+    IsBest banks frame (n + 1) (Some found)
 best-kept banks frame n bank kept found at there below h = (
   h.0,
   h.1,
@@ -175,16 +181,16 @@ module _ (banks : List BankValue) (frame : FrameValue) (n : ℕ) (d : BankValue)
       IsBest banks frame n best → IsBest banks frame (n + 1) after
   step-unmatched best after e none h =
       subst (IsBest banks frame (n + 1)) (sym e)
-          (best-unmatched banks frame n best bank (slice_get-get_or banks n d within)
-          (seen bank frame wide narrow None is_wide is_narrow none) h)
+      (best-unmatched banks frame n best bank (slice_get-get_or banks n d within)
+      (seen bank frame wide narrow None is_wide is_narrow none) h)
 
   pub step-first : (place : ℕ) (best after : Option (ℕ × ℕ)) → best ≡ None → after ≡ Some (n, place) →
       bank.active ≡ true → SeesFirst bank wide narrow (Some place) → IsBest banks frame n best →
       IsBest banks frame (n + 1) after
   step-first place best after none e on first h =
       subst (IsBest banks frame (n + 1)) (sym e)
-          (best-first banks frame n place bank (slice_get-get_or banks n d within) on
-          (seen bank frame wide narrow (Some place) is_wide is_narrow first) (subst (IsBest banks frame n) none h))
+      (best-first banks frame n place bank (slice_get-get_or banks n d within) on
+      (seen bank frame wide narrow (Some place) is_wide is_narrow first) (subst (IsBest banks frame n) none h))
 
   kept_within : (kept at : ℕ) → IsBest banks frame n (Some (kept, at)) → kept < length banks
   kept_within kept at h = let e = ap (λ (f : ℕ × ℕ). f.0) h.1 in let l = h.2 in omega arith
@@ -194,8 +200,8 @@ module _ (banks : List BankValue) (frame : FrameValue) (n : ℕ) (d : BankValue)
       → Outranks bank (get_or banks kept o) → IsBest banks frame n best → IsBest banks frame (n + 1) after
   step-better place kept at best after o some e on first above h = let h' = subst (IsBest banks frame n) some h in
       subst (IsBest banks frame (n + 1)) (sym e)
-          (best-better banks frame n place bank (get_or banks kept o) (kept, at) (slice_get-get_or banks n d within) on
-          (seen bank frame wide narrow (Some place) is_wide is_narrow first)
+      (best-better banks frame n place bank (get_or banks kept o) (kept, at) (slice_get-get_or banks n d within) on
+      (seen bank frame wide narrow (Some place) is_wide is_narrow first)
       (slice_get-get_or banks kept o (kept_within kept at h')) above h')
 
   pub step-kept : (kept at : ℕ) (best after : Option (ℕ × ℕ)) (o : BankValue) → best ≡ Some (kept, at) →
@@ -203,8 +209,8 @@ module _ (banks : List BankValue) (frame : FrameValue) (n : ℕ) (d : BankValue)
       IsBest banks frame (n + 1) after
   step-kept kept at best after o some e none h = let h' = subst (IsBest banks frame n) some h in
       subst (IsBest banks frame (n + 1)) (sym e)
-          (best-kept banks frame n bank (get_or banks kept o) (kept, at) (slice_get-get_or banks n d within)
-          (slice_get-get_or banks kept o (kept_within kept at h')) none h')
+      (best-kept banks frame n bank (get_or banks kept o) (kept, at) (slice_get-get_or banks n d within)
+      (slice_get-get_or banks kept o (kept_within kept at h')) none h')
 
 -- the best filter is of one of the banks
 pub found_number : (banks : List BankValue) (frame : FrameValue) (n place : ℕ) →
@@ -219,14 +225,14 @@ found-none banks frame all h p m = h p (let w = slice_get_within banks p.number 
 pub found-best : (banks : List BankValue) (frame : FrameValue) (n place fifo count : ℕ) (bank : BankValue) →
     length banks ≡ bank_count → IsBest banks frame bank_count (Some (n, place))
     → slice_get banks n ≡ Some bank → fifo ≡ bank.fifo → count ≡ count_of fifo (take n banks) →
-        IsFound banks frame (Some (fifo, count + place))
+    IsFound banks frame (Some (fifo, count + place))
 found-best banks frame n place fifo count bank all h at ef ec =
     let en : n ≡ h.0.number = ap (λ (f : ℕ × ℕ). f.0) h.1 in
     let ep : place ≡ h.0.place = ap (λ (f : ℕ × ℕ). f.1) h.1 in
     let eb : bank ≡ h.0.bank = same_bank banks n h.0.number bank h.0.bank en at h.3.stands in
     let e : fifo ≡ h.0.bank.fifo = ef ∙ ap (λ (b : BankValue). b.fifo) eb in
     let number : count ≡ count_of h.0.bank.fifo (take h.0.number banks) =
-        ec ∙ (λ i. count_of (e i) (take (en i) banks)) in (
+    ec ∙ (λ i. count_of (e i) (take (en i) banks)) in (
       h.0,
       record {
         matching = h.3;
@@ -267,8 +273,10 @@ by_number zero (suc n) = inl (omega arith)
 by_number (suc m) zero = inr (inl (omega arith))
 by_number (suc m) (suc n) = elim (by_number m n) as (λ _. (suc m < suc n) ⊎ ((suc n < suc m) ⊎ (suc m ≡ suc n))) [
   | inl x ↦ inl (omega arith)
-  | inr x ↦ elim x as (λ _. (suc m < suc n) ⊎ ((suc n < suc m) ⊎ (suc m ≡ suc n))) [ inl y ↦ inr (inl (omega arith))
-      | inr y ↦ inr (inr (ap suc y)) ]
+  | inr x ↦ elim x as (λ _. (suc m < suc n) ⊎ ((suc n < suc m) ⊎ (suc m ≡ suc n))) [
+    | inl y ↦ inr (inl (omega arith))
+    | inr y ↦ inr (inr (ap suc y))
+  ]
 ]
 
 -- at most one filter is the chosen one

@@ -15,7 +15,7 @@ pub bits_agree : (image identifier mask : ℕ) → bit_and image mask ≡ bit_an
     bit_at mask bit ≡ 1 → bit_at image bit ≡ bit_at identifier bit
 bits_agree image identifier mask e bit one =
     min_agree (bit_at image bit) (bit_at identifier bit) (bit_at mask bit) one (bit_at-lt image bit)
-        (bit_at-lt identifier bit)
+    (bit_at-lt identifier bit)
     (sym (bit_at_and image mask bit) ∙ ap (λ n. bit_at n bit) e ∙ bit_at_and identifier mask bit)
 
 pub masks_agree : (image identifier mask : ℕ) →

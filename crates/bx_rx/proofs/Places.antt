@@ -56,7 +56,7 @@ first_among hits fs image o e t = subst (IsFirstAmong fs image) (sym e)
 pub first_of_masks : (b : BankValue) (wide narrow l1 h1 l2 h2 : ℕ) (x y : Bool) (o : Option ℕ) → b.scale ≡ Bits16 →
     b.mode ≡ Mask → l1 ≡ low b.r1 → h1 ≡ high b.r1 → l2 ≡ low b.r2 → h2 ≡ high b.r2
     → (IsTrue x ↔ Admits (masked l1 h1) narrow) → (IsTrue y ↔ Admits (masked l2 h2) narrow) →
-        o ≡ position_from (λ hit. hit) 0 (x ∷ y ∷ []) → IsFirstAmong (filters_of b) (at_scale b.scale wide narrow) o
+    o ≡ position_from (λ hit. hit) 0 (x ∷ y ∷ []) → IsFirstAmong (filters_of b) (at_scale b.scale wide narrow) o
 first_of_masks b wide narrow l1 h1 l2 h2 x y o s m el1 eh1 el2 eh2 tx ty e =
     let tells : Tells (x ∷ y ∷ []) (filters Bits16 Mask b.r1 b.r2) narrow = (
       subst (λ (p : ℕ × ℕ). IsTrue x ↔ Admits (masked p.0 p.1) narrow) (λ i. (el1 i, eh1 i)) tx,
@@ -64,4 +64,4 @@ first_of_masks b wide narrow l1 h1 l2 h2 x y o s m el1 eh1 el2 eh2 tx ty e =
     ) in
     subst (λ t. IsFirstAmong (filters t b.mode b.r1 b.r2) (at_scale t wide narrow) o) (sym s)
     (subst (λ t. IsFirstAmong (filters Bits16 t b.r1 b.r2) narrow o) (sym m)
-        (first_among (x ∷ y ∷ []) (filters Bits16 Mask b.r1 b.r2) narrow o e tells))
+    (first_among (x ∷ y ∷ []) (filters Bits16 Mask b.r1 b.r2) narrow o e tells))

@@ -28,48 +28,58 @@ all_set F views port w mine others j u e =
     (λ (x : (j ≢ port) × (get_elem? views j ≡ some u)). others j u x.0 x.1) (at_set views port j w u e)
 
 pub begins : Relays [] (log true true [] [] [] ∷ [])
-begins = (0, 0, [], [], refl, lit≤ tt, all_set (Knows 0 0 [] []) (log true true [] [] [] ∷ []) 0
-    (log true true [] [] []) ((λ _. (refl, refl)), λ _. (refl, refl))
-    (λ j u other e. absurd (other (at_end [] _ u j (λ x. some-ne-none u (sym x)) e))))
+begins = (
+  0,
+  0,
+  [],
+  [],
+  refl,
+  lit≤ tt,
+  all_set (Knows 0 0 [] []) (log true true [] [] [] ∷ []) 0
+      (log true true [] [] []) ((λ _. (refl, refl)), λ _. (refl, refl))
+      (λ j u other e. absurd (other (at_end [] _ u j (λ x. some-ne-none u (sym x)) e))),
+)
 
 pub stores : (n port : ℕ) (v : Log) (x : RxFrame) → n ≡ 3 → v.offers ≡ true →
     Pushes Relays n port v x (λ w. w ≡ log v.offers v.releases (v.stored ++ x ∷ []) v.released (v.calls ++ Some x ∷ []))
 stores n port v x three may items views room h at = let w : Log = log v.offers v.releases
     (v.stored ++ x ∷ []) v.released (v.calls ++ Some x ∷ []) in let mine = h.6 port v at in let stored =
     h.2 ++ x ∷ [] in (
-  w,
-  (
-    h.0,
-    h.1,
-    stored,
-    h.3,
-    ap (λ l. l ++ x ∷ []) h.4 ∙ append_assoc h.3 items (x ∷ []),
-    omega (arith, length-append items (x ∷ [])),
-    all_set (Knows h.0 h.1 stored h.3) views port w ((λ _. ((mine.0 may).0, ap (λ l. l ++ x ∷ []) (mine.0 may).1)),
-        mine.1)
-        (λ j u other e. ((λ p. absurd (other (((h.6 j u e).0 p).0 ∙ sym (mine.0 may).0))), (h.6 j u e).1)),
-  ),
-  refl,
-)
+      w,
+      (
+        h.0,
+        h.1,
+        stored,
+        h.3,
+        ap (λ l. l ++ x ∷ []) h.4 ∙ append_assoc h.3 items (x ∷ []),
+        omega (arith, length-append items (x ∷ [])),
+        all_set (Knows h.0 h.1 stored h.3) views port w (
+          (λ _. ((mine.0 may).0, ap (λ l. l ++ x ∷ []) (mine.0 may).1)),
+          mine.1,
+        )
+            (λ j u other e. ((λ p. absurd (other (((h.6 j u e).0 p).0 ∙ sym (mine.0 may).0))), (h.6 j u e).1)),
+      ),
+      refl,
+    )
 
 pub releases_one : (port : ℕ) (v : Log) → v.releases ≡ true →
     Pops Relays port v (λ x w. w ≡ log v.offers v.releases v.stored (v.released ++ x ∷ []) (v.calls ++ Some x ∷ []))
 releases_one port v may x items views h at = let w : Log = log v.offers v.releases v.stored (v.released ++ x ∷ [])
     (v.calls ++ Some x ∷ []) in let mine = h.6 port v at in let released = h.3 ++ x ∷ [] in (
-  w,
-  (
-    h.0,
-    h.1,
-    h.2,
-    released,
-    h.4 ∙ sym (append_assoc h.3 (x ∷ []) items),
-    (let l = h.5 in omega arith),
-    all_set (Knows h.0 h.1 h.2 released) views port w
-        (mine.0, λ _. ((mine.1 may).0, ap (λ l. l ++ x ∷ []) (mine.1 may).1))
-        (λ j u other e. ((h.6 j u e).0, λ p. absurd (other (((h.6 j u e).1 p).0 ∙ sym (mine.1 may).0)))),
-  ),
-  refl,
-)
+      w,
+      (
+        h.0,
+        h.1,
+        h.2,
+        released,
+        h.4 ∙ sym (append_assoc h.3 (x ∷ []) items),
+        (let l = h.5 in omega arith),
+        all_set (Knows h.0 h.1 h.2 released) views port w
+            (mine.0, λ _. ((mine.1 may).0, ap (λ l. l ++ x ∷ []) (mine.1 may).1))
+            (λ j u other e. ((h.6 j u e).0, λ p. absurd (other (((h.6 j u e).1 p).0 ∙ sym (mine.1 may).0)))),
+      ),
+      refl,
+    )
 
 pub forks : (port : ℕ) (v : Log) → v.offers ≡ true → v.releases ≡ true →
     Forks Relays port v (log true false v.stored [] v.calls) (log false true [] v.released [])
@@ -77,7 +87,7 @@ forks port v a b items views h at = let l : Log = log true false v.stored [] v.c
     log false true [] v.released [] in let mine = h.6 port v at in let vs : List Log = set views port l in
     let Old : ℕ → Log → Type 0 = λ j u. (u.offers ≡ true → (j ≡ h.0) × (u.stored ≡ h.2)) × (u.releases ≢ true) in
     let old : All Old vs = all_set Old views port l ((λ _. mine.0 a), λ p. true≢false (sym p))
-        (λ j u other e. ((h.6 j u e).0, λ p. other (((h.6 j u e).1 p).0 ∙ sym (mine.1 b).0))) in (
+    (λ j u other e. ((h.6 j u e).0, λ p. other (((h.6 j u e).1 p).0 ∙ sym (mine.1 b).0))) in (
       h.0,
       length vs,
       h.2,
@@ -85,9 +95,11 @@ forks port v a b items views h at = let l : Log = log true false v.stored [] v.c
       h.4,
       h.5,
       λ j u e. ⊎_elim (λ x. ((old j u x).0, λ p. absurd ((old j u x).1 p)))
-          (λ (is : r ≡ u). ((λ p. absurd (true≢false (sym (ap (λ (y : Log). y.offers) is ∙ p)))),
-                λ p. (at_end vs r u j (λ x. (old j u x).1 p) e, ap (λ (y : Log). y.released) (sym is) ∙ (mine.1 b).1)))
-              (at_snoc vs r u j e),
+          (λ (is : r ≡ u). (
+            (λ p. absurd (true≢false (sym (ap (λ (y : Log). y.offers) is ∙ p)))),
+            λ p. (at_end vs r u j (λ x. (old j u x).1 p) e, ap (λ (y : Log). y.released) (sym is) ∙ (mine.1 b).1),
+          ))
+          (at_snoc vs r u j e),
     )
 
 pub merges : (port : ℕ) (v : Log) (other : ℕ) (u : Log) → v.offers ≡ true → u.releases ≡ true →
@@ -95,22 +107,37 @@ pub merges : (port : ℕ) (v : Log) (other : ℕ) (u : Log) → v.offers ≡ tru
 merges port v other u a b items views h at two at' = let both : Log = log true true v.stored u.released [] in let mine =
     h.6 port v at in let vs : List Log = set views port both in
     let was : get_elem? views other ≡ some u = ⊎_elim (λ x. absurd (two x.0)) (λ x. x.1)
-        (at_set views port other both u at') in let theirs = (h.6 other u was).1 b in
+    (at_set views port other both u at') in let theirs = (h.6 other u was).1 b in
     let Now : ℕ → Log → Type 0 = λ j y. j ≢ other → Knows h.0 port h.2 h.3 j y in
     let now : All Now vs = all_set Now views port both (λ _. ((λ _. mine.0 a), λ _. (refl, theirs.1)))
-        (λ j y _ e apart. ((h.6 j y e).0, λ p. absurd (apart (((h.6 j y e).1 p).0 ∙ sym theirs.0)))) in
-    (h.0, port, h.2, h.3, h.4, h.5, all_set (Knows h.0 port h.2 h.3) vs other (log false false [] [] [])
-        ((λ p. absurd (true≢false (sym p))), λ p. absurd (true≢false (sym p))) (λ j y apart e. now j y e apart))
+    (λ j y _ e apart. ((h.6 j y e).0, λ p. absurd (apart (((h.6 j y e).1 p).0 ∙ sym theirs.0)))) in (
+      h.0,
+      port,
+      h.2,
+      h.3,
+      h.4,
+      h.5,
+      all_set (Knows h.0 port h.2 h.3) vs other (log false false [] [] [])
+          ((λ p. absurd (true≢false (sym p))), λ p. absurd (true≢false (sym p))) (λ j y apart e. now j y e apart),
+    )
 
 -- a side that may do nothing is divided off
 pub forks_aside : (port : ℕ) (v : Log) → Forks Relays port v v (log false false [] [] [])
 forks_aside port v items views h at = let r : Log = log false false [] [] [] in let vs : List Log = set views port v in
     let old : All (Knows h.0 h.1 h.2 h.3) vs =
-        all_set (Knows h.0 h.1 h.2 h.3) views port v (h.6 port v at) (λ j u other e. h.6 j u e) in
-    (h.0, h.1, h.2, h.3, h.4, h.5,
-        λ j u e. ⊎_elim (old j u)
-        (λ (is : r ≡ u). ((λ p. absurd (true≢false (sym (ap (λ (y : Log). y.offers) is ∙ p)))),
-            λ p. absurd (true≢false (sym (ap (λ (y : Log). y.releases) is ∙ p))))) (at_snoc vs r u j e))
+    all_set (Knows h.0 h.1 h.2 h.3) views port v (h.6 port v at) (λ j u other e. h.6 j u e) in (
+      h.0,
+      h.1,
+      h.2,
+      h.3,
+      h.4,
+      h.5,
+      λ j u e. ⊎_elim (old j u)
+          (λ (is : r ≡ u). (
+            (λ p. absurd (true≢false (sym (ap (λ (y : Log). y.offers) is ∙ p)))),
+            λ p. absurd (true≢false (sym (ap (λ (y : Log). y.releases) is ∙ p))),
+          )) (at_snoc vs r u j e),
+    )
 
 -- and taken in again, where the other side has noted a call
 pub notes : (port : ℕ) (v : Log) (other : ℕ) (u : Log) →
@@ -119,9 +146,16 @@ pub notes : (port : ℕ) (v : Log) (other : ℕ) (u : Log) →
 notes port v other u items views h at two at' = let noted : Log =
     log v.offers v.releases v.stored v.released (v.calls ++ None ∷ []) in let vs : List Log = set views port noted in
     let old : All (Knows h.0 h.1 h.2 h.3) vs =
-        all_set (Knows h.0 h.1 h.2 h.3) views port noted (h.6 port v at) (λ j y other_port e. h.6 j y e) in
-    (h.0, h.1, h.2, h.3, h.4, h.5, all_set (Knows h.0 h.1 h.2 h.3) vs other (log false false [] [] [])
-        ((λ p. absurd (true≢false (sym p))), λ p. absurd (true≢false (sym p))) (λ j y apart e. old j y e))
+    all_set (Knows h.0 h.1 h.2 h.3) views port noted (h.6 port v at) (λ j y other_port e. h.6 j y e) in (
+      h.0,
+      h.1,
+      h.2,
+      h.3,
+      h.4,
+      h.5,
+      all_set (Knows h.0 h.1 h.2 h.3) vs other (log false false [] [] [])
+          ((λ p. absurd (true≢false (sym p))), λ p. absurd (true≢false (sym p))) (λ j y apart e. old j y e),
+    )
 
 pub totals : (port : ℕ) (v : Log) → v.offers ≡ true → v.releases ≡ true → Learns Relays port v (TotalFact v)
 totals port v a b items views h at = let mine =

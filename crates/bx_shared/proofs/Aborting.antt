@@ -67,13 +67,13 @@ bus_abort s w b law f there asked idle k =
     let sent : Waiting → Bool = λ y. is_transmitting y.status in
     let due : Waiting → Bool = λ y. is_scheduled y.status in
     let same : on_bus next ≡ on_bus s = ap (find sent) f.split.rest
-        ∙ sym (find-drop sent f.split.before f.split.behind w idle) ∙ ap (find sent) (sym f.split.whole) in
+    ∙ sym (find-drop sent f.split.before f.split.behind w idle) ∙ ap (find sent) (sym f.split.whole) in
     record {
       stands = bus_on s next (past_of b) (same_requested s w x there refl)
           (set-each (λ r (y : RouteLists). (lists_of s r).done ≡ y.done) s.routes w.route x no_lists there refl
-              (λ r n. refl))
+          (λ r n. refl))
           (set-each (λ r (y : RouteLists). (lists_of s r).reaped ≡ y.reaped) s.routes w.route x no_lists there refl
-              (λ r n. refl)) k.stands;
+          (λ r n. refl)) k.stands;
       priority = k.priority;
       reaped_known = known_on s w x b.reaped there refl k.reaped_known;
       sends = ap (option_map item_of) same ∙ k.sends;
@@ -82,10 +82,10 @@ bus_abort s w b law f there asked idle k =
         request = g.request;
         turn = by_truth (is_scheduled w.status)
             (λ st. let a = is_alone s w law f (scheduled_busy w.status st) in let is : g.request ≡ w =
-                same_request g.request w (sym g.turn ∙ turn_there s w a st) in
+            same_request g.request w (sym g.turn ∙ turn_there s w a st) in
             absurd (true≢false (sym g.asked ∙ ap (λ (v : Waiting). v.abort_asked) is ∙ asked)))
             (λ not. ap (find due) f.split.rest ∙ sym (find-drop due f.split.before f.split.behind w not)
-                ∙ ap (find due) (sym f.split.whole) ∙ g.turn);
+            ∙ ap (find due) (sym f.split.whole) ∙ g.turn);
         asked = g.asked;
         mailbox_is = g.mailbox_is;
         item_is = g.item_is;
@@ -103,7 +103,7 @@ bus_ask s w b law f sends k =
     let due : Waiting → Bool = λ y. is_scheduled y.status in
     let idle : is_scheduled w.status ≡ false = sent_unscheduled w.status sends in
     let on : on_bus next ≡ Some x =
-        ap bus_of (a.split.set x) ∙ bus-there a.split.before a.split.behind x a.before sends in
+    ap bus_of (a.split.set x) ∙ bus-there a.split.before a.split.behind x a.before sends in
     let was : on_bus s ≡ Some w = ap bus_of a.split.whole ∙ bus-there a.split.before a.split.behind w a.before sends in
     let z = mark-bus s (at_of s w) x (past_of b) k.stands in
     record {
@@ -154,9 +154,9 @@ aborts txfp t k id m new p me small few idle mark owner ls =
     let w = g.request in
     let own : w.route ≡ p.route = sym g.owner ∙ owner in
     let asked : w.abort_asked ≡ false =
-        asked_by s m (lane_of word m) g (mark_of word m) law refl ∙ unasked (mark_of word m) mark in
+    asked_by s m (lane_of word m) g (mark_of word m) law refl ∙ unasked (mark_of word m) mark in
     let rests : is_transmitting w.status ≡ false =
-        unsent w.status (mark_of word m) mark (status_of s m (lane_of word m) g (mark_of word m) refl) in
+    unsent w.status (mark_of word m) mark (status_of s m (lane_of word m) g (mark_of word m) refl) in
     let x = aborted_lists (lists_of s w.route) w in
     let next = without s (at_of s w) w.route x in
     let at = g.found.at in
@@ -165,21 +165,21 @@ aborts txfp t k id m new p me small few idle mark owner ls =
     let lists : lists_of next w.route ≡ x = get_or-set_same s.routes w.route x no_lists g.there in
     let mine : (lists_of next p.route) ≡ x = ap (lists_of next) (sym own) ∙ lists in
     let number : get_or p.last m 0 ≡ w.number =
-        ap (λ j. get_or p.last j 0) (sym g.mailbox_is) ∙ (each_of (IsKnown p) s.queue w f.waiting g.has own).0 in
+    ap (λ j. get_or p.last j 0) (sym g.mailbox_is) ∙ (each_of (IsKnown p) s.queue w f.waiting g.has own).0 in
     let other_lists : (r : ℕ) → ¬ (r ≡ p.route) → lists_of next r ≡ lists_of s r =
-        λ r n. get_or-set_other s.routes w.route r x no_lists (λ e. n (e ∙ own)) in
+    λ r n. get_or-set_other s.routes w.route r x no_lists (λ e. n (e ∙ own)) in
     let drops : (o : RouteView) → Each (IsKnown o) s.queue → Each (IsKnown o) next.queue =
-        λ o z. subst (Each (IsKnown o)) (sym sp.rest)
-        (each-drop (IsKnown o) sp.before sp.behind w (subst (Each (IsKnown o)) sp.whole z)) in
+    λ o z. subst (Each (IsKnown o)) (sym sp.rest)
+    (each-drop (IsKnown o) sp.before sp.behind w (subst (Each (IsKnown o)) sp.whole z)) in
     subst (λ (j : ℕ). IsEvent txfp s (Abort p.route j) (stepped t 0 new id [] (alone (aborted_at p m)) keeps))
-        g.mailbox_is (record {
+    g.mailbox_is (record {
       next = next;
       after_is = goes-end s p.route w at own asked rests;
       then = moves txfp t k id p (aborted_at p m) (set ws 0 new) next me refl
           (leads-reached s s next next refl (leads-abort s p.route w.mailbox w (at_of s w) within g.small
-                (sym at) refl own asked rests) refl k.reached) k.priority (length-set s.routes w.route x ∙ k.eight)
+          (sym at) refl own asked rests) refl k.reached) k.priority (length-set s.routes w.route x ∙ k.eight)
           (shows_leave ws s w new 0 k.shows law g.found (subst (λ (j : ℕ). LaneSet word j 0 new) (sym g.mailbox_is) ls)
-              x refl g.there refl)
+          x refl g.there refl)
           (record {
             requested =
                 ap (λ (l : RouteLists). l.requested) mine ∙ ap (λ (r : ℕ). (lists_of s r).requested) own ∙ f.requested;
@@ -195,10 +195,10 @@ aborts txfp t k id m new p me small few idle mark owner ls =
             ended = f.ended;
           })
           (λ o other h. fits_same ws new s next o refl
-              (ap (λ (l : RouteLists). l.requested) (other_lists o.route other))
-              (ap (λ (l : RouteLists). l.aborted) (other_lists o.route other))
+          (ap (λ (l : RouteLists). l.requested) (other_lists o.route other))
+          (ap (λ (l : RouteLists). l.aborted) (other_lists o.route other))
           (λ _ r. subst (λ (l : RouteLists). Each (Has o.asked) l.reaped) (sym (other_lists o.route other)) r)
-              (drops o) h)
+          (drops o) h)
           (bus_abort s w k.bus law g.found g.there asked rests) (inr few);
     })
 
@@ -234,11 +234,11 @@ asks txfp t k id m new p me small few idle mark owner ls =
       after_is = goes-ask s p.route w at own asked sends;
       then = moves txfp t k id p q (set ws 0 new) next me refl
           (leads-reached s s next next refl (leads-ask s p.route w.mailbox w (at_of s w) within g.small
-                (sym at) refl own asked sends) refl k.reached) k.priority k.eight
+          (sym at) refl own asked sends) refl k.reached) k.priority k.eight
           (shows_mark ws s w new (lane_of word m + 16) k.shows law g.found
-              (subst (λ (j : ℕ). LaneSet word j (lane_of word m + 16) new) (sym g.mailbox_is) ls) w.status true
+          (subst (λ (j : ℕ). LaneSet word j (lane_of word m + 16) new) (sym g.mailbox_is) ls) w.status true
           (let l = g.lane_is in let y = ap (λ z. mark_by z w.abort_asked) st in let v =
-              ap (mark_by Transmitting) asked in let z = ap (λ z. mark_by z true) st in omega arith))
+          ap (mark_by Transmitting) asked in let z = ap (λ z. mark_by z true) st in omega arith))
           (record {
             requested = f.requested;
             aborted = f.aborted;
@@ -248,16 +248,16 @@ asks txfp t k id m new p me small few idle mark owner ls =
             three = f.three;
             waiting = subst (Each (IsKnown q)) (sym (sp.set x))
                 (each-replace (IsKnown q) sp.before sp.behind w x (λ h own. let z = h own in
-                      (z.0, (λ _. subst (Has q.asked) number (has-last p.asked (get_or p.last m 0))), z.2))
+                (z.0, (λ _. subst (Has q.asked) number (has-last p.asked (get_or p.last m 0))), z.2))
                 (subst (Each (IsKnown q)) sp.whole
-                    (each_more (IsKnown p) (IsKnown q) s.queue (λ y h own. let z = h own in
-                        (z.0, (λ e. more y.number (z.1 e)), z.2)) f.waiting)));
+                (each_more (IsKnown p) (IsKnown q) s.queue (λ y h own. let z = h own in
+                (z.0, (λ e. more y.number (z.1 e)), z.2)) f.waiting)));
             ended = f.ended;
           })
           (λ o other h. fits_same ws new s next o refl refl refl (λ _ r. r)
           (λ z. subst (Each (IsKnown o)) (sym (sp.set x))
-              (each-replace (IsKnown o) sp.before sp.behind w x (λ _ is. absurd (other (sym is ∙ own)))
-                (subst (Each (IsKnown o)) sp.whole z))) h)
+          (each-replace (IsKnown o) sp.before sp.behind w x (λ _ is. absurd (other (sym is ∙ own)))
+          (subst (Each (IsKnown o)) sp.whole z))) h)
           (bus_ask s w k.bus law g.found sends) (inr few);
     })
 
@@ -268,8 +268,8 @@ pub aborts-keep : (txfp : Bool) (slots id m old new : ℕ) (p : RouteView) → m
 aborts-keep txfp slots id m old new p small few idle mark owner ls t k long me fits =
     tries txfp t k slots id old new (some (Mailbox m)) p (aborted_at p m) me (λ e.
     (aborts txfp t k id m new p me small few idle
-        (subst (λ (z : ℕ). (mark_of z m ≡ 3) ⊎ (mark_of z m ≡ 7)) (sym e) mark) (ap (λ z. lane_of z m / 32) e ∙ owner)
-        (subst (λ (z : ℕ). LaneSet z m 0 new) (sym e) ls)).then.kept)
+    (subst (λ (z : ℕ). (mark_of z m ≡ 3) ⊎ (mark_of z m ≡ 7)) (sym e) mark) (ap (λ z. lane_of z m / 32) e ∙ owner)
+    (subst (λ (z : ℕ). LaneSet z m 0 new) (sym e) ls)).then.kept)
 
 pub asks-keep : (txfp : Bool) (slots id m old new : ℕ) (p : RouteView) → m < 3 → p.route < 8 → p.claims ≡ false →
     mark_of old m ≡ 15 → lane_of old m / 32 ≡ p.route → LaneSet old m (lane_of old m + 16) new →
@@ -278,4 +278,4 @@ pub asks-keep : (txfp : Bool) (slots id m old new : ℕ) (p : RouteView) → m <
 asks-keep txfp slots id m old new p small few idle mark owner ls t k long me fits =
     tries txfp t k slots id old new (some (Mailbox m)) p (asked_at p m) me (λ e.
     (asks txfp t k id m new p me small few idle (ap (λ z. mark_of z m) e ∙ mark) (ap (λ z. lane_of z m / 32) e ∙ owner)
-        (subst (λ (z : ℕ). LaneSet z m (lane_of z m + 16) new) (sym e) ls)).then.kept)
+    (subst (λ (z : ℕ). LaneSet z m (lane_of z m + 16) new) (sym e) ls)).then.kept)

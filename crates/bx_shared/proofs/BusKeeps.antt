@@ -40,7 +40,7 @@ pub schedules-keep : (txfp : Bool) (slots id m old new : ℕ) (b : BusView) (rs 
 schedules-keep txfp slots id m old new b rs small due goes ls t k long me fits =
     let w = get_or t.words 0 0 in
     exchanged w old new
-        (Goes txfp t 0 id (λ r n. Schedules (step slots 0 old new (some (Mailbox m))) (bus_seat b rs) r n))
+    (Goes txfp t 0 id (λ r n. Schedules (step slots 0 old new (some (Mailbox m))) (bus_seat b rs) r n))
     (λ e. (
       with_bus (bus_tried b w new) rs,
       keeps,
@@ -59,10 +59,15 @@ starts-keep txfp slots id m old new b rs small due mark ls t k long me fits =
     let w = get_or t.words 0 0 in
     exchanged w old new (Goes txfp t 0 id (λ r n. Starts (step slots 0 old new (some (Mailbox m))) (bus_seat b rs) r n))
     (λ e. let x = starts txfp t k id m new b rs me small (ap (λ z. mark_of z m) e ∙ mark) due
-        (subst (λ (z : ℕ). LaneSet z m (lane_of z m + 8) new) (sym e) ls) in
+    (subst (λ (z : ℕ). LaneSet z m (lane_of z m + 8) new) (sym e) ls) in
     (with_bus x.0 rs, keeps, tt, x.2.then.kept, ((λ _. (refl, x.1)), λ n. absurd (n e))))
-    (λ n. (with_bus (bus_tried b w new) rs, keeps, tt, (bus_misses txfp t k id new b rs me).kept,
-          ((λ e. absurd (n e)), λ _. refl)))
+    (λ n. (
+      with_bus (bus_tried b w new) rs,
+      keeps,
+      tt,
+      (bus_misses txfp t k id new b rs me).kept,
+      ((λ e. absurd (n e)), λ _. refl),
+    ))
 
 pub reads_head-keep : (txfp : Bool) (slots id m i : ℕ) (b : BusView) (rs : List RouteView) → i ≡ 1 + 2 * m → m < 3 →
     Allows (IsKept txfp) slots id (bus_seat b rs) i (λ n. n) (ReadsHead (step slots i 0 0 none) (bus_seat b rs))
@@ -85,20 +90,31 @@ pub reads_bytes-keep : (txfp : Bool) (slots id m i : ℕ) (b : BusView) (rs : Li
 reads_bytes-keep txfp slots id m i b rs at =
     subst (λ (j : ℕ). Allows (IsKept txfp) slots id (bus_seat b rs) j (λ n. n)
     (ReadsBytes (step slots j 0 0 none) (bus_seat b rs))) (sym at) (λ t k long me fits.
-    let x = reads_bytes txfp t k id m b rs me in
-    (with_bus b rs, keeps, tt, x.0.kept, (refl, λ mailbox is. let same : m ≡ mailbox = omega arith in
-          subst (λ (j : ℕ). AreBytesSent b j (get_or t.words (2 + 2 * m) 0)) same x.1)))
+    let x = reads_bytes txfp t k id m b rs me in (
+      with_bus b rs,
+      keeps,
+      tt,
+      x.0.kept,
+      (
+        refl,
+        λ mailbox is. let same : m ≡ mailbox = omega arith in
+            subst (λ (j : ℕ). AreBytesSent b j (get_or t.words (2 + 2 * m) 0)) same x.1,
+      ),
+    ))
 
 pub completes-keep : (txfp : Bool) (slots id mask : ℕ) (b : BusView) (rs : List RouteView) → IsSome b.sends →
     b.reaps ≡ None → ((w : ℕ) → w < 2 ^ 64 → LaneSet w b.mailbox 0 (bit_and w mask)) →
     Allows (IsKept txfp) slots id (bus_seat b rs) 0 (λ n. bit_and n mask)
     (Completes (step slots 0 mask 0 none) (bus_seat b rs))
 completes-keep txfp slots id mask b rs sends due clears t k long me fits =
-    let x = some_of b.sends sends in
-    (with_bus (bus_completed b) rs, keeps, tt,
-        (completes txfp t k id (bit_and (get_or t.words 0 0) mask) b rs x.0 me x.1 due
+    let x = some_of b.sends sends in (
+      with_bus (bus_completed b) rs,
+      keeps,
+      tt,
+      (completes txfp t k id (bit_and (get_or t.words 0 0) mask) b rs x.0 me x.1 due
           (clears (get_or t.words 0 0) fits)).then.kept,
-        (refl, bus_few k.core b (law_of k.core k.reached) (bus_knows txfp t k id b rs me)))
+      (refl, bus_few k.core b (law_of k.core k.reached) (bus_knows txfp t k id b rs me)),
+    )
 
 pub fails-keep : (txfp : Bool) (slots id mask : ℕ) (b : BusView) (rs : List RouteView) → IsSome b.sends →
     ((w : ℕ) → w < 2 ^ 64 → IsTransmitting w b.mailbox →
@@ -107,18 +123,24 @@ pub fails-keep : (txfp : Bool) (slots id mask : ℕ) (b : BusView) (rs : List Ro
     (Fails (step slots 0 mask 0 none) (bus_seat b rs))
 fails-keep txfp slots id mask b rs sends clears t k long me fits =
     let x = some_of b.sends sends in
-    let w = get_or t.words 0 0 in
-    (with_bus (bus_failed b w) rs, keeps, tt,
-        (fails txfp t k id (bit_and w mask) b rs x.0 me x.1 (clears w fits)).then.kept,
-        (refl, transmits_in txfp t k id b rs x.0 me x.1))
+    let w = get_or t.words 0 0 in (
+      with_bus (bus_failed b w) rs,
+      keeps,
+      tt,
+      (fails txfp t k id (bit_and w mask) b rs x.0 me x.1 (clears w fits)).then.kept,
+      (refl, transmits_in txfp t k id b rs x.0 me x.1),
+    )
 
 pub reaps-keep : (txfp : Bool) (slots id mask : ℕ) (b : BusView) (rs : List RouteView) → IsSome b.reaps →
     ((w : ℕ) → w < 2 ^ 64 → LaneSet w b.mailbox 0 (bit_and w mask)) →
     Allows (IsKept txfp) slots id (bus_seat b rs) 0 (λ n. bit_and n mask)
     (Reaps (step slots 0 mask 0 none) (bus_seat b rs))
 reaps-keep txfp slots id mask b rs due clears t k long me fits =
-    let x = some_of b.reaps due in
-    (with_bus (bus_reaped b) rs, keeps, tt,
-        (reaps txfp t k id (bit_and (get_or t.words 0 0) mask) b rs x.0 me x.1
+    let x = some_of b.reaps due in (
+      with_bus (bus_reaped b) rs,
+      keeps,
+      tt,
+      (reaps txfp t k id (bit_and (get_or t.words 0 0) mask) b rs x.0 me x.1
           (clears (get_or t.words 0 0) fits)).then.kept,
-        (refl, bus_few k.core b (law_of k.core k.reached) (bus_knows txfp t k id b rs me)))
+      (refl, bus_few k.core b (law_of k.core k.reached) (bus_knows txfp t k id b rs me)),
+    )

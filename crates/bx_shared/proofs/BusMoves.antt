@@ -59,9 +59,13 @@ bus_moves txfp t k id b d rs ws s me reached priority eight shows mine others =
         bus_fits = mine;
         held = λ j v e. ⊎_elim
             (λ (t : (j ≡ id) × (with_bus d rs ≡ v)). subst
-                (λ (x : ℕ × View). Holds s.queue k.at k.part k.bus_at d x.0 x.1) (λ i. (sym t.0 i, t.1 i))
-            (record { routes = h.routes; buses = ((my_place, refl), tt); once = h.once;
-                  seal = no_seal (λ es. (s.queue ≡ es) × (k.bus_at ≡ id) × ((r : ℕ) → r < 8 → k.at r ≡ id)) }))
+            (λ (x : ℕ × View). Holds s.queue k.at k.part k.bus_at d x.0 x.1) (λ i. (sym t.0 i, t.1 i))
+            (record {
+              routes = h.routes;
+              buses = ((my_place, refl), tt);
+              once = h.once;
+              seal = no_seal (λ es. (s.queue ≡ es) × (k.bus_at ≡ id) × ((r : ℕ) → r < 8 → k.at r ≡ id));
+            }))
             (λ (t : (j ≢ id) × (get_elem? t.views j ≡ some v)). let g = k.held j v t.1 in record {
               routes = g.routes;
               buses = each_more (λ x. (k.bus_at ≡ j) × (k.bus ≡ x)) (λ x. (k.bus_at ≡ j) × (d ≡ x)) v.buses
@@ -87,7 +91,7 @@ bus_stays txfp t k id i b d rs me mine =
     (λ (ws : List ℕ). IsKeptAs txfp (record { words = ws; homes = t.homes; views = set t.views id (with_bus d rs) })
     k.core) (sym (set-get_or t.words i 0))
     (bus_moves txfp t k id b d rs t.words k.core me k.reached k.priority k.eight k.shows
-        (mine (bus_knows txfp t k id b rs me)) (λ o f. f))
+    (mine (bus_knows txfp t k id b rs me)) (λ o f. f))
 
 -- what the seat knows is so where it only looked, tried or read: nothing else of it changes
 pub bus_as : (s : State) (b d : BusView) → d.txfp ≡ b.txfp → past_of d ≡ past_of b → d.reaped ≡ b.reaped →
@@ -131,8 +135,8 @@ heads_mark s b w st asked f h = record {
   heads = λ is. let P : Waiting → Type 0 =
       λ x. (head : ℕ) → slice_index_or b.heads x.mailbox None ≡ Some head → IsHeadOf x.frame x.number head in
       subst (Each P) (sym (f.split.set (marked w st asked)))
-          (each-replace P f.split.before f.split.behind w (marked w st asked) (λ z. z)
-          (subst (Each P) f.split.whole (h.heads is)));
+      (each-replace P f.split.before f.split.behind w (marked w st asked) (λ z. z)
+      (subst (Each P) f.split.whole (h.heads is)));
 }
 
 pub heads_leave : (s : State) (b : BusView) (w : Waiting) (x : RouteLists) → IsFound s w → w.route < length s.routes →
@@ -140,11 +144,11 @@ pub heads_leave : (s : State) (b : BusView) (w : Waiting) (x : RouteLists) → I
     AreHeads (without s (at_of s w) w.route x) b
 heads_leave s b w x f there same h =
     let count : count_requests (set s.routes w.route x) ≡ count_requests s.routes =
-        count-same s.routes w.route x there (ap length same) in
+    count-same s.routes w.route x there (ap length same) in
     record {
       before = let l = h.before in omega arith;
       heads = λ is. let P : Waiting → Type 0 =
           λ x. (head : ℕ) → slice_index_or b.heads x.mailbox None ≡ Some head → IsHeadOf x.frame x.number head in
           subst (Each P) (sym f.split.rest) (each-drop P f.split.before f.split.behind w
-              (subst (Each P) f.split.whole (h.heads (is ∙ count))));
+          (subst (Each P) f.split.whole (h.heads (is ∙ count))));
     }

@@ -56,36 +56,39 @@ claims txfp t k id m new p me small there idle empty ls =
     let here : m < length s.claims = let h = law.three in omega arith in
     let next = with_claim s m (Some p.route) in
     let mine : get_or (set s.claims m (Some p.route)) m None ≡ Some p.route =
-        get_or-set_same s.claims m (Some p.route) None here in
+    get_or-set_same s.claims m (Some p.route) None here in
     let within : p.route < length s.routes = let h = k.eight in omega arith in
     record {
       next = next;
       after_is = goes-claim s p.route m (record { unclaimed = r.claim; unrequested = r.none.at });
       then = moves txfp t k id p (claimed p m) (set ws 0 new) next me refl
           (leads-reached s s next next refl (leads-claim s p.route m within small (ap is_some r.claim)
-                (ap is_some r.none.at)) refl k.reached) k.priority k.eight
+          (ap is_some r.none.at)) refl k.reached) k.priority k.eight
           (shows_claim ws s m (filling p.route) new (Some p.route) small k.shows law (let z = r.none.lane in
-                omega arith) ls)
+          omega arith) ls)
           (record {
             requested = f.requested;
             aborted = f.aborted;
             reaped = f.reaped;
             claim = λ _. record { own = mine; head = λ h. absurd (omega arith); bytes = λ h. absurd (omega arith) };
             only =
-                λ j is. (refl, dite (ℕ_discrete j m) (λ e. sym e)
-                (λ n. absurd
-                  (true≢false (sym (f.only j (sym (get_or-set_other s.claims m j (Some p.route) None n) ∙ is)).0
-                      ∙ idle))));
+                λ j is. (
+                  refl,
+                  dite (ℕ_discrete j m) (λ e. sym e)
+                      (λ n. absurd
+                      (true≢false (sym (f.only j (sym (get_or-set_other s.claims m j (Some p.route) None n) ∙ is)).0
+                      ∙ idle))),
+                );
             three = f.three;
             waiting = f.waiting;
             ended = f.ended;
           })
           (λ o other g. fits_else ws (set ws 0 new) s next o refl
           (λ j is. let n : ¬ (j ≡ m) = λ h. some_not_none o.route (sym is ∙ ap (claim_of s) h ∙ r.claim) in
-              (get_or-set_other s.claims m j (Some p.route) None n ∙ is, (aside ws new j).0, (aside ws new j).1))
+          (get_or-set_other s.claims m j (Some p.route) None n ∙ is, (aside ws new j).0, (aside ws new j).1))
           (λ j is. dite (ℕ_discrete j m)
-              (λ h. absurd (apart_owners p.route o.route (claim_of next m) (λ z. other (sym z)) mine
-                  (sym (ap (claim_of next) h) ∙ is)))
+          (λ h. absurd (apart_owners p.route o.route (claim_of next m) (λ z. other (sym z)) mine
+          (sym (ap (claim_of next) h) ∙ is)))
           (λ n. sym (get_or-set_other s.claims m j (Some p.route) None n) ∙ is))
           (λ z. z) g)
           (bus_claim s m (Some p.route) k.bus) (inl refl);
@@ -98,7 +101,7 @@ pub claims-keep : (txfp : Bool) (slots id m old new : ℕ) (p : RouteView) → m
 claims-keep txfp slots id m old new p small there idle empty ls t k long me fits =
     tries txfp t k slots id old new (some (Mailbox m)) p (claimed p m) me (λ e.
     (claims txfp t k id m new p me small there idle (ap (λ z. lane_of z m) e ∙ empty)
-        (subst (λ (z : ℕ). LaneSet z m (filling p.route) new) (sym e) ls)).then.kept)
+    (subst (λ (z : ℕ). LaneSet z m (filling p.route) new) (sym e) ls)).then.kept)
 
 -- a store of a payload word of the mailbox that the seat fills
 fills : (txfp : Bool) (t : St) (k : IsKept txfp t) (id i x : ℕ) (p q : RouteView) →
@@ -108,17 +111,17 @@ fills : (txfp : Bool) (t : St) (k : IsKept txfp t) (id i x : ℕ) (p q : RouteVi
     IsKeptAs txfp (stepped t i x id [] (alone q) keeps) k.core
 fills txfp t k id i x p q me claims same new mine =
     let which : (i ≡ 1 + 2 * p.mailbox) ⊎ (i ≡ 2 + 2 * p.mailbox) =
-        ⊎_elim (λ (h : (i ≡ 1 + 2 * p.mailbox) × IsHead x). inl h.0) (λ (h : i ≡ 2 + 2 * p.mailbox). inr h) new in
+    ⊎_elim (λ (h : (i ≡ 1 + 2 * p.mailbox) × IsHead x). inl h.0) (λ (h : i ≡ 2 + 2 * p.mailbox). inr h) new in
     let s = k.core in
     let ws = t.words in
     let law = law_of s k.reached in
     let f = knows txfp t k id p me in
     let g = f.claim claims in
     moves txfp t k id p q (set ws i x) s me same k.reached k.priority k.eight
-        (shows_fill ws s p.mailbox i x new k.shows (unrequested s p.mailbox p.route law g.own)) (mine f g)
+    (shows_fill ws s p.mailbox i x new k.shows (unrequested s p.mailbox p.route law g.own)) (mine f g)
     (λ o other h. fits_else ws (set ws i x) s s o refl
     (λ j is. let n : ¬ (j ≡ p.mailbox) =
-        λ e. apart_owners p.route o.route (claim_of s j) (λ z. other (sym z)) (ap (claim_of s) e ∙ g.own) is in (
+    λ e. apart_owners p.route o.route (claim_of s j) (λ z. other (sym z)) (ap (claim_of s) e ∙ g.own) is in (
       is,
       get_or-set_other ws i (1 + 2 * j) x 0
           (λ e. ⊎_elim (λ (h : i ≡ 1 + 2 * p.mailbox). n (omega arith))
@@ -135,12 +138,16 @@ pub stores_head : (txfp : Bool) (t : St) (k : IsKept txfp t) (id i x : ℕ) (p :
     IsKeptAs txfp (stepped t i x id [] (alone (head_stored p x)) keeps) k.core
 stores_head txfp t k id i x p me at claims head =
     fills txfp t k id i x p (head_stored p x) me claims refl (inl (at, head))
-        (λ f g. let small = claim_small k.core p.mailbox p.route (law_of k.core k.reached) g.own in record {
+    (λ f g. let small = claim_small k.core p.mailbox p.route (law_of k.core k.reached) g.own in record {
       requested = f.requested;
       aborted = f.aborted;
       reaped = f.reaped;
-      claim = λ _. record { own = g.own; head = λ _. ap (λ j. get_or (set t.words i x) j 0) (sym at)
-          ∙ get_or-set_same t.words i x 0 (let l = k.shows.seven in omega arith); bytes = λ h. absurd (omega arith) };
+      claim = λ _. record {
+        own = g.own;
+        head = λ _. ap (λ j. get_or (set t.words i x) j 0) (sym at)
+            ∙ get_or-set_same t.words i x 0 (let l = k.shows.seven in omega arith);
+        bytes = λ h. absurd (omega arith);
+      };
       only = λ j is. f.only j is;
       three = f.three;
       waiting = f.waiting;
@@ -158,7 +165,7 @@ pub stores_bytes : (txfp : Bool) (t : St) (k : IsKept txfp t) (id i x : ℕ) (p 
     IsKeptAs txfp (stepped t i x id [] (alone (bytes_stored p x)) keeps) k.core
 stores_bytes txfp t k id i x p me at claims one =
     fills txfp t k id i x p (bytes_stored p x) me claims refl (inr at)
-        (λ f g. let small = claim_small k.core p.mailbox p.route (law_of k.core k.reached) g.own in record {
+    (λ f g. let small = claim_small k.core p.mailbox p.route (law_of k.core k.reached) g.own in record {
       requested = f.requested;
       aborted = f.aborted;
       reaped = f.reaped;
@@ -200,9 +207,9 @@ withdraws txfp t k id new p me claims ls =
       after_is = goes-withdraw s p.route m (is_owner (claim_of s m) p.route g.own);
       then = moves txfp t k id p (withdrawn p) (set ws 0 new) next me refl
           (leads-reached s s next next refl (leads-withdraw s p.route m (law.owners m p.route g.own) small
-                (is_owner (claim_of s m) p.route g.own)) refl k.reached) k.priority k.eight
+          (is_owner (claim_of s m) p.route g.own)) refl k.reached) k.priority k.eight
           (shows_claim ws s m 0 new None small k.shows law
-              (let z = waiting_lane-none s.queue m (unrequested s m p.route law g.own) in omega arith) ls)
+          (let z = waiting_lane-none s.queue m (unrequested s m p.route law g.own) in omega arith) ls)
           (record {
             requested = f.requested;
             aborted = f.aborted;
@@ -217,10 +224,10 @@ withdraws txfp t k id new p me claims ls =
           })
           (λ o other h. fits_else ws (set ws 0 new) s next o refl
           (λ j is. let n : ¬ (j ≡ m) = λ e. apart_owners p.route o.route (claim_of s j) (λ z. other (sym z))
-              (ap (claim_of s) e ∙ g.own) is in
-              (get_or-set_other s.claims m j None None n ∙ is, (aside ws new j).0, (aside ws new j).1))
+          (ap (claim_of s) e ∙ g.own) is in
+          (get_or-set_other s.claims m j None None n ∙ is, (aside ws new j).0, (aside ws new j).1))
           (λ j is. dite (ℕ_discrete j m) (λ e. absurd (some_not_none o.route (sym is ∙ ap (claim_of next) e ∙ gone)))
-              (λ n. sym (get_or-set_other s.claims m j None None n) ∙ is))
+          (λ n. sym (get_or-set_other s.claims m j None None n) ∙ is))
           (λ z. z) h)
           (bus_claim s m None k.bus) (inl refl);
     }
@@ -228,7 +235,11 @@ withdraws txfp t k id new p me claims ls =
 pub withdraws-keep : (txfp : Bool) (slots id mask : ℕ) (p : RouteView) → p.claims ≡ true →
     ((w : ℕ) → w < 2 ^ 64 → LaneSet w p.mailbox 0 (bit_and w mask)) →
     Allows (IsKept txfp) slots id (seat_of p) 0 (λ n. bit_and n mask) (Withdraws (step slots 0 mask 0 none) (seat_of p))
-withdraws-keep txfp slots id mask p claims clears t k long me fits =
-    (alone (withdrawn p), keeps, tt,
-        (withdraws txfp t k id (bit_and (get_or t.words 0 0) mask) p me claims
-          (clears (get_or t.words 0 0) fits)).then.kept, refl)
+withdraws-keep txfp slots id mask p claims clears t k long me fits = (
+  alone (withdrawn p),
+  keeps,
+  tt,
+  (withdraws txfp t k id (bit_and (get_or t.words 0 0) mask) p me claims
+      (clears (get_or t.words 0 0) fits)).then.kept,
+  refl,
+)

@@ -35,11 +35,11 @@ pub few_requests : (txfp : Bool) (l : RouteLists) (waits : List ℕ) → IsRoute
 few_requests txfp l waits law =
     let t = few_rise 0 greatest_number (numbers l.requested) (omega arith)
     (each_more (λ n. (1 ≤ n) × (n ≤ greatest_number)) (λ n. 0 < n) (numbers l.requested) (λ n h. let one = h.0 in
-          omega arith) law.in_range)
+    omega arith) law.in_range)
     (each_more (λ n. (1 ≤ n) × (n ≤ greatest_number)) (λ n. n ≤ greatest_number) (numbers l.requested)
-        (λ n h. h.1) law.in_range) law.rises in
+    (λ n h. h.1) law.in_range) law.rises in
     let same : length (numbers l.requested) ≡ length l.requested = length-map l.requested (λ (e : Entry). e.number) in
-        omega arith
+    omega arith
 
 few_in_all : (ls : List RouteLists) → ((r : ℕ) → length (get_or ls r no_lists).requested ≤ greatest_number) →
     count_requests ls ≤ length ls * greatest_number
@@ -51,6 +51,7 @@ pub has_count : (s : State) (word : ℕ) → Law s → length s.routes ≡ 8 →
     rest_of word ≡ rest_by s.txfp (count_requests s.routes) → HasCount word
 has_count s word law eight is odd =
     elim s.txfp as (λ b. rest_of word ≡ rest_by b (count_requests s.routes) → rest_of word + 2 < 2 ^ 37) [
-  | true ↦ λ is. omega arith
-  | false ↦ λ is. let few = few_in_all s.routes (λ r. few_requests s.txfp (lists_of s r) _ (law.route r)) in omega arith
-] is
+      | true ↦ λ is. omega arith
+      | false ↦ λ is. let few = few_in_all s.routes (λ r. few_requests s.txfp (lists_of s r) _ (law.route r)) in
+          omega arith
+    ] is

@@ -43,42 +43,45 @@ one_request ws s t m x y law laws sh shown at too lane =
     let a = at_has m s.queue x at in
     let b = at_has m t.queue y too in
     let l = mark_and_owner (mark_by x.status x.abort_asked) (mark_by y.status y.abort_asked) x.route y.route
-        (within x).1 (within y).1 lane in
+    (within x).1 (within y).1 lane in
     let here : x.mailbox ≡ y.mailbox = a.1 ∙ sym b.1 in
     let p = packed_once x.frame y.frame x.number y.number (get_or ws (1 + 2 * y.mailbox) 0)
-        (get_or ws (2 + 2 * y.mailbox) 0)
+    (get_or ws (2 + 2 * y.mailbox) 0)
     (subst (λ (k : ℕ). IsPaid ws (record x { mailbox = k })) here (each_of (IsPaid ws) s.queue x sh.payload a.0))
-        (each_of (IsPaid ws) t.queue y shown.payload b.0) in
+    (each_of (IsPaid ws) t.queue y shown.payload b.0) in
     same_waiting x y l.1 p.1 p.0 here (sym (status_back x.status x.abort_asked) ∙ ap status_in l.0
-        ∙ status_back y.status y.abort_asked)
+    ∙ status_back y.status y.abort_asked)
     (sym (asked_back x.status x.abort_asked (each_of IsAskedBusy s.queue x law.asked a.0)) ∙ ap (nat_lt 15) l.0
-        ∙ asked_back y.status y.abort_asked (each_of IsAskedBusy t.queue y laws.asked b.0))
+    ∙ asked_back y.status y.abort_asked (each_of IsAskedBusy t.queue y laws.asked b.0))
 
 same_at : (ws : List ℕ) (s t : State) (m : ℕ) → m < 3 → Law s → Law t → Shows ws s → Shows ws t → IsSameAt s t m
 same_at ws s t m small law laws sh shown =
     let lane : claim_lane (claim_of s m) + waiting_lane s.queue m ≡ claim_lane (claim_of t m) + waiting_lane t.queue m =
-        sym (sh.lanes m small) ∙ shown.lanes m small in
+    sym (sh.lanes m small) ∙ shown.lanes m small in
     ⊎_elim
     (λ (a : IsEmptyLane s m). ⊎_elim
     (λ (b : IsEmptyLane t m). record { claim = a.claim ∙ sym b.claim; request = a.none.at ∙ sym b.none.at })
     (λ k. ⊎_elim (λ (b : IsFillingLane t m). let x = a.lane in let y = b.lane in absurd (omega arith))
     (λ (b : IsRequestLane t m). let x = a.lane in let y = b.lane in let z = within b.one.request in
-        absurd (omega arith)) k) (reads t m laws))
+    absurd (omega arith)) k) (reads t m laws))
     (λ k. ⊎_elim
     (λ (a : IsFillingLane s m). ⊎_elim
     (λ (b : IsEmptyLane t m). let x = a.lane in let y = b.lane in absurd (omega arith))
     (λ k. ⊎_elim
-    (λ (b : IsFillingLane t m). record { claim = a.claim
-          ∙ ap Some (filled_by a.owner b.owner (sym a.lane ∙ lane ∙ b.lane)) ∙ sym b.claim; request =
-          a.none.at ∙ sym b.none.at })
+    (λ (b : IsFillingLane t m). record {
+      claim = a.claim
+          ∙ ap Some (filled_by a.owner b.owner (sym a.lane ∙ lane ∙ b.lane)) ∙ sym b.claim;
+      request =
+          a.none.at ∙ sym b.none.at;
+    })
     (λ (b : IsRequestLane t m). let y = b.one.request in
-        absurd (not_filling y.status y.abort_asked y.route a.owner (sym b.lane ∙ sym lane ∙ a.lane))) k)
-        (reads t m laws))
+    absurd (not_filling y.status y.abort_asked y.route a.owner (sym b.lane ∙ sym lane ∙ a.lane))) k)
+    (reads t m laws))
     (λ (a : IsRequestLane s m). ⊎_elim
     (λ (b : IsEmptyLane t m). let x = a.lane in let y = b.lane in let z = within a.one.request in absurd (omega arith))
     (λ k. ⊎_elim
     (λ (b : IsFillingLane t m). let x =
-        a.one.request in absurd (not_filling x.status x.abort_asked x.route b.owner (sym a.lane ∙ lane ∙ b.lane)))
+    a.one.request in absurd (not_filling x.status x.abort_asked x.route b.owner (sym a.lane ∙ lane ∙ b.lane)))
     (λ (b : IsRequestLane t m). record {
       claim = a.claim ∙ sym b.claim;
       request = a.one.at
@@ -107,20 +110,20 @@ same_queue word (w ∷ ws) [] a b o v e = let h = sym (at_first w ws) ∙ e w.ma
 same_queue word (w ∷ ws) (x ∷ xs) a b o v e = dite (ℕ_discrete w.mailbox x.mailbox)
     (λ here.
     let is : w ≡ x =
-        same_request w x (sym (at_first w ws) ∙ e w.mailbox ∙ ap (λ m. at_mailbox m (x ∷ xs)) here ∙ at_first x xs) in
+    same_request w x (sym (at_first w ws) ∙ e w.mailbox ∙ ap (λ m. at_mailbox m (x ∷ xs)) here ∙ at_first x xs) in
     let rest = same_queue word ws xs (apart_rest w ws a) (apart_rest x xs b) o.1 v.1 (λ m. dite (ℕ_discrete w.mailbox m)
     (λ same. ap (λ k. at_mailbox k ws) (sym same) ∙ none_behind w ws a ∙ sym (none_behind x xs b)
-        ∙ ap (λ k. at_mailbox k xs) (sym here ∙ same))
+    ∙ ap (λ k. at_mailbox k xs) (sym here ∙ same))
     (λ n. sym (at_behind m w ws n) ∙ e m ∙ at_behind m x xs (λ y. n (here ∙ y)))) in
     λ k. is k ∷ rest k)
     (λ n.
     let one =
-        at_has w.mailbox xs w (sym (at_behind w.mailbox x xs (λ y. n (sym y))) ∙ sym (e w.mailbox) ∙ at_first w ws) in
+    at_has w.mailbox xs w (sym (at_behind w.mailbox x xs (λ y. n (sym y))) ∙ sym (e w.mailbox) ∙ at_first w ws) in
     let other = at_has x.mailbox ws x (sym (at_behind x.mailbox w ws n) ∙ e x.mailbox ∙ at_first x xs) in
     absurd
-        (older_once word w.mailbox x.mailbox n
-        (each_of (λ (y : Waiting). IsOlder word w.mailbox y.mailbox) ws x o.0 other.0)
-        (each_of (λ (y : Waiting). IsOlder word x.mailbox y.mailbox) xs w v.0 one.0)))
+    (older_once word w.mailbox x.mailbox n
+    (each_of (λ (y : Waiting). IsOlder word w.mailbox y.mailbox) ws x o.0 other.0)
+    (each_of (λ (y : Waiting). IsOlder word x.mailbox y.mailbox) xs w v.0 one.0)))
 
 -- no request is in a mailbox that is not there
 none_past : (q : List Waiting) (m : ℕ) → 3 ≤ m → Each (λ x. x.mailbox < 3) q → at_mailbox m q ≡ None
@@ -160,10 +163,10 @@ one_route ws s t part bus r small f g =
     let too : lists_of t r ≡ lists_of t (part r).route = ap (lists_of t) (sym b.0) in
     same_lists (lists_of s r) (lists_of t r)
     (ap (λ (l : RouteLists). l.requested) at ∙ a.1.requested ∙ sym b.1.requested
-        ∙ ap (λ (l : RouteLists). l.requested) (sym too))
+    ∙ ap (λ (l : RouteLists). l.requested) (sym too))
     (sym (c.done_is r) ∙ d.done_is r)
     (ap (λ (l : RouteLists). l.aborted) at ∙ a.1.aborted ∙ sym b.1.aborted
-        ∙ ap (λ (l : RouteLists). l.aborted) (sym too))
+    ∙ ap (λ (l : RouteLists). l.aborted) (sym too))
     (sym (c.reaped_is r) ∙ d.reaped_is r)
 
 pub shows_one : ShowsOneState
@@ -172,10 +175,10 @@ shows_one ws part bus s t law laws eight too sh shown f g =
     same_state s t
     (same_priority s.txfp t.txfp (count_requests s.routes) (count_requests t.routes) (sym sh.rest ∙ shown.rest))
     (same_list None s.claims t.claims (law.three ∙ sym laws.three)
-        (λ k h. (here k (let l = law.three in omega arith)).claim))
+    (λ k h. (here k (let l = law.three in omega arith)).claim))
     (same_queue (get_or ws 0 0) s.queue t.queue (apart_queue s law) (apart_queue t laws) sh.order shown.order
-        (λ m. dite (dec_le (suc m) 3)
+    (λ m. dite (dec_le (suc m) 3)
     (λ small. (here m small).request)
     (λ past. none_past s.queue m (omega arith) (small_mailboxes s law)
-        ∙ sym (none_past t.queue m (omega arith) (small_mailboxes t laws)))))
+    ∙ sym (none_past t.queue m (omega arith) (small_mailboxes t laws)))))
     (same_list no_lists s.routes t.routes (eight ∙ sym too) (λ k h. one_route ws s t part bus k (omega arith) f g))

@@ -44,8 +44,18 @@ is_there s m lane law is low = ⊎_elim (λ (e : IsEmptyLane s m). let l = e.lan
     let l : lane ≡ lane_by w = is ∙ q.lane in
     let n = low_five lane (mark_by w.status w.abort_asked) w.route b.1 l in
     let place = each_of (IsInPlace (length s.routes)) s.queue w law.in_place at.0 in
-    record { request = w; mailbox_is = at.1; has = at.0; found = found s w law at.0; mark = n.0; owner = n.1; lane_is =
-        l; there = place.route; small = place.mailbox }) k) (reads s m law)
+    record {
+      request = w;
+      mailbox_is = at.1;
+      has = at.0;
+      found = found s w law at.0;
+      mark = n.0;
+      owner = n.1;
+      lane_is =
+          l;
+      there = place.route;
+      small = place.mailbox;
+    }) k) (reads s m law)
 
 -- the status of the request, and whether its abort was asked, by the mark
 pub status_of : (s : State) (m lane : ℕ) (t : IsThere s m lane) (n : ℕ) → lane % 32 ≡ n → t.request.status ≡ status_in n
@@ -111,8 +121,11 @@ no_item x e = cc
 pub is_sent : (s : State) (item : Item) → option_map item_of (on_bus s) ≡ Some item → IsSent s item
 is_sent s item e = ⊎_elim
     (λ (none : on_bus s ≡ None). no_item item (sym (ap (option_map item_of) none) ∙ e))
-    (λ (t : (w : Waiting) × (on_bus s ≡ Some w)). record { request = t.0; on = t.1;
-          item_is = some_item (item_of t.0) item (sym (ap (option_map item_of) t.1) ∙ e) })
+    (λ (t : (w : Waiting) × (on_bus s ≡ Some w)). record {
+      request = t.0;
+      on = t.1;
+      item_is = some_item (item_of t.0) item (sym (ap (option_map item_of) t.1) ∙ e);
+    })
     (some_or_none (on_bus s))
 
 -- nothing is on the bus

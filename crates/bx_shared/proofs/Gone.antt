@@ -31,7 +31,7 @@ ended-has last r w n [] out h = h
 ended-has last r w n (x ∷ xs) out h =
     by_cases (λ l. Has l n) (stays_in last r w x) (ended_of last r w xs) (x ∷ ended_of last r w xs)
     (λ here. ⊎_elim (λ (e : x ≡ n). absurd (true≢false (sym here ∙ ap (stays_in last r w) e ∙ out)))
-        (λ k. ended-has last r w n xs out k) h)
+    (λ k. ended-has last r w n xs out k) h)
     (λ _. ⊎_elim (λ (e : x ≡ n). inl e) (λ k. inr (ended-has last r w n xs out k)) h)
 
 pub is_gone : (p : RouteView) (seen number route : ℕ) (tops : List ℕ) → p.last ≡ tops → p.route ≡ route → 1 ≤ number →
@@ -39,8 +39,8 @@ pub is_gone : (p : RouteView) (seen number route : ℕ) (tops : List ℕ) → p.
     Has (looked p seen).ended number
 is_gone p seen number route tops put own some most out =
     ended-has p.last p.route seen number (up_to (last_number p.requested))
-        (subst (λ (l : List ℕ). stays_in l p.route seen number ≡ false) (sym put)
-        (subst (λ (r : ℕ). stays_in tops r seen number ≡ false) (sym own) out))
+    (subst (λ (l : List ℕ). stays_in l p.route seen number ≡ false) (sym put)
+    (subst (λ (r : ℕ). stays_in tops r seen number ≡ false) (sym own) out))
     (up_to-has (last_number p.requested) number some most)
 
 -- a mailbox that holds a number of the route: its lane is requested, and the route's
@@ -53,11 +53,15 @@ pub holds_it : (last : List ℕ) (route word number mailbox : ℕ) → is_in las
     HoldsIt last route word number mailbox
 holds_it last route word number mailbox e =
     let a = and_parts ((lane_of word mailbox / 32 == route) && nat_lt 2 (mark_of word mailbox))
-        (get_or last mailbox 0 == number) e in
+    (get_or last mailbox 0 == number) e in
     let b = and_parts (lane_of word mailbox / 32 == route) (nat_lt 2 (mark_of word mailbox)) a.0 in
     let low = ltb-true 2 (mark_of word mailbox) b.1 in
-    record { owner = eqb-true (lane_of word mailbox / 32) route b.0; requested = omega arith; number_is =
-        eqb-true (get_or last mailbox 0) number a.1 }
+    record {
+      owner = eqb-true (lane_of word mailbox / 32) route b.0;
+      requested = omega arith;
+      number_is =
+          eqb-true (get_or last mailbox 0) number a.1;
+    }
 
 -- a mark above that of a transmission says that an abort was asked, and one below that it is pending or scheduled
 pub above_sent : (n : ℕ) → IsMark n → 15 < n → (n ≡ 31) ⊎ (n ≡ 23)

@@ -42,12 +42,12 @@ pub counts_reaped : (b d : BusView) (word : ℕ) (item : Item) (t : Tally) → d
     IsTally b.done (map label_of b.reaped ++ label_of item ∷ []) t → IsTally d.done (map label_of d.reaped) t
 counts_reaped b d word item t is sends marks other h =
     let mark : mark_of word b.mailbox ≡ 31 =
-        ⊎_elim (λ (e : mark_of word b.mailbox ≡ 15). absurd (other e)) (λ (e : mark_of word b.mailbox ≡ 31). e) marks in
+    ⊎_elim (λ (e : mark_of word b.mailbox ≡ 15). absurd (other e)) (λ (e : mark_of word b.mailbox ≡ 31). e) marks in
     let due : cond (nat_lt 15 (mark_of word b.mailbox)) b.sends None ≡ Some item =
-        ap (λ n. cond (nat_lt 15 n) b.sends None) mark ∙ sends in
+    ap (λ n. cond (nat_lt 15 n) b.sends None) mark ∙ sends in
     subst (λ (x : BusView). IsTally x.done (map label_of x.reaped) t) (sym is)
     (subst (λ (l : List (ℕ × ℕ)). IsTally b.done l t)
-        (sym (ap (λ o. map label_of (b.reaped ++ option_to_list o)) due ∙ labels-push b.reaped item)) h)
+    (sym (ap (λ o. map label_of (b.reaped ++ option_to_list o)) due ∙ labels-push b.reaped item)) h)
 
 -- the counts of a route, by what its seat and the bus's count
 pub counts_route : (b : BusPlace) (route : ℕ) (s : RoutePlace) (c : RouteCounts) →

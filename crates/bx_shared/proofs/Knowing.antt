@@ -29,8 +29,13 @@ bus_claim s m owner b f = record {
   reaped_known = f.reaped_known;
   sends = f.sends;
   mailbox = f.mailbox;
-  reaps = λ x e. let g = f.reaps x e in record { request = g.request; turn = g.turn; asked = g.asked;
-      mailbox_is = g.mailbox_is; item_is = g.item_is };
+  reaps = λ x e. let g = f.reaps x e in record {
+    request = g.request;
+    turn = g.turn;
+    asked = g.asked;
+    mailbox_is = g.mailbox_is;
+    item_is = g.item_is;
+  };
   heads = λ h. let g = f.heads h in record { before = g.before; heads = g.heads };
 }
 
@@ -48,7 +53,7 @@ bus_request s r m n f b there k =
     let l = requested_lists (lists_of s r) e in
     let grows : (i : ℕ) (y : Entry) → Has (lists_of s i).requested y → Has (lists_of t i).requested y =
     set-each (λ (i : ℕ) (x : RouteLists). (y : Entry) → Has (lists_of s i).requested y → Has x.requested y) s.routes r l
-        no_lists there
+    no_lists there
     (λ y h. has-left (lists_of s r).requested (e ∷ []) y h) (λ i ne y h. h) in
     let on_bus = find-push (λ (x : Waiting). is_transmitting x.status) s.queue w refl in
     let in_turn = find-push (λ (x : Waiting). is_scheduled x.status) s.queue w refl in
@@ -56,9 +61,9 @@ bus_request s r m n f b there k =
     record {
       stands = bus_on s t (past_of b) grows
           (set-each (λ (i : ℕ) (x : RouteLists). (lists_of s i).done ≡ x.done) s.routes r l no_lists there refl
-              (λ i ne. refl))
+          (λ i ne. refl))
           (set-each (λ (i : ℕ) (x : RouteLists). (lists_of s i).reaped ≡ x.reaped) s.routes r l no_lists there refl
-              (λ i ne. refl)) k.stands;
+          (λ i ne. refl)) k.stands;
       priority = k.priority;
       reaped_known = each_more (λ (x : Item). Has (lists_of s x.0).requested (entry_on_bus x))
           (λ (x : Item). Has (lists_of t x.0).requested (entry_on_bus x)) b.reaped
@@ -66,8 +71,14 @@ bus_request s r m n f b there k =
       sends = ap (option_map item_of) on_bus ∙ k.sends;
       mailbox = λ x is. k.mailbox x (sym on_bus ∙ is);
       reaps = λ x is. let g = k.reaps x is in
-          record { request = g.request; turn = in_turn ∙ g.turn; asked = g.asked; mailbox_is = g.mailbox_is; item_is =
-          g.item_is };
+          record {
+            request = g.request;
+            turn = in_turn ∙ g.turn;
+            asked = g.asked;
+            mailbox_is = g.mailbox_is;
+            item_is =
+                g.item_is;
+          };
       heads = λ h. let g = k.heads h in let most =
           g.before in record { before = omega arith; heads = λ is. absurd (omega arith) };
     }
@@ -75,10 +86,10 @@ bus_request s r m n f b there k =
 -- the seat of a route whose lists, claims and their payload words stay
 pub fits_else : (ws next : List ℕ) (s t : State) (o : RouteView) → lists_of t o.route ≡ lists_of s o.route →
     ((m : ℕ) → claim_of s m ≡ Some o.route → (claim_of t m ≡ Some o.route)
-        × (get_or next (1 + 2 * m) 0 ≡ get_or ws (1 + 2 * m) 0)
-        × (get_or next (2 + 2 * m) 0 ≡ get_or ws (2 + 2 * m) 0)) →
+    × (get_or next (1 + 2 * m) 0 ≡ get_or ws (1 + 2 * m) 0)
+    × (get_or next (2 + 2 * m) 0 ≡ get_or ws (2 + 2 * m) 0)) →
     ((m : ℕ) → claim_of t m ≡ Some o.route → claim_of s m ≡ Some o.route) →
-        (Each (IsKnown o) s.queue → Each (IsKnown o) t.queue) → Fits ws s o → Fits next t o
+    (Each (IsKnown o) s.queue → Each (IsKnown o) t.queue) → Fits ws s o → Fits next t o
 fits_else ws next s t o lists there back stay f = record {
   requested = ap (λ (l : RouteLists). l.requested) lists ∙ f.requested;
   aborted = ap (λ (l : RouteLists). l.aborted) lists ∙ f.aborted;

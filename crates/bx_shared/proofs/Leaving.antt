@@ -37,7 +37,7 @@ lane_there word q w lanes small apart has =
     lanes w.mailbox (each_of (λ (x : Waiting). x.mailbox < 3) q w small has) ∙ ⊎_elim
     (λ (n : HoldsNone q w.mailbox). absurd (none_not_some w (sym n.at ∙ has-at_mailbox q w has (apart w.mailbox))))
     (λ (o : HoldsOne q w.mailbox). o.lane
-        ∙ ap lane_by (same_request o.request w (sym o.at ∙ has-at_mailbox q w has (apart w.mailbox))))
+    ∙ ap lane_by (same_request o.request w (sym o.at ∙ has-at_mailbox q w has (apart w.mailbox))))
     (holds q w.mailbox (apart w.mailbox))
 
 is_requested_there : (word : ℕ) (q : List Waiting) (w : Waiting) →
@@ -82,14 +82,22 @@ is_first word q m lanes order small apart o =
     let t = told_by word q m o.small lanes apart o.requested in
     let sp = split_at m q t.request t.at in
     let each = all_has q (λ x. (x.mailbox < 3) × IsRequested word x.mailbox)
-        (λ w h. (each_of (λ (x : Waiting). x.mailbox < 3) q w small h,
-          is_requested_there word q w lanes small apart h)) in
+    (λ w h. (
+      each_of (λ (x : Waiting). x.mailbox < 3) q w small h,
+      is_requested_there word q w lanes small apart h,
+    )) in
     let none = no_elements sp.before (first_by_order word sp.before sp.behind t.request (subst AreApart sp.whole apart)
-        (subst (AreOrdered word) sp.whole order)
+    (subst (AreOrdered word) sp.whole order)
     (subst (Each (λ x. (x.mailbox < 3) × IsRequested word x.mailbox)) sp.whole each)
-        (subst (IsOldest word) (sym sp.at) o)) in
-    record { request = t.request; behind = sp.behind; whole =
-        sp.whole ∙ ap (λ (l : List Waiting). l ++ t.request ∷ sp.behind) none; mailbox_is = sp.at; lane_is = t.lane_is }
+    (subst (IsOldest word) (sym sp.at) o)) in
+    record {
+      request = t.request;
+      behind = sp.behind;
+      whole =
+          sp.whole ∙ ap (λ (l : List Waiting). l ++ t.request ∷ sp.behind) none;
+      mailbox_is = sp.at;
+      lane_is = t.lane_is;
+    }
 
 -- the oldest is told
 pub leaves : (word m next : ℕ) (es : List Waiting) (left : List Left) (x : Left) → Remains word es left →
@@ -102,11 +110,11 @@ leaves word m next es left x r o ls is =
     let small = subst (Each (λ y. y.mailbox < 3)) f.whole r.small in
     let apart : AreApart (w ∷ f.behind) = subst AreApart f.whole r.apart in
     let behind = none_there f.behind w.mailbox (let most = apart w.mailbox in
-        let one = ap (λ b. cond b (suc (count_at w.mailbox f.behind)) (count_at w.mailbox f.behind))
-        (eq-eqb w.mailbox w.mailbox refl) in omega arith) in
+    let one = ap (λ b. cond b (suc (count_at w.mailbox f.behind)) (count_at w.mailbox f.behind))
+    (eq-eqb w.mailbox w.mailbox refl) in omega arith) in
     let split : es ≡ r.taken ++ w ∷ f.behind = r.split ∙ ap (λ l. r.taken ++ l) f.whole in
     let has : Has es w =
-        subst (λ (l : List Waiting). Has l w) (sym split) (has-right r.taken (w ∷ f.behind) w (inl refl)) in
+    subst (λ (l : List Waiting). Has l w) (sym split) (has-right r.taken (w ∷ f.behind) w (inl refl)) in
     let owner = low_five (lane_of word m) (mark_by w.status w.abort_asked) w.route (within w).1 f.lane_is in
     record {
       taken = r.taken ++ w ∷ [];
@@ -117,18 +125,18 @@ leaves word m next es left x r o ls is =
       lanes = λ j few. dite (ℕ_discrete j m)
           (λ e. let P : ℕ → Type 0 = λ i. lane_of next i ≡ waiting_lane f.behind i in
           subst P (sym e)
-              (ls.here
-              ∙ sym (subst (λ (i : ℕ). waiting_lane f.behind i ≡ 0) f.mailbox_is
-                (waiting_lane-none f.behind w.mailbox (let most = apart w.mailbox in
+          (ls.here
+          ∙ sym (subst (λ (i : ℕ). waiting_lane f.behind i ≡ 0) f.mailbox_is
+          (waiting_lane-none f.behind w.mailbox (let most = apart w.mailbox in
           let one = ap (λ b. cond b (suc (count_at w.mailbox f.behind)) (count_at w.mailbox f.behind))
-              (eq-eqb w.mailbox w.mailbox refl) in omega arith)))))
+          (eq-eqb w.mailbox w.mailbox refl) in omega arith)))))
           (λ n. ls.others j few n ∙ r.lanes j few ∙ ap (λ (l : List Waiting). waiting_lane l j) f.whole
           ∙ (let u = ap (λ b. cond b (lane_by w) 0) (ne_eqb w.mailbox j (λ z. n (sym z ∙ f.mailbox_is))) in
-              omega arith));
+          omega arith));
       order =
           (subst (AreOrdered next) f.whole (ordered word next (λ _. Unit {0})
-            (λ i j a b _ _. ls.order i j a b) r.rest r.apart r.small
-            (each_more (λ y. y.mailbox < 3) (λ _. Unit {0}) r.rest (λ _ _. tt) r.small) r.order)).1;
+          (λ i j a b _ _. ls.order i j a b) r.rest r.apart r.small
+          (each_more (λ y. y.mailbox < 3) (λ _. Unit {0}) r.rest (λ _ _. tt) r.small) r.order)).1;
       small = small.1;
       apart = apart_rest w f.behind apart;
     }
@@ -145,7 +153,7 @@ oldest_first word w ws lanes order small apart = record {
       let at = at_has j (w ∷ ws) t.request t.at in
       ⊎_elim (λ (is : w ≡ t.request). absurd (n (sym at.1 ∙ ap (λ (y : Waiting). y.mailbox) (sym is))))
       (λ has. subst (λ (i : ℕ). IsOlder word w.mailbox i) at.1
-          (each_of (λ (y : Waiting). IsOlder word w.mailbox y.mailbox) ws t.request order.0 has)) at.0;
+      (each_of (λ (y : Waiting). IsOlder word w.mailbox y.mailbox) ws t.request order.0 has)) at.0;
 }
 
 no_rest : (word : ℕ) (q : List Waiting) → ((m : ℕ) → m < 3 → lane_of word m ≡ waiting_lane q m) → AreOrdered word q →
@@ -177,7 +185,7 @@ counted (w ∷ ws) s =
     let b = one_more (is_at 1 w) (count_at 1 ws) in
     let c = one_more (is_at 2 w) (count_at 2 ws) in
     let once = of_mailboxes (λ m. cond (m == 0) 1 0 + cond (m == 1) 1 0 + cond (m == 2) 1 0 ≡ 1) refl refl refl
-        w.mailbox s.0 in
+    w.mailbox s.0 in
     omega arith
 
 pub at_most_three : (q : List Waiting) → Each (λ w. w.mailbox < 3) q → AreApart q → length q ≤ 3
@@ -225,7 +233,7 @@ pub last_packed : (es : List Waiting) (w : Waiting) (m head bytes i j : ℕ) →
     j ≡ 2 + 2 * m → IsLast es i head → IsLast es j bytes → ArePacked w.frame w.number head bytes
 last_packed es w m head bytes i j has at a b one other =
     let P : ℕ → ℕ → Waiting → Type 0 = λ place found x. (place ≡ 1 + 2 * x.mailbox → IsHeadOf x.frame x.number found)
-        × (place ≡ 2 + 2 * x.mailbox → found ≡ bytes_word x.frame) in
+    × (place ≡ 2 + 2 * x.mailbox → found ≡ bytes_word x.frame) in
     record {
       head_is = (each_of (P i head) es w one has).0 (omega arith);
       bytes_are = (each_of (P j bytes) es w other has).1 (omega arith);

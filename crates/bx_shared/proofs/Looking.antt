@@ -32,7 +32,7 @@ pub lane_of_request : (ws : List ℕ) (s : State) (w : Waiting) → Shows ws s �
 lane_of_request ws s w sh law has =
     let small = (each_of (IsInPlace (length s.routes)) s.queue w law.in_place has).mailbox in
     let at : at_mailbox w.mailbox s.queue ≡ Some w =
-        has-at_mailbox s.queue w has (let h = law.apart w.mailbox in omega arith) in
+    has-at_mailbox s.queue w has (let h = law.apart w.mailbox in omega arith) in
     sh.lanes w.mailbox small ∙ ⊎_elim
     (λ (e : IsEmptyLane s w.mailbox). absurd (none_not_some w (sym e.none.at ∙ at)))
     (λ k. ⊎_elim (λ (f : IsFillingLane s w.mailbox). absurd (none_not_some w (sym f.none.at ∙ at)))
@@ -53,9 +53,9 @@ both_true a b e f = ap (λ x. x && b) e ∙ f
 any_of : (last : List ℕ) (r w n m : ℕ) → m < 3 → is_in last r w n m ≡ true → stays_in last r w n ≡ true
 any_of last r w n = of_mailboxes (λ m. is_in last r w n m ≡ true → stays_in last r w n ≡ true)
     (λ e. or_first (is_in last r w n 0 || is_in last r w n 1) (is_in last r w n 2)
-        (or_first (is_in last r w n 0) (is_in last r w n 1) e))
+    (or_first (is_in last r w n 0) (is_in last r w n 1) e))
     (λ e. or_first (is_in last r w n 0 || is_in last r w n 1) (is_in last r w n 2)
-        (or_second (is_in last r w n 0) (is_in last r w n 1) e))
+    (or_second (is_in last r w n 0) (is_in last r w n 1) e))
     (λ e. or_second (is_in last r w n 0 || is_in last r w n 1) (is_in last r w n 2) e)
 
 owner_in : (lane m q r : ℕ) → m < 32 → lane ≡ m + 32 * q → q ≡ r → lane / 32 ≡ r
@@ -76,9 +76,9 @@ waits_in ws s last r w sh law has is put =
     let mark = mark_by w.status w.abort_asked in
     any_of last r word w.number w.mailbox small
     (both_true ((lane_of word w.mailbox / 32 == r) && nat_lt 2 (mark_of word w.mailbox))
-        (get_or last w.mailbox 0 == w.number)
+    (get_or last w.mailbox 0 == w.number)
     (both_true (lane_of word w.mailbox / 32 == r) (nat_lt 2 (mark_of word w.mailbox))
-        (eq-eqb (lane_of word w.mailbox / 32) r (owner_in (lane_of word w.mailbox) mark w.route r b.1 lane is))
+    (eq-eqb (lane_of word w.mailbox / 32) r (owner_in (lane_of word w.mailbox) mark w.route r b.1 lane is))
     (lt-ltb 2 (mark_of word w.mailbox) (mark_in (lane_of word w.mailbox) mark w.route b.1 b.0 lane)))
     (eq-eqb (get_or last w.mailbox 0) w.number put))
 
@@ -128,12 +128,12 @@ looks txfp t k id p me =
       three = f.three;
       waiting =
           each_all (IsKnown q) s.queue s.queue (λ x has is. let g = each_of (IsKnown p) s.queue x f.waiting has is in (
-        g.0,
-        g.1,
-        each_more (λ n. stays_in p.last p.route w n ≡ false) (λ n. ¬ (n ≡ x.number)) (ended_of p.last p.route w ns)
-            (λ n out same. true≢false (sym (waits_in t.words s p.last p.route x k.shows law has is g.0)
-                  ∙ ap (stays_in p.last p.route w) (sym same) ∙ out)) (ended_out p.last p.route w ns),
-      )) (λ x h. h);
+            g.0,
+            g.1,
+            each_more (λ n. stays_in p.last p.route w n ≡ false) (λ n. ¬ (n ≡ x.number)) (ended_of p.last p.route w ns)
+                (λ n out same. true≢false (sym (waits_in t.words s p.last p.route x k.shows law has is g.0)
+                ∙ ap (stays_in p.last p.route w) (sym same) ∙ out)) (ended_out p.last p.route w ns),
+          )) (λ x h. h);
       ended = ended_among (λ n. n ≤ last_number p.requested) p.last p.route w ns
           (up_to_most (last_number p.requested) (last_number p.requested) (omega arith));
     })

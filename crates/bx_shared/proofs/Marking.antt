@@ -28,7 +28,7 @@ count-append : (xs ys : List Waiting) (m : ℕ) → count_at m (xs ++ ys) ≡ co
 count-append [] ys m = omega arith
 count-append (x ∷ xs) ys m = let h = count-append xs ys m in
     elim (is_at m x) as (λ b. cond b (suc (count_at m (xs ++ ys))) (count_at m (xs ++ ys))
-        ≡ cond b (suc (count_at m xs)) (count_at m xs) + count_at m ys) [ true ↦ omega arith | false ↦ h ]
+    ≡ cond b (suc (count_at m xs)) (count_at m xs) + count_at m ys) [ true ↦ omega arith | false ↦ h ]
 
 lane-append : (xs ys : List Waiting) (m : ℕ) → waiting_lane (xs ++ ys) m ≡ waiting_lane xs m + waiting_lane ys m
 lane-append [] ys m = omega arith
@@ -43,9 +43,11 @@ ordered-drop word (x ∷ xs) ys w h =
 ordered-mark : (word : ℕ) (xs ys : List Waiting) (w x : Waiting) → x.mailbox ≡ w.mailbox →
     AreOrdered word (xs ++ w ∷ ys) → AreOrdered word (xs ++ x ∷ ys)
 ordered-mark word [] ys w x e h = (subst (λ (m : ℕ). Each (λ y. IsOlder word m y.mailbox) ys) (sym e) h.0, h.1)
-ordered-mark word (y ∷ xs) ys w x e h =
-    (each-replace (λ z. IsOlder word y.mailbox z.mailbox) xs ys w x
-    (λ o. subst (λ (m : ℕ). IsOlder word y.mailbox m) (sym e) o) h.0, ordered-mark word xs ys w x e h.1)
+ordered-mark word (y ∷ xs) ys w x e h = (
+  each-replace (λ z. IsOlder word y.mailbox z.mailbox) xs ys w x
+      (λ o. subst (λ (m : ℕ). IsOlder word y.mailbox m) (sym e) o) h.0,
+  ordered-mark word xs ys w x e h.1,
+)
 
 -- no route's request is one more
 pub count-same : (ls : List RouteLists) (r : ℕ) (l : RouteLists) → r < length ls →
@@ -67,12 +69,14 @@ module _ (ws : List ℕ) (s : State) (w : Waiting) (new lane : ℕ) (sh : Shows 
       let whole = ap (count_at w.mailbox) f.split.whole in
       let parts = count-append f.split.before (w ∷ f.split.behind) w.mailbox in
       let one = ap (λ b. cond b (suc (count_at w.mailbox f.split.behind)) (count_at w.mailbox f.split.behind))
-          (eq-eqb w.mailbox w.mailbox refl) in
+      (eq-eqb w.mailbox w.mailbox refl) in
       (omega arith, omega arith, omega arith)
 
   no_claim : claim_lane (claim_of s w.mailbox) ≡ 0
-  no_claim = elim (claim_of s w.mailbox) as (λ o. count_of_claim o ≡ 0 → claim_lane o ≡ 0) [ None ↦ λ z. refl
-      | Some r ↦ λ z. absurd (omega arith) ] alone_there.0
+  no_claim = elim (claim_of s w.mailbox) as (λ o. count_of_claim o ≡ 0 → claim_lane o ≡ 0) [
+    | None ↦ λ z. refl
+    | Some r ↦ λ z. absurd (omega arith)
+  ] alone_there.0
 
   others_lane : (m : ℕ) → count_at m f.split.before ≡ 0 → count_at m f.split.behind ≡ 0 →
       waiting_lane (f.split.before ++ f.split.behind) m ≡ 0
@@ -96,7 +100,7 @@ module _ (ws : List ℕ) (s : State) (w : Waiting) (new lane : ℕ) (sh : Shows 
   paid_kept : Each (IsPaid (set ws 0 new)) (f.split.before ++ w ∷ f.split.behind)
   paid_kept = subst (Each (IsPaid (set ws 0 new))) f.split.whole
       (each_more (IsPaid ws) (IsPaid (set ws 0 new)) s.queue (λ x h. let t = aside ws new x.mailbox in
-        paid_on ws (set ws 0 new) x t.0 t.1 h) sh.payload)
+      paid_on ws (set ws 0 new) x t.0 t.1 h) sh.payload)
 
   -- it is another status, or an abort is asked
   pub shows_mark : (st : Status) (asked : Bool) → lane ≡ lane_by (marked w st asked) →
@@ -108,16 +112,16 @@ module _ (ws : List ℕ) (s : State) (w : Waiting) (new lane : ℕ) (sh : Shows 
         seven = length-set ws 0 new ∙ sh.seven;
         lanes = λ j small. ap (λ z. lane_of z j) word-is ∙ dite (ℕ_discrete j w.mailbox)
             (λ e. let P : ℕ → Type 0 =
-                λ i. lane_of new i ≡ claim_lane (claim_of s i) + waiting_lane (set s.queue (at_of s w) x) i in
+            λ i. lane_of new i ≡ claim_lane (claim_of s i) + waiting_lane (set s.queue (at_of s w) x) i in
             subst P (sym e) (ls.here ∙ is ∙ (let a = no_claim in let b = ap (λ l. waiting_lane l w.mailbox) q in
-                  let c = lane-append f.split.before (x ∷ f.split.behind) w.mailbox in
+            let c = lane-append f.split.before (x ∷ f.split.behind) w.mailbox in
             let d = lane-append f.split.before f.split.behind w.mailbox in let g =
-                others_lane w.mailbox alone_there.1 alone_there.2 in
+            others_lane w.mailbox alone_there.1 alone_there.2 in
             let h = ap (λ z. cond z (lane_by x) 0) (eq-eqb w.mailbox w.mailbox refl) in omega arith)))
             (λ n. ls.others j small n ∙ sh.lanes j small ∙ (let a = was j n in let b = ap (λ l. waiting_lane l j) q in
-                  let c = lane-append f.split.before (x ∷ f.split.behind) j in
+            let c = lane-append f.split.before (x ∷ f.split.behind) j in
             let d = lane-append f.split.before f.split.behind j in let h =
-                ap (λ z. cond z (lane_by x) 0) (ne_eqb w.mailbox j (λ e. n (sym e))) in omega arith));
+            ap (λ z. cond z (lane_by x) 0) (ne_eqb w.mailbox j (λ e. n (sym e))) in omega arith));
         order = subst (λ z. AreOrdered z (set s.queue (at_of s w) x)) (sym word-is)
             (subst (AreOrdered new) (sym q) (ordered-mark new f.split.before f.split.behind w x refl order_kept));
         rest = ap rest_of word-is ∙ ls.rest ∙ sh.rest;
@@ -136,11 +140,11 @@ module _ (ws : List ℕ) (s : State) (w : Waiting) (new lane : ℕ) (sh : Shows 
         seven = length-set ws 0 new ∙ sh.seven;
         lanes = λ j small. ap (λ z. lane_of z j) word-is ∙ dite (ℕ_discrete j w.mailbox)
             (λ e. let P : ℕ → Type 0 =
-                λ i. lane_of new i ≡ claim_lane (claim_of s i) + waiting_lane (remove s.queue (at_of s w)) i in
+            λ i. lane_of new i ≡ claim_lane (claim_of s i) + waiting_lane (remove s.queue (at_of s w)) i in
             subst P (sym e) (ls.here ∙ is ∙ (let a = no_claim in let b = ap (λ l. waiting_lane l w.mailbox) q in
-                  let g = others_lane w.mailbox alone_there.1 alone_there.2 in omega arith)))
+            let g = others_lane w.mailbox alone_there.1 alone_there.2 in omega arith)))
             (λ n. ls.others j small n ∙ sh.lanes j small ∙ (let a = was j n in let b = ap (λ l. waiting_lane l j) q in
-                  omega arith));
+            omega arith));
         order = subst (λ z. AreOrdered z (remove s.queue (at_of s w))) (sym word-is)
             (subst (AreOrdered new) (sym q) (ordered-drop new f.split.before f.split.behind w order_kept));
         rest = ap rest_of word-is ∙ ls.rest ∙ sh.rest ∙ ap (rest_by s.txfp)
@@ -155,15 +159,19 @@ pub fits_same : (ws : List ℕ) (new : ℕ) (s t : State) (o : RouteView) → t.
     (lists_of t o.route).requested ≡ (lists_of s o.route).requested →
     (lists_of t o.route).aborted ≡ (lists_of s o.route).aborted →
     (Each (IsKnown o) s.queue → Each (Has o.asked) (lists_of s o.route).reaped →
-        Each (Has o.asked) (lists_of t o.route).reaped) → (Each (IsKnown o) s.queue → Each (IsKnown o) t.queue) →
+    Each (Has o.asked) (lists_of t o.route).reaped) → (Each (IsKnown o) s.queue → Each (IsKnown o) t.queue) →
     Fits ws s o → Fits (set ws 0 new) t o
 fits_same ws new s t o claims requested aborted reaped stay f = record {
   requested = requested ∙ f.requested;
   aborted = aborted ∙ f.aborted;
   reaped = reaped f.waiting f.reaped;
   claim = λ y. let g = f.claim y in let k = aside ws new o.mailbox in
-      record { own = ap (λ c. get_or c o.mailbox None) claims ∙ g.own; head = λ h. k.0 ∙ g.head h; bytes =
-      λ h. k.1 ∙ g.bytes h };
+      record {
+        own = ap (λ c. get_or c o.mailbox None) claims ∙ g.own;
+        head = λ h. k.0 ∙ g.head h;
+        bytes =
+            λ h. k.1 ∙ g.bytes h;
+      };
   only = λ m e. f.only m (ap (λ c. get_or c m None) (sym claims) ∙ e);
   three = f.three;
   waiting = stay f.waiting;

@@ -86,14 +86,18 @@ moves txfp t k id p q ws s me same reached priority eight shows mine others bus 
         bus_fits = bus k.bus_fits;
         held = λ j v e. ⊎_elim
             (λ (t : (j ≡ id) × (alone q ≡ v)). subst (λ (x : ℕ × View). Holds s.queue k.at P k.bus_at k.bus x.0 x.1)
-                (λ i. (sym t.0 i, t.1 i))
-            (record { routes = ((ap k.at same ∙ my_place, now), tt); buses = tt; once = (tt, tt);
-                  seal = no_seal (λ es. (s.queue ≡ es) × (k.bus_at ≡ id) × ((r : ℕ) → r < 8 → k.at r ≡ id)) }))
+            (λ i. (sym t.0 i, t.1 i))
+            (record {
+              routes = ((ap k.at same ∙ my_place, now), tt);
+              buses = tt;
+              once = (tt, tt);
+              seal = no_seal (λ es. (s.queue ≡ es) × (k.bus_at ≡ id) × ((r : ℕ) → r < 8 → k.at r ≡ id));
+            }))
             (λ (t : (j ≢ id) × (get_elem? t.views j ≡ some v)). let g = k.held j v t.1 in record {
               routes = each_more (λ o. (k.at o.route ≡ j) × (k.part o.route ≡ o))
                   (λ o. (k.at o.route ≡ j) × (P o.route ≡ o)) v.routes
                   (λ o a. (a.0, put-else k.part p.route q o.route (λ e. t.0 (sym a.0 ∙ ap k.at e ∙ my_place)) ∙ a.1))
-                      g.routes;
+                  g.routes;
               buses = g.buses;
               once = g.once;
               seal = λ es y. let z = g.seal es y in
@@ -117,7 +121,7 @@ stays txfp t k id p q me same mine =
     subst (λ (ws : List ℕ). IsKeptAs txfp (record { words = ws; homes = t.homes; views = set t.views id (alone q) })
     k.core) (sym (set-get_or t.words 0 0))
     (moves txfp t k id p q t.words k.core me same k.reached k.priority k.eight k.shows (mine (knows txfp t k id p me))
-        (λ o _ f. f) (λ b. b) (inl refl))
+    (λ o _ f. f) (λ b. b) (inl refl))
 
 -- an exchange that finds another word changes no state of the core
 pub misses : (txfp : Bool) (t : St) (k : IsKept txfp t) (id : ℕ) (p : RouteView) →

@@ -38,7 +38,7 @@ module _ (word next : ℕ) (Q : ℕ → Type 0) (same : (i j : ℕ) → i < j �
   pub older : (i j : ℕ) → i < 3 → j < 3 → Q i → Q j → ¬ (j ≡ i) → IsOlder word i j → IsOlder next i j
   older i j a b qi qj n h = dite (dec_le (suc i) j) (λ l. same i j (omega arith) b qi qj ∙ h)
       (λ l. ap (λ x. field next x 1) (let e : 23 + i + j ≡ 23 + j + i = omega arith in e)
-          ∙ same j i (omega arith) a qj qi
+      ∙ same j i (omega arith) a qj qi
       ∙ ap (λ x. field word x 1) (let e : 23 + j + i ≡ 23 + i + j = omega arith in e) ∙ h)
 
   older_row : (i : ℕ) → i < 3 → Q i → (q : List Waiting) → Each (λ x. ¬ (x.mailbox ≡ i)) q →
@@ -65,9 +65,9 @@ ordered-push word (x ∷ xs) w a h =
 pub older_once : (word i j : ℕ) → ¬ (i ≡ j) → IsOlder word i j → IsOlder word j i → ⊥
 older_once word i j n a b =
     let e : older_bit i j ≡ older_bit j i =
-        sym a ∙ ap (λ x. field word x 1) (let e : 23 + i + j ≡ 23 + j + i = omega arith in e) ∙ b in
+    sym a ∙ ap (λ x. field word x 1) (let e : 23 + i + j ≡ 23 + j + i = omega arith in e) ∙ b in
     let bit : (k l : ℕ) → k < l → (older_bit k l ≡ 0) × (older_bit l k ≡ 1) =
-        λ k l h. (ap (λ c. cond c 0 1) (lt-ltb k l h), ap (λ c. cond c 0 1) (le-ltb l k (omega arith))) in
+    λ k l h. (ap (λ c. cond c 0 1) (lt-ltb k l h), ap (λ c. cond c 0 1) (le-ltb l k (omega arith))) in
     dite (dec_le (suc i) j) (λ l. let t = bit i j l in let x = t.0 in let y = t.1 in omega arith)
     (λ l. dite (dec_le (suc j) i) (λ l. let t = bit j i l in let x = t.0 in let y = t.1 in omega arith)
-        (λ m. n (omega arith)))
+    (λ m. n (omega arith)))

@@ -51,5 +51,5 @@ pub dealt-push : (table old : TableId) (seats : List RoutePlace) (n : ℕ) (s : 
 dealt-push table old seats n s long h same at part route x e = ⊎_elim
     (λ (was : slice_get seats route ≡ Some x). let t = h route x was in (t.0 ∙ sym same, t.1))
     (λ (new : (route ≡ length seats) × (s ≡ x)). subst (λ (y : RoutePlace). (y.table ≡ table)
-          × (y.part ≡ opening route)) new.1 (at, part ∙ ap opening (sym (new.0 ∙ long))))
+    × (y.part ≡ opening route)) new.1 (at, part ∙ ap opening (sym (new.0 ∙ long))))
     (pushed seats s route x e)

@@ -65,19 +65,23 @@ seated txfp t k views at bus_at held = record {
 -- the first place of a seat goes to a new one
 pub splits : (txfp : Bool) (t : St) (k : IsKept txfp t) (id : ℕ) (bs : List BusView) (p : RouteView)
     (ps : List RouteView) → get_elem? t.views id ≡ some (view bs (p ∷ ps)) →
-    IsKeptAs txfp (record { words = t.words; homes = t.homes; views = set t.views id (view bs ps)
-          ++ view [] (p ∷ []) ∷ [] }) k.core
+    IsKeptAs txfp (record {
+      words = t.words;
+      homes = t.homes;
+      views = set t.views id (view bs ps)
+          ++ view [] (p ∷ []) ∷ [];
+    }) k.core
 splits txfp t k id bs p ps me =
     let h = k.held id (view bs (p ∷ ps)) me in
     let n = length (set t.views id (view bs ps)) in
     let at = put k.at p.route n in
     -- a place other than p's stays where it is
     let stay : (j : ℕ) (o : RouteView) → ¬ (o.route ≡ p.route) → (k.at o.route ≡ j) × (k.part o.route ≡ o) →
-        (at o.route ≡ j) × (k.part o.route ≡ o) = λ j o other a. (put-else k.at p.route n o.route other ∙ a.0, a.1) in
+    (at o.route ≡ j) × (k.part o.route ≡ o) = λ j o other a. (put-else k.at p.route n o.route other ∙ a.0, a.1) in
     seated txfp t k (set t.views id (view bs ps) ++ view [] (p ∷ []) ∷ []) at k.bus_at (λ j v e. ⊎_elim
     (λ old. ⊎_elim
     (λ (t : (j ≡ id) × (view bs ps ≡ v)). subst (λ (x : ℕ × View). Holds k.core.queue at k.part k.bus_at k.bus x.0 x.1)
-        (λ i. (sym t.0 i, t.1 i)) (record {
+    (λ i. (sym t.0 i, t.1 i)) (record {
       routes = each_both (λ o. (k.at o.route ≡ id) × (k.part o.route ≡ o)) (λ o. ¬ (o.route ≡ p.route))
           (λ o. (at o.route ≡ id) × (k.part o.route ≡ o)) ps (λ o a other. stay id o other a) h.routes.1
           (of_map (λ y. ¬ (y ≡ p.route)) ps h.once.0);
@@ -91,15 +95,22 @@ splits txfp t k id bs p ps me =
           (λ o a. stay j o (λ is. t.0 (sym a.0 ∙ ap k.at is ∙ h.routes.0.0)) a) g.routes;
       buses = g.buses;
       once = g.once;
-      seal = λ es y. let z = g.seal es y in
-          (z.0, z.1, λ r small. put-else k.at p.route n r (λ e. t.0 (sym (z.2 r small) ∙ ap k.at e ∙ h.routes.0.0))
-          ∙ z.2 r small);
+      seal = λ es y. let z = g.seal es y in (
+        z.0,
+        z.1,
+        λ r small. put-else k.at p.route n r (λ e. t.0 (sym (z.2 r small) ∙ ap k.at e ∙ h.routes.0.0))
+            ∙ z.2 r small,
+      );
     })
     (at_set t.views id j (view bs ps) v old))
     (λ (t : (j ≡ n) × (view [] (p ∷ []) ≡ v)). subst
-        (λ (x : ℕ × View). Holds k.core.queue at k.part k.bus_at k.bus x.0 x.1) (λ i. (sym t.0 i, t.1 i))
-    (record { routes = ((put-here k.at p.route n, h.routes.0.1), tt); buses = tt; once = (tt, tt);
-          seal = no_seal (λ es. (k.core.queue ≡ es) × (k.bus_at ≡ n) × ((r : ℕ) → r < 8 → at r ≡ n)) }))
+    (λ (x : ℕ × View). Holds k.core.queue at k.part k.bus_at k.bus x.0 x.1) (λ i. (sym t.0 i, t.1 i))
+    (record {
+      routes = ((put-here k.at p.route n, h.routes.0.1), tt);
+      buses = tt;
+      once = (tt, tt);
+      seal = no_seal (λ es. (k.core.queue ≡ es) × (k.bus_at ≡ n) × ((r : ℕ) → r < 8 → at r ≡ n));
+    }))
     (at_end (set t.views id (view bs ps)) (view [] (p ∷ [])) v j e))
 
 pub splits-keep : (txfp : Bool) (id : ℕ) (bs : List BusView) (p : RouteView) (ps : List RouteView) →
@@ -121,9 +132,9 @@ disjoint : (at : ℕ → ℕ) (part : ℕ → RouteView) (id other : ℕ) (xs ys
     Each (λ x. Each (λ y. ¬ (y ≡ x)) (map (λ p. p.route) ys)) (map (λ p. p.route) xs)
 disjoint at part id other xs ys apart a b = each-map (λ x. Each (λ y. ¬ (y ≡ x)) (map (λ p. p.route) ys)) xs
     (each_more (λ o. (at o.route ≡ id) × (part o.route ≡ o)) (λ p. Each (λ y. ¬ (y ≡ p.route)) (map (λ p. p.route) ys))
-        xs (λ o h. each-map (λ y. ¬ (y ≡ o.route)) ys
+    xs (λ o h. each-map (λ y. ¬ (y ≡ o.route)) ys
     (each_more (λ q. (at q.route ≡ other) × (part q.route ≡ q)) (λ q. ¬ (q.route ≡ o.route)) ys
-        (λ q g is. apart (sym g.0 ∙ ap at is ∙ h.0)) b)) a)
+    (λ q g is. apart (sym g.0 ∙ ap at is ∙ h.0)) b)) a)
 
 -- what stands at the other seat stands at this one afterwards
 abbrev moved : ℕ → ℕ → ℕ → ℕ
@@ -142,32 +153,36 @@ pub joins : (txfp : Bool) (t : St) (k : IsKept txfp t) (id other : ℕ) (v w : V
 joins txfp t k id other v w me apart it =
     let h = k.held id v me in
     let was : get_elem? t.views other ≡ some w = ⊎_elim (λ (t : (other ≡ id) × (both_of v w ≡ w)). absurd (apart t.0))
-        (λ (t : (other ≢ id) × (get_elem? t.views other ≡ some w)). t.1) (at_set t.views id other (both_of v w) w it) in
+    (λ (t : (other ≢ id) × (get_elem? t.views other ≡ some w)). t.1) (at_set t.views id other (both_of v w) w it) in
     let g = k.held other w was in
     let at : ℕ → ℕ = λ r. moved id other (k.at r) in
     let bus_at = moved id other k.bus_at in
     let here : (o : RouteView) → (k.at o.route ≡ id) × (k.part o.route ≡ o) → (at o.route ≡ id) × (k.part o.route ≡ o) =
-        λ o a. (moved_else id other (k.at o.route) (λ e. apart (sym e ∙ a.0)) ∙ a.0, a.1) in
+    λ o a. (moved_else id other (k.at o.route) (λ e. apart (sym e ∙ a.0)) ∙ a.0, a.1) in
     let there : (o : RouteView) → (k.at o.route ≡ other) × (k.part o.route ≡ o) →
-        (at o.route ≡ id) × (k.part o.route ≡ o) = λ o a. (moved_other id other (k.at o.route) a.0, a.1) in
+    (at o.route ≡ id) × (k.part o.route ≡ o) = λ o a. (moved_other id other (k.at o.route) a.0, a.1) in
     seated txfp t k (set (set t.views id (both_of v w)) other spent) at bus_at (λ j u e. ⊎_elim
     (λ (t : (j ≡ other) × (spent ≡ u)). subst (λ (x : ℕ × View). Holds k.core.queue at k.part bus_at k.bus x.0 x.1)
-        (λ i. (sym t.0 i, t.1 i))
-    (record { routes = tt; buses = tt; once = tt;
-          seal = no_seal (λ es. (k.core.queue ≡ es) × (bus_at ≡ other) × ((r : ℕ) → r < 8 → at r ≡ other)) }))
+    (λ i. (sym t.0 i, t.1 i))
+    (record {
+      routes = tt;
+      buses = tt;
+      once = tt;
+      seal = no_seal (λ es. (k.core.queue ≡ es) × (bus_at ≡ other) × ((r : ℕ) → r < 8 → at r ≡ other));
+    }))
     (λ (z : (j ≢ other) × (get_elem? (set t.views id (both_of v w)) j ≡ some u)). ⊎_elim
     (λ (r : (j ≡ id) × (both_of v w ≡ u)). subst (λ (x : ℕ × View). Holds k.core.queue at k.part bus_at k.bus x.0 x.1)
-        (λ i. (sym r.0 i, r.1 i)) (record {
+    (λ i. (sym r.0 i, r.1 i)) (record {
       routes = each-append (λ o. (at o.route ≡ id) × (k.part o.route ≡ o)) v.routes w.routes
           (each_more (λ o. (k.at o.route ≡ id) × (k.part o.route ≡ o)) (λ o. (at o.route ≡ id) × (k.part o.route ≡ o))
           v.routes here h.routes)
           (each_more (λ o. (k.at o.route ≡ other) × (k.part o.route ≡ o))
-              (λ o. (at o.route ≡ id) × (k.part o.route ≡ o)) w.routes there g.routes);
+          (λ o. (at o.route ≡ id) × (k.part o.route ≡ o)) w.routes there g.routes);
       buses = each-append (λ b. (bus_at ≡ id) × (k.bus ≡ b)) v.buses w.buses
           (each_more (λ b. (k.bus_at ≡ id) × (k.bus ≡ b)) (λ b. (bus_at ≡ id) × (k.bus ≡ b)) v.buses
           (λ b a. (moved_else id other k.bus_at (λ e. apart (sym e ∙ a.0)) ∙ a.0, a.1)) h.buses)
           (each_more (λ b. (k.bus_at ≡ other) × (k.bus ≡ b)) (λ b. (bus_at ≡ id) × (k.bus ≡ b)) w.buses
-              (λ b a. (moved_other id other k.bus_at a.0, a.1)) g.buses);
+          (λ b a. (moved_other id other k.bus_at a.0, a.1)) g.buses);
       once = subst AreDistinct (sym (map-append v.routes w.routes))
           (distinct-append (map (λ p. p.route) v.routes) (map (λ p. p.route) w.routes) h.once g.once
           (disjoint k.at k.part id other v.routes w.routes apart h.routes g.routes));
@@ -180,9 +195,11 @@ joins txfp t k id other v w me apart it =
       buses = each_more (λ b. (k.bus_at ≡ j) × (k.bus ≡ b)) (λ b. (bus_at ≡ j) × (k.bus ≡ b)) u.buses
           (λ b a. (moved_else id other k.bus_at (λ e. z.0 (sym a.0 ∙ e)) ∙ a.0, a.1)) q.buses;
       once = q.once;
-      seal = λ es y. let x = q.seal es y in
-          (x.0, moved_else id other k.bus_at (λ e. z.0 (sym x.1 ∙ e)) ∙ x.1,
-          λ o small. moved_else id other (k.at o) (λ e. z.0 (sym (x.2 o small) ∙ e)) ∙ x.2 o small);
+      seal = λ es y. let x = q.seal es y in (
+        x.0,
+        moved_else id other k.bus_at (λ e. z.0 (sym x.1 ∙ e)) ∙ x.1,
+        λ o small. moved_else id other (k.at o) (λ e. z.0 (sym (x.2 o small) ∙ e)) ∙ x.2 o small,
+      );
     })
     (at_set t.views id j (both_of v w) u z.1))
     (at_set (set t.views id (both_of v w)) other j spent u e))
@@ -205,20 +222,37 @@ no_list txfp r = default-replicate no_lists 8 r
 first_head : IsHead 0
 first_head = (
   record { id = standard 0; content = data_bytes [] },
-  (0, record { lawful = record { identifier = omega arith; content = omega arith; bytes = tt }; small = omega arith;
-        is = refl }),
+  (
+    0,
+    record {
+      lawful = record { identifier = omega arith; content = omega arith; bytes = tt };
+      small = omega arith;
+      is = refl;
+    },
+  ),
 )
 
 first_heads : (txfp : Bool) (m : ℕ) → m < 3 → IsHead (get_or (first_words txfp) (1 + 2 * m) 0)
 first_heads txfp = of_mailboxes (λ m. IsHead (get_or (first_words txfp) (1 + 2 * m) 0)) first_head first_head first_head
 
 first_shows : (txfp : Bool) → Shows (first_words txfp) (opening_by txfp 8)
-first_shows true = record { seven = refl;
-    lanes = of_mailboxes (λ m. lane_of 0 m ≡ claim_lane (claim_of (opening_by true 8) m) + 0) refl refl refl; order =
-    tt; rest = refl; payload = tt; heads = first_heads true }
-first_shows false = record { seven = refl;
-    lanes = of_mailboxes (λ m. lane_of (2 ^ 27) m ≡ claim_lane (claim_of (opening_by false 8) m) + 0) refl refl refl;
-    order = tt; rest = refl; payload = tt; heads = first_heads false }
+first_shows true = record {
+  seven = refl;
+  lanes = of_mailboxes (λ m. lane_of 0 m ≡ claim_lane (claim_of (opening_by true 8) m) + 0) refl refl refl;
+  order =
+      tt;
+  rest = refl;
+  payload = tt;
+  heads = first_heads true;
+}
+first_shows false = record {
+  seven = refl;
+  lanes = of_mailboxes (λ m. lane_of (2 ^ 27) m ≡ claim_lane (claim_of (opening_by false 8) m) + 0) refl refl refl;
+  order = tt;
+  rest = refl;
+  payload = tt;
+  heads = first_heads false;
+}
 
 first_fits : (txfp : Bool) (r : ℕ) → Fits (first_words txfp) (opening_by txfp 8) (opening r)
 first_fits txfp r = let none = no_list txfp r in record {
@@ -234,8 +268,11 @@ first_fits txfp r = let none = no_list txfp r in record {
 
 first_bus_fits : (txfp : Bool) → FitsBus (opening_by txfp 8) (opening_bus txfp)
 first_bus_fits txfp = record {
-  stands = record { started_known = tt; done_is = λ r. sym (ap (λ (l : RouteLists). l.done) (no_list txfp r));
-      reaped_is = λ r. sym (ap (λ (l : RouteLists). l.reaped) (no_list txfp r)) };
+  stands = record {
+    started_known = tt;
+    done_is = λ r. sym (ap (λ (l : RouteLists). l.done) (no_list txfp r));
+    reaped_is = λ r. sym (ap (λ (l : RouteLists). l.reaped) (no_list txfp r));
+  };
   priority = refl;
   reaped_known = tt;
   sends = refl;
@@ -246,20 +283,32 @@ first_bus_fits txfp = record {
 
 eight_apart : AreDistinct (0 ∷ 1 ∷ 2 ∷ 3 ∷ 4 ∷ 5 ∷ 6 ∷ 7 ∷ [])
 eight_apart = (
-  ((λ e. omega arith),
-      ((λ e. omega arith),
-        ((λ e. omega arith),
-          ((λ e. omega arith), ((λ e. omega arith), ((λ e. omega arith), ((λ e. omega arith), tt))))))),
   (
-    ((λ e. omega arith),
-        ((λ e. omega arith),
-          ((λ e. omega arith), ((λ e. omega arith), ((λ e. omega arith), ((λ e. omega arith), tt)))))),
+    (λ e. omega arith),
+    (
+      (λ e. omega arith),
+      (
+        (λ e. omega arith),
+        ((λ e. omega arith), ((λ e. omega arith), ((λ e. omega arith), ((λ e. omega arith), tt)))),
+      ),
+    ),
+  ),
+  (
+    (
+      (λ e. omega arith),
+      (
+        (λ e. omega arith),
+        ((λ e. omega arith), ((λ e. omega arith), ((λ e. omega arith), ((λ e. omega arith), tt)))),
+      ),
+    ),
     (
       ((λ e. omega arith), ((λ e. omega arith), ((λ e. omega arith), ((λ e. omega arith), ((λ e. omega arith), tt))))),
       (
         ((λ e. omega arith), ((λ e. omega arith), ((λ e. omega arith), ((λ e. omega arith), tt)))),
-        (((λ e. omega arith), ((λ e. omega arith), ((λ e. omega arith), tt))),
-            (((λ e. omega arith), ((λ e. omega arith), tt)), (((λ e. omega arith), tt), (tt, tt)))),
+        (
+          ((λ e. omega arith), ((λ e. omega arith), ((λ e. omega arith), tt))),
+          (((λ e. omega arith), ((λ e. omega arith), tt)), (((λ e. omega arith), tt), (tt, tt))),
+        ),
       ),
     ),
   ),
@@ -269,14 +318,17 @@ first_held : (txfp : Bool) (j : ℕ) (v : View) → get_elem? (first_view txfp �
     Holds [] (λ _. 0) opening 0 (opening_bus txfp) j v
 first_held txfp zero v e =
     subst (Holds [] (λ _. 0) opening 0 (opening_bus txfp) 0) (some-injective (first_view txfp) v e) (record {
-  routes =
-      ((refl, refl),
-      ((refl, refl),
-        ((refl, refl), ((refl, refl), ((refl, refl), ((refl, refl), ((refl, refl), ((refl, refl), tt))))))));
-  buses = ((refl, refl), tt);
-  once = eight_apart;
-  seal = λ es h. cc;
-})
+      routes = (
+        (refl, refl),
+        (
+          (refl, refl),
+          ((refl, refl), ((refl, refl), ((refl, refl), ((refl, refl), ((refl, refl), ((refl, refl), tt)))))),
+        ),
+      );
+      buses = ((refl, refl), tt);
+      once = eight_apart;
+      seal = λ es h. cc;
+    })
 first_held txfp (suc j) v e = absurd (some-ne-none v (sym e))
 
 pub begins : (txfp : Bool) → IsKept txfp (table_start {S = Said} (first_words txfp) [] (first_view txfp))

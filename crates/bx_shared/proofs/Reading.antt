@@ -23,8 +23,8 @@ mark_within : (n : ℕ) → IsMark n → (3 ≤ n) × (n < 32)
 mark_within n k =
     ⊎_elim (λ (h : n ≡ 3). (omega arith, omega arith)) (λ k. ⊎_elim (λ (h : n ≡ 7). (omega arith, omega arith))
     (λ k. ⊎_elim (λ (h : n ≡ 15). (omega arith, omega arith))
-        (λ k. ⊎_elim (λ (h : n ≡ 31). (omega arith, omega arith)) (λ (h : n ≡ 23). (omega arith, omega arith)) k) k) k)
-        k
+    (λ k. ⊎_elim (λ (h : n ≡ 31). (omega arith, omega arith)) (λ (h : n ≡ 23). (omega arith, omega arith)) k) k) k)
+    k
 
 pub within : (w : Waiting) → (3 ≤ mark_by w.status w.abort_asked) × (mark_by w.status w.abort_asked < 32)
 within w = mark_within (mark_by w.status w.abort_asked) (is_mark w.status w.abort_asked)
@@ -33,9 +33,9 @@ pub waiting_lane-none : (q : List Waiting) (m : ℕ) → count_at m q ≡ 0 → 
 waiting_lane-none [] m z = refl
 waiting_lane-none (w ∷ ws) m z = elim (is_at m w) as (λ b. cond b (suc (count_at m ws)) (count_at m ws) ≡ 0 →
     cond b (lane_by w) 0 + waiting_lane ws m ≡ 0) [
-  | true ↦ λ z. absurd (omega arith)
-  | false ↦ λ z. let h = waiting_lane-none ws m z in omega arith
-] z
+      | true ↦ λ z. absurd (omega arith)
+      | false ↦ λ z. let h = waiting_lane-none ws m z in omega arith
+    ] z
 
 pub waiting_lane-push : (q : List Waiting) (w : Waiting) (m : ℕ) →
     waiting_lane (q ++ w ∷ []) m ≡ waiting_lane q m + cond (is_at m w) (lane_by w) 0
@@ -46,9 +46,9 @@ pub at_mailbox-none : (q : List Waiting) (m : ℕ) → count_at m q ≡ 0 → at
 at_mailbox-none [] m z = refl
 at_mailbox-none (w ∷ ws) m z = elim (is_at m w) as (λ b. cond b (suc (count_at m ws)) (count_at m ws) ≡ 0 →
     cond b (Some w) (at_mailbox m ws) ≡ None) [
-  | true ↦ λ z. absurd (omega arith)
-  | false ↦ λ z. at_mailbox-none ws m z
-] z
+      | true ↦ λ z. absurd (omega arith)
+      | false ↦ λ z. at_mailbox-none ws m z
+    ] z
 
 -- the low five bits of a lane are its mark, and are not those of one that fills
 other_mark : (n q r : ℕ) → IsMark n → n + 32 * q ≡ filling r → ⊥
@@ -80,13 +80,12 @@ holds_none q m z = record { count = z; at = at_mailbox-none q m z; lane = waitin
 -- one request at most, and what it adds to the lane
 one_at_most : (q : List Waiting) (m : ℕ) → count_at m q ≤ 1 →
     (count_at m q ≡ 0) ⊎ ((x : Waiting) × (at_mailbox m q ≡ Some x) × (waiting_lane q m ≡ lane_by x)
-        × (count_at m q ≡ 1))
+    × (count_at m q ≡ 1))
 one_at_most [] m h = inl refl
 one_at_most (w ∷ ws) m h = elim (is_at m w) as (λ b. cond b (suc (count_at m ws)) (count_at m ws) ≤ 1 →
     (cond b (suc (count_at m ws)) (count_at m ws) ≡ 0) ⊎
     ((x : Waiting) × (cond b (Some w) (at_mailbox m ws) ≡ Some x)
-        × (cond b (lane_by w) 0 + waiting_lane ws m ≡ lane_by x) × (cond b (suc (count_at m ws)) (count_at m ws) ≡ 1)))
-        [
+    × (cond b (lane_by w) 0 + waiting_lane ws m ≡ lane_by x) × (cond b (suc (count_at m ws)) (count_at m ws) ≡ 1))) [
       | true ↦ λ h. let none : count_at m ws ≡ 0 = omega arith in let z = waiting_lane-none ws m none in
           inr (w, refl, (omega arith), omega arith)
       | false ↦ λ h. ⊎_elim (λ n. inl n) (λ t. inr (t.0, t.1, (let z = t.2 in omega arith), t.3)) (one_at_most ws m h)
@@ -116,12 +115,12 @@ pub record IsRequestLane (s : State) (m : ℕ) : Type 0 where
 pub reads : (s : State) (m : ℕ) → Law s → IsEmptyLane s m ⊎ (IsFillingLane s m ⊎ IsRequestLane s m)
 reads s m law = ⊎_elim
     (λ (none : claim_of s m ≡ None). let c = ap claim_lane none in let k = ap count_of_claim none in let most =
-        law.apart m in ⊎_elim
+    law.apart m in ⊎_elim
     (λ (h : HoldsNone s.queue m). inl (record { claim = none; none = h; lane = let l = h.lane in omega arith }))
     (λ (h : HoldsOne s.queue m). inr (inr (record { claim = none; one = h; lane = let l = h.lane in omega arith })))
     (holds s.queue m (omega arith)))
     (λ (t : (r : ℕ) × (claim_of s m ≡ Some r)). let c = ap claim_lane t.1 in let k = ap count_of_claim t.1 in let most =
-        law.apart m in
+    law.apart m in
     let h = holds_none s.queue m (omega arith) in
     inr (inl (record { owner = t.0; claim = t.1; none = h; lane = let l = h.lane in omega arith })))
     (some_or_none (claim_of s m))
@@ -130,7 +129,7 @@ reads s m law = ⊎_elim
 pub is_empty : (s : State) (m : ℕ) → Law s → claim_lane (claim_of s m) + waiting_lane s.queue m ≡ 0 → IsEmptyLane s m
 is_empty s m law z = ⊎_elim (λ e. e) (λ k. ⊎_elim (λ (f : IsFillingLane s m). let l = f.lane in absurd (omega arith))
     (λ (q : IsRequestLane s m). let l = q.lane in let b = within q.one.request in absurd (omega arith)) k)
-        (reads s m law)
+    (reads s m law)
 
 -- a lane that fills under a route is claimed by it
 pub is_filling : (s : State) (m r : ℕ) → Law s → claim_lane (claim_of s m) + waiting_lane s.queue m ≡ filling r →
@@ -138,8 +137,8 @@ pub is_filling : (s : State) (m r : ℕ) → Law s → claim_lane (claim_of s m)
 is_filling s m r law is = ⊎_elim (λ (e : IsEmptyLane s m). let l = e.lane in absurd (omega arith)) (λ k. ⊎_elim
     (λ (f : IsFillingLane s m). f.claim ∙ ap Some (let l = f.lane in let e : f.owner ≡ r = omega arith in e))
     (λ (q : IsRequestLane s m). let l = q.lane in
-        absurd (not_filling q.one.request.status q.one.request.abort_asked q.one.request.route r (sym l ∙ is))) k)
-        (reads s m law)
+    absurd (not_filling q.one.request.status q.one.request.abort_asked q.one.request.route r (sym l ∙ is))) k)
+    (reads s m law)
 
 -- a lane that holds a request has its mark
 pub has_mark : (s : State) (m lane : ℕ) → Law s → lane ≡ claim_lane (claim_of s m) + waiting_lane s.queue m →
@@ -148,7 +147,7 @@ has_mark s m lane law is low = ⊎_elim (λ (e : IsEmptyLane s m). let l = e.lan
     (λ (f : IsFillingLane s m). let l = f.lane in absurd (omega arith))
     (λ (q : IsRequestLane s m). let w = q.one.request in let b = within w in
     subst IsMark (low_bits lane (mark_by w.status w.abort_asked) w.route b.1 (is ∙ q.lane))
-        (is_mark w.status w.abort_asked)) k) (reads s m law)
+    (is_mark w.status w.abort_asked)) k) (reads s m law)
 
 -- a mark tells its status, and whether an abort was asked
 abbrev pub status_in : ℕ → Status
@@ -178,7 +177,7 @@ pub at_has : (m : ℕ) (q : List Waiting) (w : Waiting) → at_mailbox m q ≡ S
 at_has m [] w e = cc
 at_has m (x ∷ xs) w e = elim (is_at m x) as (λ b. is_at m x ≡ b → cond b (Some x) (at_mailbox m xs) ≡ Some w →
     Has (x ∷ xs) w × (w.mailbox ≡ m)) [
-  | true ↦ λ here e. let is =
-      same_request x w e in (inl is, ap (λ (y : Waiting). y.mailbox) (sym is) ∙ eqb-true x.mailbox m here)
-  | false ↦ λ _ e. let t = at_has m xs w e in (inr t.0, t.1)
-] refl e
+      | true ↦ λ here e. let is =
+          same_request x w e in (inl is, ap (λ (y : Waiting). y.mailbox) (sym is) ∙ eqb-true x.mailbox m here)
+      | false ↦ λ _ e. let t = at_has m xs w e in (inr t.0, t.1)
+    ] refl e

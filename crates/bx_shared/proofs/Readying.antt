@@ -68,9 +68,19 @@ module _ (b : BusView) (word written m : ℕ) (d : BusView) (st : IsStarted (bus
       let r : item.0 ≡ st.item.0 = let l = st.lane in omega arith in
       let same : st.item ≡ item = λ k. (sym r k, sym number k, sym frame k) in
       let whole : e ≡ head_read (bus_started (bus_looked b word) word written m st.item) m head =
-          is ∙ ap (λ x. head_read x m head) st.is in
+      is ∙ ap (λ x. head_read x m head) st.is in
       subst (λ (x : Item). Began b e x) same (subst (λ (x : BusView). Began b x st.item) (sym whole)
-      (record { route = (let l = st.lane in let below = field_below word (8 * m) 8 in let is : 2 ^ 8 ≡ 256 = refl in
-              omega arith); priority = refl; idle = st.idle;
-            undone = record { unsent = st.undone.unsent; unreaped = st.undone.unreaped }; sends = refl; started = refl;
-            done = refl; reaped = refl; reaps = refl; looks = refl; won = record { exchanges = refl; found = refl } }))
+      (record {
+        route = (let l = st.lane in let below = field_below word (8 * m) 8 in let is : 2 ^ 8 ≡ 256 = refl in
+            omega arith);
+        priority = refl;
+        idle = st.idle;
+        undone = record { unsent = st.undone.unsent; unreaped = st.undone.unreaped };
+        sends = refl;
+        started = refl;
+        done = refl;
+        reaped = refl;
+        reaps = refl;
+        looks = refl;
+        won = record { exchanges = refl; found = refl };
+      }))

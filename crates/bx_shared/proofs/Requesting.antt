@@ -64,9 +64,9 @@ requests txfp t k id new p e me claims both packed above ls =
     let none = unrequested s m r law g.own in
     let words : ArePacked e.frame e.number (get_or ws (1 + 2 * m) 0) (get_or ws (2 + 2 * m) 0) =
     subst (λ (y : ℕ). ArePacked e.frame e.number (get_or ws (1 + 2 * m) 0) y) (sym (g.bytes (omega arith)))
-        (subst (λ (x : ℕ). ArePacked e.frame e.number x p.bytes) (sym (g.head (omega arith))) packed) in
+    (subst (λ (x : ℕ). ArePacked e.frame e.number x p.bytes) (sym (g.head (omega arith))) packed) in
     let newer : last_number (lists_of s r).requested < e.number =
-        subst (λ (es : List Entry). last_number es < e.number) (sym f.requested) above in
+    subst (λ (es : List Entry). last_number es < e.number) (sym f.requested) above in
     let most : e.number ≤ greatest_number = let h = packed.head_is.small in omega arith in
     let q = requested p e in
     record {
@@ -75,9 +75,9 @@ requests txfp t k id new p e me claims both packed above ls =
           goes-request s r m e.number e.frame (is_owner (claim_of s m) r g.own) (follows s r e.number newer most);
       then = moves txfp t k id p q (set ws 0 new) next me refl
           (leads-reached s s next next refl (leads-request s r m e.number e.frame there small
-                (is_owner (claim_of s m) r g.own) (follows s r e.number newer most)) refl k.reached)
+          (is_owner (claim_of s m) r g.own) (follows s r e.number newer most)) refl k.reached)
           k.priority (length-set s.routes r l ∙ k.eight)
-              (shows_request ws s r m e.number new e.frame small there g.own words k.shows law ls)
+          (shows_request ws s r m e.number new e.frame small there g.own words k.shows law ls)
           (record {
             requested = ap (λ (x : RouteLists). x.requested) lists ∙ ap (λ (es : List Entry). es ++ e ∷ []) f.requested;
             aborted = ap (λ (x : RouteLists). x.aborted) lists ∙ f.aborted;
@@ -88,8 +88,8 @@ requests txfp t k id new p e me claims both packed above ls =
             three = length-set p.last m e.number ∙ f.three;
             waiting = each-append (IsKnown q) s.queue (w ∷ [])
                 (each_both (IsKnown p) (λ x. ¬ (x.mailbox ≡ m)) (IsKnown q) s.queue (λ x h n is. let g = h is in
-                      (get_or-set_other p.last m x.mailbox e.number 0 n ∙ g.0, g.1, g.2)) f.waiting
-                    (none_there s.queue m none)) (
+                (get_or-set_other p.last m x.mailbox e.number 0 n ∙ g.0, g.1, g.2)) f.waiting
+                (none_there s.queue m none)) (
                   (λ _. (
                     get_or-set_same p.last m e.number 0 (let h = f.three in omega arith),
                     (λ h. absurd (true≢false (sym h))),
@@ -103,10 +103,10 @@ requests txfp t k id new p e me claims both packed above ls =
           })
           (λ o other h. fits_else ws (set ws 0 new) s next o (get_or-set_other s.routes r o.route l no_lists other)
           (λ j is. let n : ¬ (j ≡ m) = λ z. apart_owners r o.route (claim_of s j) (λ y. other (sym y))
-              (ap (claim_of s) z ∙ g.own) is in
-              (get_or-set_other s.claims m j None None n ∙ is, (aside ws new j).0, (aside ws new j).1))
+          (ap (claim_of s) z ∙ g.own) is in
+          (get_or-set_other s.claims m j None None n ∙ is, (aside ws new j).0, (aside ws new j).1))
           (λ j is. dite (ℕ_discrete j m) (λ z. absurd (some_not_none o.route (sym is ∙ ap (claim_of next) z ∙ gone)))
-              (λ n. sym (get_or-set_other s.claims m j None None n) ∙ is))
+          (λ n. sym (get_or-set_other s.claims m j None None n) ∙ is))
           (λ z. each-append (IsKnown o) s.queue (w ∷ []) z ((λ is. absurd (other (sym is))), tt)) h)
           (bus_request s r m e.number e.frame k.bus there) (inr (let h = k.eight in omega arith));
     }
@@ -119,4 +119,4 @@ pub requests-keep : (txfp : Bool) (slots id old new : ℕ) (p : RouteView) (e : 
 requests-keep txfp slots id old new p e claims both packed above ls t k long me fits =
     tries txfp t k slots id old new (some (Request e)) p (requested p e) me (λ found.
     (requests txfp t k id new p e me claims both packed above
-        (subst (λ (z : ℕ). LaneRequested z p.mailbox (filling p.route + 2) new) (sym found) ls)).then.kept)
+    (subst (λ (z : ℕ). LaneRequested z p.mailbox (filling p.route + 2) new) (sym found) ls)).then.kept)

@@ -57,7 +57,7 @@ pub bus_looks : (txfp : Bool) (t : St) (k : IsKept txfp t) (id : ℕ) (b : BusVi
 bus_looks txfp t k id b rs me = bus_stays txfp t k id 0 b (bus_looked b (get_or t.words 0 0)) rs me
     (λ f. bus_as k.core b (bus_looked b (get_or t.words 0 0)) refl refl refl refl refl refl
     (λ h. let z = heads_looked k.core b (get_or t.words 0 0) (count_is k.core (get_or t.words 0 0) h k.shows.rest) in
-      record { before = z.before; heads = z.heads }) f)
+    record { before = z.before; heads = z.heads }) f)
 
 pub bus_misses : (txfp : Bool) (t : St) (k : IsKept txfp t) (id new : ℕ) (b : BusView) (rs : List RouteView) →
     get_elem? t.views id ≡ some (with_bus b rs) →
@@ -77,7 +77,7 @@ put_there : (xs : List (Option ℕ)) (m x y : ℕ) → get_or (set xs m (Some x)
 put_there xs m x y e = dite (dec_le (suc m) (length xs))
     (λ l. same_head x y (sym (get_or-set_same xs m (Some x) None l) ∙ e))
     (λ n. let none : get_or (set xs m (Some x)) m None ≡ None = get_or_past (set xs m (Some x)) m None
-        (let l = length-set xs m (Some x) in omega arith) in let h : None ≡ Some y = sym none ∙ e in cc)
+    (let l = length-set xs m (Some x) in omega arith) in let h : None ≡ Some y = sym none ∙ e in cc)
 
 head_sent : (s : State) (ws : List ℕ) (b : BusView) (m : ℕ) → Shows ws s → FitsBus s b →
     IsHeadSent b m (get_or ws (1 + 2 * m) 0)
@@ -85,10 +85,10 @@ head_sent s ws b m sh f item sends at =
     let g = is_sent s item (f.sends ∙ sends) in
     let w = g.request in
     let p = each_of (IsPaid ws) s.queue w sh.payload
-        (find-has (λ (y : Waiting). is_transmitting y.status) s.queue w g.on) in
+    (find-has (λ (y : Waiting). is_transmitting y.status) s.queue w g.on) in
     let here : w.mailbox ≡ m = f.mailbox w g.on ∙ at in
     subst (λ (i : Item). IsHeadOf i.2 i.1 (get_or ws (1 + 2 * m) 0)) g.item_is
-        (subst (λ (j : ℕ). IsHeadOf w.frame w.number (get_or ws (1 + 2 * j) 0)) here p.head_is)
+    (subst (λ (j : ℕ). IsHeadOf w.frame w.number (get_or ws (1 + 2 * j) 0)) here p.head_is)
 
 bytes_sent : (s : State) (ws : List ℕ) (b : BusView) (m : ℕ) → Shows ws s → FitsBus s b →
     AreBytesSent b m (get_or ws (2 + 2 * m) 0)
@@ -96,32 +96,32 @@ bytes_sent s ws b m sh f item sends at =
     let g = is_sent s item (f.sends ∙ sends) in
     let w = g.request in
     let p = each_of (IsPaid ws) s.queue w sh.payload
-        (find-has (λ (y : Waiting). is_transmitting y.status) s.queue w g.on) in
+    (find-has (λ (y : Waiting). is_transmitting y.status) s.queue w g.on) in
     let here : w.mailbox ≡ m = f.mailbox w g.on ∙ at in
     subst (λ (i : Item). get_or ws (2 + 2 * m) 0 ≡ bytes_word i.2) g.item_is
-        (subst (λ (j : ℕ). get_or ws (2 + 2 * j) 0 ≡ bytes_word w.frame) here p.bytes_are)
+    (subst (λ (j : ℕ). get_or ws (2 + 2 * j) 0 ≡ bytes_word w.frame) here p.bytes_are)
 
 pub reads_head : (txfp : Bool) (t : St) (k : IsKept txfp t) (id m : ℕ) (b : BusView) (rs : List RouteView) →
     get_elem? t.views id ≡ some (with_bus b rs) → m < 3 →
     IsKeptAs txfp (stepped t (1 + 2 * m) (get_or t.words (1 + 2 * m) 0) id []
-        (with_bus (head_read b m (get_or t.words (1 + 2 * m) 0)) rs) keeps) k.core
+    (with_bus (head_read b m (get_or t.words (1 + 2 * m) 0)) rs) keeps) k.core
     × IsHead (get_or t.words (1 + 2 * m) 0) × IsHeadSent b m (get_or t.words (1 + 2 * m) 0)
 reads_head txfp t k id m b rs me small =
     let s = k.core in
     let ws = t.words in
     let head = get_or ws (1 + 2 * m) 0 in
     let P : BusView → Waiting → Type 0 =
-        λ c w. (x : ℕ) → slice_index_or c.heads w.mailbox None ≡ Some x → IsHeadOf w.frame w.number x in (
+    λ c w. (x : ℕ) → slice_index_or c.heads w.mailbox None ≡ Some x → IsHeadOf w.frame w.number x in (
       bus_stays txfp t k id (1 + 2 * m) b (head_read b m head) rs me
           (λ f. bus_as s b (head_read b m head) refl refl refl refl refl refl (λ h. let z = f.heads h in record {
-        before = z.before;
-        heads = λ is. each_all (P (head_read b m head)) s.queue s.queue (λ w has x e. dite (ℕ_discrete w.mailbox m)
-            (λ here. subst (IsHeadOf w.frame w.number) (ap (λ j. get_or ws (1 + 2 * j) 0) here
-                  ∙ put_there b.heads m head x (ap (λ j. get_or (set b.heads m (Some head)) j None) (sym here) ∙ e))
+            before = z.before;
+            heads = λ is. each_all (P (head_read b m head)) s.queue s.queue (λ w has x e. dite (ℕ_discrete w.mailbox m)
+                (λ here. subst (IsHeadOf w.frame w.number) (ap (λ j. get_or ws (1 + 2 * j) 0) here
+                ∙ put_there b.heads m head x (ap (λ j. get_or (set b.heads m (Some head)) j None) (sym here) ∙ e))
                 (each_of (IsPaid ws) s.queue w k.shows.payload has).head_is)
-            (λ n. each_of (P b) s.queue w (z.heads is) has x
+                (λ n. each_of (P b) s.queue w (z.heads is) has x
                 (sym (get_or-set_other b.heads m w.mailbox (Some head) None n) ∙ e))) (λ w has. has);
-      }) f),
+          }) f),
       k.shows.heads m small,
       head_sent s ws b m k.shows (bus_knows txfp t k id b rs me),
     )
@@ -130,8 +130,10 @@ pub reads_bytes : (txfp : Bool) (t : St) (k : IsKept txfp t) (id m : ℕ) (b : B
     get_elem? t.views id ≡ some (with_bus b rs) →
     IsKeptAs txfp (stepped t (2 + 2 * m) (get_or t.words (2 + 2 * m) 0) id [] (with_bus b rs) keeps) k.core
     × AreBytesSent b m (get_or t.words (2 + 2 * m) 0)
-reads_bytes txfp t k id m b rs me = (bus_stays txfp t k id (2 + 2 * m) b b rs me (λ f. f),
-    bytes_sent k.core t.words b m k.shows (bus_knows txfp t k id b rs me))
+reads_bytes txfp t k id m b rs me = (
+  bus_stays txfp t k id (2 + 2 * m) b b rs me (λ f. f),
+  bytes_sent k.core t.words b m k.shows (bus_knows txfp t k id b rs me),
+)
 
 -- the oldest request by the order bits stands first
 pub first_by_order : (word : ℕ) (xs ys : List Waiting) (w : Waiting) → AreApart (xs ++ w ∷ ys) →
@@ -141,10 +143,10 @@ pub first_by_order : (word : ℕ) (xs ys : List Waiting) (w : Waiting) → AreAp
 first_by_order word [] ys w a o r is = refl
 first_by_order word (x ∷ xs) ys w a o r is =
     let apart : ¬ (w.mailbox ≡ x.mailbox) =
-        each_here (λ (y : Waiting). ¬ (y.mailbox ≡ x.mailbox)) xs ys w (apart_first x (xs ++ w ∷ ys) a) in
+    each_here (λ (y : Waiting). ¬ (y.mailbox ≡ x.mailbox)) xs ys w (apart_first x (xs ++ w ∷ ys) a) in
     absurd (older_once word x.mailbox w.mailbox (λ e. apart (sym e))
-        (each_here (λ (y : Waiting). IsOlder word x.mailbox y.mailbox) xs ys w o.0)
-        (is.oldest x.mailbox r.0.0 (λ e. apart (sym e)) r.0.1))
+    (each_here (λ (y : Waiting). IsOlder word x.mailbox y.mailbox) xs ys w o.0)
+    (is.oldest x.mailbox r.0.0 (λ e. apart (sym e)) r.0.1))
 
 -- each request's lane holds a request
 pub requested_lane : (lane n r : ℕ) → 3 ≤ n → n < 32 → lane ≡ n + 32 * r → (lane % 32 ≡ n) × (3 ≤ lane % 32)
@@ -180,28 +182,28 @@ first_by_key ws s w b sh law by heads has least =
     let count : b.seen ≡ word = least.seen in
     let known = heads.heads (ap (λ x. count_in x) count ∙ count_is s word by sh.rest) in
     let P : Waiting → Type 0 =
-        λ x. (head : ℕ) → slice_index_or b.heads x.mailbox None ≡ Some head → IsHeadOf x.frame x.number head in
+    λ x. (head : ℕ) → slice_index_or b.heads x.mailbox None ≡ Some head → IsHeadOf x.frame x.number head in
     let key : (x : Waiting) → Has s.queue x → (x.mailbox < 3) → get_or least.keys x.mailbox 0 ≡ key_of x.frame =
     λ x h small. let r = least.read x.mailbox small (lanes_hold ws s x sh law h).1 in
-        r.key_is x.frame x.number (each_of P s.queue x known h r.head r.read) in
+    r.key_is x.frame x.number (each_of P s.queue x known h r.head r.read) in
     let small = small_mailboxes s law in
     all_of (λ x. is_pending x.status && goes_before w x) s.queue
-        (each_all (λ x. (is_pending x.status && goes_before w x) ≡ true) s.queue s.queue (λ x h.
+    (each_all (λ x. (is_pending x.status && goes_before w x) ≡ true) s.queue s.queue (λ x h.
     let there = each_of (λ (y : Waiting). y.mailbox < 3) s.queue x small h in
     let here = each_of (λ (y : Waiting). y.mailbox < 3) s.queue w small has in
     let l = lanes_hold ws s x sh law h in
     let st : x.status ≡ Pending =
-        sym (status_back x.status x.abort_asked) ∙ ap status_in (sym l.0 ∙ least.pending x.mailbox there l.1) in
+    sym (status_back x.status x.abort_asked) ∙ ap status_in (sym l.0 ∙ least.pending x.mailbox there l.1) in
     ap (λ c. c && goes_before w x) (pending_is x.status st)
-        ∙ before_is (key_of w.frame) w.mailbox (key_of x.frame) x.mailbox (dite (ℕ_discrete x.mailbox w.mailbox)
+    ∙ before_is (key_of w.frame) w.mailbox (key_of x.frame) x.mailbox (dite (ℕ_discrete x.mailbox w.mailbox)
     (λ e. let one : (y : Waiting) → Has s.queue y → at_mailbox y.mailbox s.queue ≡ Some y =
-        λ y has. has-at_mailbox s.queue y has (let m = law.apart y.mailbox in omega arith) in
+    λ y has. has-at_mailbox s.queue y has (let m = law.apart y.mailbox in omega arith) in
     let same : x ≡ w = same_request x w (sym (one x h) ∙ ap (λ j. at_mailbox j s.queue) e ∙ one w has) in
     inr (ap (λ (y : Waiting). key_of y.frame) (sym same), let m : w.mailbox ≡ x.mailbox = sym e in omega arith))
     (λ n. let kw = key w has here in let kx = key x h there in ⊎_elim
     (λ (l : get_or least.keys w.mailbox 0 < get_or least.keys x.mailbox 0). inl (omega arith))
     (λ (t : (get_or least.keys w.mailbox 0 ≡ get_or least.keys x.mailbox 0) × (w.mailbox < x.mailbox)). let y = t.0 in
-        let z = t.1 in inr (omega arith, omega arith))
+    let z = t.1 in inr (omega arith, omega arith))
     (least.least.least x.mailbox there n l.1)))) (λ x h. h))
 
 -- the next request by the word may be scheduled
@@ -209,17 +211,19 @@ is_the_next : (ws : List ℕ) (s : State) (w : Waiting) (b : BusView) → Shows 
     IsFound s w → GoesNext b (get_or ws 0 0) w.mailbox → is_next s (at_of s w) w ≡ true
 is_the_next ws s w b sh law fit has f goes =
     elim s.txfp as (λ c. s.txfp ≡ c → is_next_by c (at_of s w) w s.queue ≡ true) [
-  | true ↦ λ e. eq-eqb (at_of s w) 0 (f.split.place
-      ∙ first_by_order (get_or ws 0 0) f.split.before f.split.behind w
-      (subst AreApart f.split.whole (apart_queue s law)) (subst (AreOrdered (get_or ws 0 0)) f.split.whole sh.order)
-      (subst (Each (λ x. (x.mailbox < 3) × IsRequested (get_or ws 0 0) x.mailbox)) f.split.whole
+      | true ↦ λ e. eq-eqb (at_of s w) 0 (f.split.place
+          ∙ first_by_order (get_or ws 0 0) f.split.before f.split.behind w
+          (subst AreApart f.split.whole (apart_queue s law)) (subst (AreOrdered (get_or ws 0 0)) f.split.whole sh.order)
+          (subst (Each (λ x. (x.mailbox < 3) × IsRequested (get_or ws 0 0) x.mailbox)) f.split.whole
           (each_all (λ x. (x.mailbox < 3) × IsRequested (get_or ws 0 0) x.mailbox) s.queue s.queue
-      (λ x h. (each_of (λ (y : Waiting). y.mailbox < 3) s.queue x (small_mailboxes s law) h,
-            (lanes_hold ws s x sh law h).1)) (λ x h. h)))
-      (goes.by_order (let r = sh.rest ∙ ap (λ c. rest_by c (count_requests s.routes)) e in omega arith)))
-  | false ↦ λ e. first_by_key ws s w b sh law e (fit.heads e) has
-      (goes.by_identifier (let r = sh.rest ∙ ap (λ c. rest_by c (count_requests s.routes)) e in omega arith))
-] refl
+          (λ x h. (
+            each_of (λ (y : Waiting). y.mailbox < 3) s.queue x (small_mailboxes s law) h,
+            (lanes_hold ws s x sh law h).1,
+          )) (λ x h. h)))
+          (goes.by_order (let r = sh.rest ∙ ap (λ c. rest_by c (count_requests s.routes)) e in omega arith)))
+      | false ↦ λ e. first_by_key ws s w b sh law e (fit.heads e) has
+          (goes.by_identifier (let r = sh.rest ∙ ap (λ c. rest_by c (count_requests s.routes)) e in omega arith))
+    ] refl
 
 pub schedules : (txfp : Bool) (t : St) (k : IsKept txfp t) (id m new : ℕ) (b : BusView) (rs : List RouteView) →
     get_elem? t.views id ≡ some (with_bus b rs) → m < 3 → b.reaps ≡ None → GoesNext b (get_or t.words 0 0) m →
@@ -238,23 +242,23 @@ schedules txfp t k id m new b rs me small none goes ls =
     let asked : w.abort_asked ≡ false = asked_by s m (lane_of word m) g 3 law mark in
     let pending = pending_is w.status st in
     let go : is_next s (at_of s w) w ≡ true =
-        is_the_next t.words s w b k.shows law fit g.has f (subst (GoesNext b word) (sym g.mailbox_is) goes) in
+    is_the_next t.words s w b k.shows law fit g.has f (subst (GoesNext b word) (sym g.mailbox_is) goes) in
     let x = marked w Scheduled w.abort_asked in
     let next = with_waiting s (at_of s w) x in
     let is : Waiting → Bool = λ y. is_transmitting y.status in
     let same : on_bus next ≡ on_bus s = ap (find is) (f.split.set x)
-        ∙ find-mark is f.split.before f.split.behind w x (pending_idle w.status pending) refl
-        ∙ ap (find is) (sym f.split.whole) in
+    ∙ find-mark is f.split.before f.split.behind w x (pending_idle w.status pending) refl
+    ∙ ap (find is) (sym f.split.whole) in
     let stands = mark-bus s (at_of s w) x (past_of b) fit.stands in
     subst (λ (j : ℕ). IsEvent txfp s (Schedule j) (stepped t 0 new id [] (with_bus (bus_tried b word new) rs) keeps))
-        g.mailbox_is (record {
+    g.mailbox_is (record {
       next = next;
       after_is = goes-schedule s w f.at pending go;
       then = bus_marks txfp t k id new (lane_of word m + 4) b (bus_tried b word new) rs w Scheduled me f
           (leads-schedule s w.mailbox w (at_of s w) g.small (sym f.at) refl go pending)
           (subst (λ (j : ℕ). LaneSet word j (lane_of word m + 4) new) (sym g.mailbox_is) ls)
           (let l = g.lane_is in let y = ap (λ z. mark_by z w.abort_asked) st in let v = ap (mark_by Scheduled) asked in
-              omega arith)
+          omega arith)
           (record {
             stands =
                 record { started_known = stands.started_known; done_is = stands.done_is; reaped_is = stands.reaped_is };

@@ -34,13 +34,17 @@ seals-keep txfp slots id b rs all t k long me fits =
     let v = sealed_view b rs s.queue in
     let placed = seated txfp t k (set t.views id v) k.at k.bus_at (λ j u e. ⊎_elim
     (λ (z : (j ≡ id) × (v ≡ u)). subst (λ (x : ℕ × View). Holds s.queue k.at k.part k.bus_at k.bus x.0 x.1)
-        (λ i. (sym z.0 i, z.1 i)) (record {
+    (λ i. (sym z.0 i, z.1 i)) (record {
       routes = h.routes;
       buses = h.buses;
       once = h.once;
-      seal = λ es y. (some_list s.queue es y, h.buses.0.0, λ r small. let p = all r small in
-          ap k.at (sym p.route_is)
-          ∙ (each_of (λ o. (k.at o.route ≡ id) × (k.part o.route ≡ o)) rs p.part h.routes p.there).0);
+      seal = λ es y. (
+        some_list s.queue es y,
+        h.buses.0.0,
+        λ r small. let p = all r small in
+            ap k.at (sym p.route_is)
+            ∙ (each_of (λ o. (k.at o.route ≡ id) × (k.part o.route ≡ o)) rs p.part h.routes p.there).0,
+      );
     }))
     (λ (z : (j ≢ id) × (get_elem? t.views j ≡ some u)). k.held j u z.1)
     (at_set t.views id j v u e)) in (
@@ -78,10 +82,12 @@ reads_last-keep txfp slots id i v es is t k long me fits = (
   (
     refl,
     λ fs e. subst (Each (λ w. (i ≡ 1 + 2 * w.mailbox → IsHeadOf w.frame w.number (get_or t.words i 0))
-          × (i ≡ 2 + 2 * w.mailbox → get_or t.words i 0 ≡ bytes_word w.frame))) ((k.held id v me).seal fs e).0
+        × (i ≡ 2 + 2 * w.mailbox → get_or t.words i 0 ≡ bytes_word w.frame))) ((k.held id v me).seal fs e).0
         (each_more (IsPaid t.words) (λ w. (i ≡ 1 + 2 * w.mailbox → IsHeadOf w.frame w.number (get_or t.words i 0))
-              × (i ≡ 2 + 2 * w.mailbox → get_or t.words i 0 ≡ bytes_word w.frame)) k.core.queue
-        (λ w p. ((λ e. subst (λ (x : ℕ). IsHeadOf w.frame w.number (get_or t.words x 0)) (sym e) p.head_is),
-              λ e. ap (λ x. get_or t.words x 0) e ∙ p.bytes_are)) k.shows.payload),
+        × (i ≡ 2 + 2 * w.mailbox → get_or t.words i 0 ≡ bytes_word w.frame)) k.core.queue
+        (λ w p. (
+          (λ e. subst (λ (x : ℕ). IsHeadOf w.frame w.number (get_or t.words x 0)) (sym e) p.head_is),
+          λ e. ap (λ x. get_or t.words x 0) e ∙ p.bytes_are,
+        )) k.shows.payload),
   ),
 )

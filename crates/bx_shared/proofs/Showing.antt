@@ -32,8 +32,10 @@ each_both P Q R (x ∷ xs) f a b = (f x a.0 b.0, each_both P Q R xs f a.1 b.1)
 -- payload words stay at a step on the control word
 pub aside : (words : List ℕ) (new m : ℕ) → (get_or (set words 0 new) (1 + 2 * m) 0 ≡ get_or words (1 + 2 * m) 0)
     × (get_or (set words 0 new) (2 + 2 * m) 0 ≡ get_or words (2 + 2 * m) 0)
-aside words new m = (get_or-set_other words 0 (1 + 2 * m) new 0 (λ e. omega arith),
-    get_or-set_other words 0 (2 + 2 * m) new 0 (λ e. omega arith))
+aside words new m = (
+  get_or-set_other words 0 (1 + 2 * m) new 0 (λ e. omega arith),
+  get_or-set_other words 0 (2 + 2 * m) new 0 (λ e. omega arith),
+)
 
 abbrev pub AreAllHeads : List ℕ → Type 0
 AreAllHeads ws = (m : ℕ) → m < 3 → IsHead (get_or ws (1 + 2 * m) 0)
@@ -67,11 +69,11 @@ shows_claim ws s m x new owner small sh law is ls =
       seven = length-set ws 0 new ∙ sh.seven;
       lanes = λ j within. ap (λ z. lane_of z j) w' ∙ dite (ℕ_discrete j m)
           (λ e. let P : ℕ → Type 0 =
-              λ i. lane_of new i ≡ claim_lane (get_or (set s.claims m owner) i None) + waiting_lane s.queue i in
+          λ i. lane_of new i ≡ claim_lane (get_or (set s.claims m owner) i None) + waiting_lane s.queue i in
           subst P (sym e) (ls.here ∙ sym is ∙ ap (λ o. claim_lane o + waiting_lane s.queue m)
-              (sym (get_or-set_same s.claims m owner None here))))
+          (sym (get_or-set_same s.claims m owner None here))))
           (λ n. ls.others j within n ∙ sh.lanes j within
-              ∙ ap (λ o. claim_lane o + waiting_lane s.queue j) (sym (get_or-set_other s.claims m j owner None n)));
+          ∙ ap (λ o. claim_lane o + waiting_lane s.queue j) (sym (get_or-set_other s.claims m j owner None n)));
       order = subst (λ z. AreOrdered z s.queue) (sym w')
           (ordered (get_or ws 0 0) new (λ _. Unit {0}) (λ i j a b _ _. ls.order i j a b) s.queue (apart_queue s law)
           (small_mailboxes s law)
@@ -87,12 +89,12 @@ pub shows_fill : (ws : List ℕ) (s : State) (m i x : ℕ) → ((i ≡ 1 + 2 * m
     count_at m s.queue ≡ 0 → Shows (set ws i x) s
 shows_fill ws s m i x new sh none =
     let which : (i ≡ 1 + 2 * m) ⊎ (i ≡ 2 + 2 * m) =
-        ⊎_elim (λ (h : (i ≡ 1 + 2 * m) × IsHead x). inl h.0) (λ (h : i ≡ 2 + 2 * m). inr h) new in
+    ⊎_elim (λ (h : (i ≡ 1 + 2 * m) × IsHead x). inl h.0) (λ (h : i ≡ 2 + 2 * m). inr h) new in
     let far : (j : ℕ) → ¬ (j ≡ m) → (¬ (1 + 2 * j ≡ i)) × (¬ (2 + 2 * j ≡ i)) =
     λ j n. ⊎_elim (λ (h : i ≡ 1 + 2 * m). ((λ e. n (omega arith)), λ e. absurd (omega arith)))
-        (λ (h : i ≡ 2 + 2 * m). ((λ e. absurd (omega arith)), λ e. n (omega arith))) which in
+    (λ (h : i ≡ 2 + 2 * m). ((λ e. absurd (omega arith)), λ e. n (omega arith))) which in
     let w' : get_or (set ws i x) 0 0 ≡ get_or ws 0 0 = get_or-set_other ws i 0 x 0
-        (λ e. ⊎_elim (λ (h : i ≡ 1 + 2 * m). omega arith) (λ (h : i ≡ 2 + 2 * m). omega arith) which) in
+    (λ e. ⊎_elim (λ (h : i ≡ 1 + 2 * m). omega arith) (λ (h : i ≡ 2 + 2 * m). omega arith) which) in
     record {
       seven = length-set ws i x ∙ sh.seven;
       lanes = λ j within. ap (λ z. lane_of z j) w' ∙ sh.lanes j within;
@@ -100,12 +102,12 @@ shows_fill ws s m i x new sh none =
       rest = ap rest_of w' ∙ sh.rest;
       payload = each_both (IsPaid ws) (λ w. ¬ (w.mailbox ≡ m)) (IsPaid (set ws i x)) s.queue
           (λ w h n. let t = far w.mailbox n in
-              paid_on ws (set ws i x) w (get_or-set_other ws i (1 + 2 * w.mailbox) x 0 t.0)
-              (get_or-set_other ws i (2 + 2 * w.mailbox) x 0 t.1) h) sh.payload (none_there s.queue m none);
+          paid_on ws (set ws i x) w (get_or-set_other ws i (1 + 2 * w.mailbox) x 0 t.0)
+          (get_or-set_other ws i (2 + 2 * w.mailbox) x 0 t.1) h) sh.payload (none_there s.queue m none);
       heads = λ j small. dite (ℕ_discrete (1 + 2 * j) i)
           (λ e. ⊎_elim (λ (h : (i ≡ 1 + 2 * m) × IsHead x). subst IsHead
-                (sym (ap (λ k. get_or (set ws i x) k 0) e ∙ get_or-set_same ws i x 0 (let l = sh.seven in omega arith)))
-                h.1) (λ (h : i ≡ 2 + 2 * m). absurd (omega arith)) new)
+          (sym (ap (λ k. get_or (set ws i x) k 0) e ∙ get_or-set_same ws i x 0 (let l = sh.seven in omega arith)))
+          h.1) (λ (h : i ≡ 2 + 2 * m). absurd (omega arith)) new)
           (λ n. subst IsHead (sym (get_or-set_other ws i (1 + 2 * j) x 0 n)) (sh.heads j small));
     }
 
@@ -124,26 +126,26 @@ shows_request ws s r m n new f small there own packed sh law ls =
       seven = length-set ws 0 new ∙ sh.seven;
       lanes = λ j within. ap (λ z. lane_of z j) w' ∙ dite (ℕ_discrete j m)
           (λ e. let P : ℕ → Type 0 = λ i. lane_of new i ≡ claim_lane (get_or (set s.claims m None) i None)
-              + waiting_lane (s.queue ++ w ∷ []) i in
+          + waiting_lane (s.queue ++ w ∷ []) i in
           subst P (sym e) (ls.here ∙ (let a = ap claim_lane (get_or-set_same s.claims m None None here) in
-                let b = waiting_lane-push s.queue w m in let c = waiting_lane-none s.queue m none in
+          let b = waiting_lane-push s.queue w m in let c = waiting_lane-none s.queue m none in
           let d = ap (λ z. cond z (lane_by w) 0) (eq-eqb m m refl) in omega arith)))
           (λ n. ls.others j within n ∙ sh.lanes j within
-              ∙ (let a = ap claim_lane (get_or-set_other s.claims m j None None n) in let b =
-                waiting_lane-push s.queue w j in
+          ∙ (let a = ap claim_lane (get_or-set_other s.claims m j None None n) in let b =
+          waiting_lane-push s.queue w j in
           let d = ap (λ z. cond z (lane_by w) 0) (ne_eqb m j (λ e. n (sym e))) in omega arith));
       order = subst (λ z. AreOrdered z (s.queue ++ w ∷ [])) (sym w') (ordered-push new s.queue w
           (each_both (λ x. x.mailbox < 3) (λ x. ¬ (x.mailbox ≡ m)) (λ x. IsOlder new x.mailbox m) s.queue
-              (λ x a b. ls.younger x.mailbox a b) (small_mailboxes s law) others)
+          (λ x a b. ls.younger x.mailbox a b) (small_mailboxes s law) others)
           (ordered (get_or ws 0 0) new (λ y. ¬ (y ≡ m)) (λ i j a b qi qj. ls.order i j a b qi qj) s.queue
-              (apart_queue s law) (small_mailboxes s law) others sh.order));
+          (apart_queue s law) (small_mailboxes s law) others sh.order));
       rest = ap rest_of w' ∙ ls.rest ∙ ap one_more sh.rest ∙ one_more-rest s.txfp (count_requests s.routes)
           ∙ ap (rest_by s.txfp) (sym (count_requests-set s.routes r
           (requested_lists (lists_of s r) (record { number = n; frame = f })) there
-              (length-snoc (lists_of s r).requested (record { number = n; frame = f }))));
+          (length-snoc (lists_of s r).requested (record { number = n; frame = f }))));
       payload = each-append (IsPaid (set ws 0 new)) s.queue (w ∷ [])
           (each_more (IsPaid ws) (IsPaid (set ws 0 new)) s.queue (λ w h. let t = aside ws new w.mailbox in
-            paid_on ws (set ws 0 new) w t.0 t.1 h) sh.payload)
+          paid_on ws (set ws 0 new) w t.0 t.1 h) sh.payload)
           ((let t = aside ws new m in paid_on ws (set ws 0 new) w t.0 t.1 packed), tt);
       heads = heads_aside ws new sh.heads;
     }

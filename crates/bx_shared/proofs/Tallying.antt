@@ -16,7 +16,7 @@ counts_one : (xs : List ℕ) (route : ℕ) (n : ℕ → ℕ) (m : ℕ → ℕ) �
     (r : ℕ) → r < 8 → route < 8 → get_or (set xs route (get_or xs route 0 + 1)) r 0 ≡ m r
 counts_one xs route n m here was more same r small few = dite (ℕ_discrete r route)
     (λ e. subst (λ (k : ℕ). get_or (set xs route (get_or xs route 0 + 1)) k 0 ≡ m k) (sym e)
-        (get_or-set_same xs route (get_or xs route 0 + 1) 0 here ∙ ap (λ x. x + 1) (was route few) ∙ sym more))
+    (get_or-set_same xs route (get_or xs route 0 + 1) 0 here ∙ ap (λ x. x + 1) (was route few) ∙ sym more))
     (λ d. get_or-set_other xs route r (get_or xs route 0 + 1) 0 d ∙ was r small ∙ sym (same r d))
 
 entries_more : (done : List Item) (item : Item) → length (entries_of item.0 (done ++ item ∷ []))

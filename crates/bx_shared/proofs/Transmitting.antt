@@ -58,12 +58,12 @@ bus_marks txfp t k id new lane b d rs w st me f leads ls is mine =
     let x = marked w st w.abort_asked in
     let next = with_waiting s (at_of s w) x in
     bus_moves txfp t k id b d rs (set t.words 0 new) next me (leads-reached s s next next refl leads refl k.reached)
-        k.priority k.eight
+    k.priority k.eight
     (shows_mark t.words s w new lane k.shows (law_of s k.reached) f ls st w.abort_asked is) mine
     (λ o g. fits_same t.words new s next o refl refl refl (λ _ r. r)
     (λ z. subst (Each (IsKnown o)) (sym (f.split.set x))
-        (each-replace (IsKnown o) f.split.before f.split.behind w x (λ h own. h own)
-          (subst (Each (IsKnown o)) f.split.whole z))) g)
+    (each-replace (IsKnown o) f.split.before f.split.behind w x (λ h own. h own)
+    (subst (Each (IsKnown o)) f.split.whole z))) g)
 
 -- a request leaves
 pub bus_leaves : (txfp : Bool) (t : St) (k : IsKept txfp t) (id new : ℕ) (b d : BusView) (rs : List RouteView)
@@ -72,24 +72,24 @@ pub bus_leaves : (txfp : Bool) (t : St) (k : IsKept txfp t) (id new : ℕ) (b d 
     LaneSet (get_or t.words 0 0) w.mailbox 0 new →
     x.requested ≡ (lists_of k.core w.route).requested → x.aborted ≡ (lists_of k.core w.route).aborted →
     ((o : RouteView) → Each (IsKnown o) k.core.queue → w.route ≡ o.route →
-        Each (Has o.asked) (lists_of k.core w.route).reaped → Each (Has o.asked) x.reaped) →
+    Each (Has o.asked) (lists_of k.core w.route).reaped → Each (Has o.asked) x.reaped) →
     FitsBus (without k.core (at_of k.core w) w.route x) d →
-        IsKeptAs txfp (stepped t 0 new id [] (with_bus d rs) keeps) (without k.core (at_of k.core w) w.route x)
+    IsKeptAs txfp (stepped t 0 new id [] (with_bus d rs) keeps) (without k.core (at_of k.core w) w.route x)
 bus_leaves txfp t k id new b d rs w x me f there leads ls requested aborted reaps mine =
     let s = k.core in
     let next = without s (at_of s w) w.route x in
     bus_moves txfp t k id b d rs (set t.words 0 new) next me (leads-reached s s next next refl leads refl k.reached)
-        k.priority (length-set s.routes w.route x ∙ k.eight)
+    k.priority (length-set s.routes w.route x ∙ k.eight)
     (shows_leave t.words s w new 0 k.shows (law_of s k.reached) f ls x refl there requested) mine
     (λ o g. fits_same t.words new s next o refl
     (set-each (λ r (y : RouteLists). y.requested ≡ (lists_of s r).requested) s.routes w.route x no_lists there requested
-        (λ r n. refl) o.route)
+    (λ r n. refl) o.route)
     (set-each (λ r (y : RouteLists). y.aborted ≡ (lists_of s r).aborted) s.routes w.route x no_lists there aborted
-        (λ r n. refl) o.route)
+    (λ r n. refl) o.route)
     (λ z. set-each (λ r (y : RouteLists). r ≡ o.route → Each (Has o.asked) (lists_of s r).reaped →
-          Each (Has o.asked) y.reaped) s.routes w.route x no_lists there (reaps o z) (λ r n _ h. h) o.route refl)
+    Each (Has o.asked) y.reaped) s.routes w.route x no_lists there (reaps o z) (λ r n _ h. h) o.route refl)
     (λ z. subst (Each (IsKnown o)) (sym f.split.rest)
-        (each-drop (IsKnown o) f.split.before f.split.behind w (subst (Each (IsKnown o)) f.split.whole z))) g)
+    (each-drop (IsKnown o) f.split.before f.split.behind w (subst (Each (IsKnown o)) f.split.whole z))) g)
 
 -- what was requested is still
 pub known_on : (s : State) (w : Waiting) (x : RouteLists) (items : List Item) → w.route < length s.routes →
@@ -103,7 +103,7 @@ known_on s w x items there same = each_more (λ (y : Item). Has (lists_of s y.0)
 in_place : (s : State) (w : Waiting) → Law s → IsFound s w → (w.route < length s.routes) × (w.mailbox < 3)
 in_place s w law f =
     let has : Has s.queue w = subst (λ (q : List Waiting). Has q w) (sym f.split.whole)
-        (has-right f.split.before (w ∷ f.split.behind) w (inl refl)) in
+    (has-right f.split.before (w ∷ f.split.behind) w (inl refl)) in
     let p = each_of (IsInPlace (length s.routes)) s.queue w law.in_place has in (p.route, p.mailbox)
 
 scheduled_is : (st : Status) → st ≡ Scheduled → is_scheduled st ≡ true
@@ -140,21 +140,26 @@ starts txfp t k id m new b rs me small mark none ls =
     let gone = goes-start s w f.at may in
     let go : Starts s (Some item) next = (w, turn, refl, gone) in
     let on : on_bus next ≡ Some x =
-        ap bus_of (alone.split.set x) ∙ bus-there alone.split.before alone.split.behind x alone.before refl in
+    ap bus_of (alone.split.set x) ∙ bus-there alone.split.before alone.split.behind x alone.before refl in
     let d = bus_started b word new m item in
     let set_to : LaneSet word w.mailbox (lane_of word m + 8) new =
-        subst (λ (j : ℕ). LaneSet word j (lane_of word m + 8) new) (sym g.mailbox_is) ls in (
+    subst (λ (j : ℕ). LaneSet word j (lane_of word m + 8) new) (sym g.mailbox_is) ls in (
       d,
-      record { item = item; lane = let o = g.owner in let q = mark in omega arith;
-          idle = sym fit.sends ∙ starts-idle s next (Some item) law go; undone =
-          starts_undone s next (Some item) (past_of b) law go fit.stands; is = refl },
+      record {
+        item = item;
+        lane = let o = g.owner in let q = mark in omega arith;
+        idle = sym fit.sends ∙ starts-idle s next (Some item) law go;
+        undone =
+            starts_undone s next (Some item) (past_of b) law go fit.stands;
+        is = refl;
+      },
       subst (λ (j : ℕ). IsEvent txfp s (Start j) (stepped t 0 new id [] (with_bus d rs) keeps)) g.mailbox_is (record {
         next = next;
         after_is = gone;
         then = bus_marks txfp t k id new (lane_of word m + 8) b d rs w Transmitting me f
             (leads-start s w.mailbox w (at_of s w) g.small (sym f.at) refl may) set_to
             (let l = g.lane_is in let y = ap (λ z. mark_by z w.abort_asked) st in let z =
-                ap (mark_by Scheduled) asked in let v = ap (mark_by Transmitting) asked in omega arith)
+            ap (mark_by Scheduled) asked in let v = ap (mark_by Transmitting) asked in omega arith)
             (record {
               stands = starts-bus s next (Some item) (past_of b) law go fit.stands;
               priority = fit.priority;
@@ -224,7 +229,7 @@ completes txfp t k id new b rs item me sends none ls =
     let go : Completes s next = (w, g.on, gone) in
     let idle = completes-idle s next law go in
     subst (λ (j : ℕ). IsEvent txfp s (Complete j) (stepped t 0 new id [] (with_bus (bus_completed b) rs) keeps)) m
-        (record {
+    (record {
       next = next;
       after_is = gone;
       then = bus_leaves txfp t k id new b (bus_completed b) rs w x me f here.0
@@ -255,9 +260,9 @@ transmits_in txfp t k id b rs item me sends =
     let g = is_sent s item (fit.sends ∙ sends) in
     let w = g.request in
     let lane = lane_sent t.words s w k.shows law (find-has (λ (y : Waiting). is_transmitting y.status) s.queue w g.on)
-        (transmits s w g.on) in
+    (transmits s w g.on) in
     subst (IsTransmitting word) (fit.mailbox w g.on)
-        (sent_lane word w.mailbox w.abort_asked (sent_mark (lane_of word w.mailbox) w.route w.abort_asked lane))
+    (sent_lane word w.mailbox w.abort_asked (sent_mark (lane_of word w.mailbox) w.route w.abort_asked lane))
 
 if_some : (c : Bool) (o : Option Item) (x : Item) → cond c o None ≡ Some x → (c ≡ true) × (o ≡ Some x)
 if_some true o x e = (refl, e)
@@ -267,7 +272,7 @@ if_some false o x e = no_item x e
 pub fails : (txfp : Bool) (t : St) (k : IsKept txfp t) (id new : ℕ) (b : BusView) (rs : List RouteView) (item : Item) →
     get_elem? t.views id ≡ some (with_bus b rs) → b.sends ≡ Some item →
     (IsTransmitting (get_or t.words 0 0) b.mailbox →
-        LaneSet (get_or t.words 0 0) b.mailbox (lane_of (get_or t.words 0 0) b.mailbox - 8) new) →
+    LaneSet (get_or t.words 0 0) b.mailbox (lane_of (get_or t.words 0 0) b.mailbox - 8) new) →
     IsEvent txfp k.core (Fail b.mailbox) (stepped t 0 new id [] (with_bus (bus_failed b (get_or t.words 0 0)) rs) keeps)
 fails txfp t k id new b rs item me sends ls =
     let s = k.core in
@@ -284,18 +289,18 @@ fails txfp t k id new b rs item me sends ls =
     let next = with_waiting s (at_of s w) x in
     let gone = goes-fail s w f.at (transmits s w g.on) in
     let lane = lane_sent t.words s w k.shows law (find-has (λ (y : Waiting). is_transmitting y.status) s.queue w g.on)
-        (transmits s w g.on) in
+    (transmits s w g.on) in
     let mark : mark_of word w.mailbox ≡ mark_by Transmitting w.abort_asked =
-        sent_mark (lane_of word w.mailbox) w.route w.abort_asked lane in
+    sent_mark (lane_of word w.mailbox) w.route w.abort_asked lane in
     let set_to : LaneSet word w.mailbox (lane_of word w.mailbox - 8) new =
     subst (λ (j : ℕ). IsTransmitting word j → LaneSet word j (lane_of word j - 8) new) (sym m) ls
-        (sent_lane word w.mailbox w.abort_asked mark) in
+    (sent_lane word w.mailbox w.abort_asked mark) in
     let idle : sending next ≡ None = ap item_in (a.split.set x)
-        ∙ ap (option_map item_of) (bus-idle a.split.before a.split.behind x a.before a.behind refl) in
+    ∙ ap (option_map item_of) (bus-idle a.split.before a.split.behind x a.before a.behind refl) in
     let asked : nat_lt 15 (mark_of word b.mailbox) ≡ w.abort_asked =
-        ap (λ j. nat_lt 15 (mark_of word j)) (sym m) ∙ ap (nat_lt 15) mark ∙ asked_sent w.abort_asked in
+    ap (λ j. nat_lt 15 (mark_of word j)) (sym m) ∙ ap (nat_lt 15) mark ∙ asked_sent w.abort_asked in
     subst (λ (j : ℕ). IsEvent txfp s (Fail j) (stepped t 0 new id [] (with_bus (bus_failed b word) rs) keeps)) m
-        (record {
+    (record {
       next = next;
       after_is = gone;
       then = bus_marks txfp t k id new (lane_of word w.mailbox - 8) b (bus_failed b word) rs w Scheduled me f
@@ -341,26 +346,28 @@ reaps txfp t k id new b rs item me due ls =
     let next = without s (at_of s w) w.route x in
     let may = may_reap_is w st g.asked in
     let idle : sending s ≡ None = ap item_in a.split.whole
-        ∙ ap (option_map item_of) (bus-idle a.split.before a.split.behind w a.before a.behind
-        (scheduled_idle w.status st)) in
+    ∙ ap (option_map item_of) (bus-idle a.split.before a.split.behind w a.before a.behind
+    (scheduled_idle w.status st)) in
     let idle_next : sending next ≡ None = idle_without s w w.route x a in
     let label : (w.route, w.number) ≡ label_of item = ap label_of g.item_is in
     let all : map label_of (b.reaped ++ option_to_list b.reaps) ≡ map label_of b.reaped ++ (w.route, w.number) ∷ [] =
     ap (λ o. map label_of (b.reaped ++ option_to_list o)) due ∙ labels-push b.reaped item
-        ∙ ap (λ y. map label_of b.reaped ++ y ∷ []) (sym label) in
+    ∙ ap (λ y. map label_of b.reaped ++ y ∷ []) (sym label) in
     let known : Has (lists_of next item.0).requested (entry_on_bus item) =
     subst (λ (y : Item). Has (lists_of next y.0).requested (entry_on_bus y)) g.item_is
-        (same_requested s w x here.0 refl w.route (entry_on_bus (item_of w)) (known_there s w f.split law)) in
+    (same_requested s w x here.0 refl w.route (entry_on_bus (item_of w)) (known_there s w f.split law)) in
     subst (λ (j : ℕ). IsEvent txfp s (Reap j) (stepped t 0 new id [] (with_bus (bus_reaped b) rs) keeps)) g.mailbox_is
-        (record {
+    (record {
       next = next;
       after_is = goes-reap s w f.at may;
       then = bus_leaves txfp t k id new b (bus_reaped b) rs w x me f here.0
           (leads-reap s w.mailbox w (at_of s w) here.1 (sym f.at) refl may)
           (subst (λ (j : ℕ). LaneSet (get_or t.words 0 0) j 0 new) (sym g.mailbox_is) ls) refl refl
-          (λ o z e r. each-append (Has o.asked) (lists_of s w.route).reaped (w.number ∷ []) r
-          ((each_of (IsKnown o) s.queue w z (find-has (λ (y : Waiting). is_scheduled y.status) s.queue w g.turn) e).1
-              g.asked, tt))
+          (λ o z e r. each-append (Has o.asked) (lists_of s w.route).reaped (w.number ∷ []) r (
+            (each_of (IsKnown o) s.queue w z (find-has (λ (y : Waiting). is_scheduled y.status) s.queue w g.turn) e).1
+                g.asked,
+            tt,
+          ))
           (record {
             stands =
                 subst (λ (l : List (ℕ × ℕ)). BusStands next (record { started = b.started; done = b.done; reaped = l }))
@@ -369,7 +376,7 @@ reaps txfp t k id new b rs item me due ls =
             reaped_known = subst (λ (l : List Item). Each (λ y. Has (lists_of next y.0).requested (entry_on_bus y))
                 (b.reaped ++ l)) (sym (ap option_to_list due))
                 (each-append (λ y. Has (lists_of next y.0).requested (entry_on_bus y)) b.reaped (item ∷ [])
-                    (known_on s w x b.reaped here.0 refl fit.reaped_known) (known, tt));
+                (known_on s w x b.reaped here.0 refl fit.reaped_known) (known, tt));
             sends = idle_next ∙ sym idle ∙ fit.sends;
             mailbox = λ y e. none_sent next y idle_next e;
             reaps = λ y e. no_item y e;

@@ -78,10 +78,10 @@ asked_known p [] a = tt
 asked_known p (w ∷ ws) a = elim ((w.route == p.route) && w.abort_asked) as
     (λ b. ((w.route == p.route) && w.abort_asked) ≡ b →
     Each (Has p.asked) (cond b (w.number ∷ asked_of p.route ws) (asked_of p.route ws))) [
-  | true ↦ λ e. let t = and_parts (w.route == p.route) w.abort_asked e in
-      ((a.0 (eqb-true w.route p.route t.0)).1 t.1, asked_known p ws a.1)
-  | false ↦ λ _. asked_known p ws a.1
-] refl
+      | true ↦ λ e. let t = and_parts (w.route == p.route) w.abort_asked e in
+          ((a.0 (eqb-true w.route p.route t.0)).1 t.1, asked_known p ws a.1)
+      | false ↦ λ _. asked_known p ws a.1
+    ] refl
 
 route_stands : (words : List ℕ) (s : State) (p : RouteView) (past : RoutePast) → Fits words s p →
     past.requested ≡ p.requested → past.aborted ≡ p.aborted → past.asked ≡ p.asked → RouteStands s p.route past
@@ -106,12 +106,12 @@ module _ (b : BusPlace) (sides : List RoutePlace) (es : List Waiting) (word : �
   all_tied by each route s did past at bus side =
       let p = s.part in
       let f = each_of (Fits t.words t.core) (b.routes ++ parts_of sides) p t.parts
-          (has-right b.routes (parts_of sides) p (side_has sides route s at)) in
+      (has-right b.routes (parts_of sides) p (side_has sides route s at)) in
       let tied = plain_tied t.core p.route did past t.law (stands did bus)
-          (route_stands t.words t.core p past f side.requested side.aborted side.asked) in
+      (route_stands t.words t.core p past f side.requested side.aborted side.asked) in
       subst (λ (r : ℕ). RouteTied b.txfp r did past (left_of r left)) (each route s at)
       (subst (λ (x : Bool × List Left). RouteTied x.0 p.route did past (left_of p.route x.1))
-          (λ k. ((t.bus.priority ∙ by) k, left_is k)) tied)
+      (λ k. ((t.bus.priority ∙ by) k, left_is k)) tied)
 
   empty_of : {X : Type 0} (xs : List X) → Each (Has {A = X} []) xs → xs ≡ []
   empty_of [] known = refl
@@ -122,13 +122,13 @@ module _ (b : BusPlace) (sides : List RoutePlace) (es : List Waiting) (word : �
   none_of is r past = dite (dec_le (suc r) 8)
       (λ small.
       let f = each_of (Fits t.words t.core) (b.routes ++ parts_of sides) (opening r) t.parts
-          (has-left b.routes (parts_of sides) (opening r)
-          (subst (λ (l : List RouteView). Has l (opening r)) (sym is)
-            (openings_have (length b.routes) r past small))) in
+      (has-left b.routes (parts_of sides) (opening r)
+      (subst (λ (l : List RouteView). Has l (opening r)) (sym is)
+      (openings_have (length b.routes) r past small))) in
       let done : Each (Has {A = Entry} []) (lists_of t.core r).done =
-          subst (λ (l : List Entry). Each (Has l) (lists_of t.core r).done) f.requested (t.law.route r).done_known in
+      subst (λ (l : List Entry). Each (Has l) (lists_of t.core r).done) f.requested (t.law.route r).done_known in
       same_lists (lists_of t.core r) no_lists f.requested (empty_of (lists_of t.core r).done done) f.aborted
-          (empty_of (lists_of t.core r).reaped f.reaped))
+      (empty_of (lists_of t.core r).reaped f.reaped))
       (λ n. get_or_past t.core.routes r no_lists (let e = t.eight in omega arith))
 
   pub nothing_beyond : b.routes ≡ openings (length b.routes) → NothingBeyond BusAfter (routes_of b) b left

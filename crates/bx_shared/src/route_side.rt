@@ -25,7 +25,8 @@ impl<R> RouteTx<R> for RouteSeat {
     ghost use Rattle.bx_core.specs.Gate.{HearsAnswer, HearsSteps};
     ghost use Rattle.bx_core.specs.Steps.{last_number, greatest_number};
     ghost use Rattle.bx_core.specs.RouteTx.{RoutePast, after_request, after_abort};
-    ghost use Rattle.bx_shared.specs.Sides.{RouteAfter, SameRoute, RequestsAs, HearsWhere, AbortsAs, same_route-self, same_route-on, last-is};
+    ghost use Rattle.bx_shared.specs.Sides.{RouteAfter, SameRoute, RequestsAs, HearsWhere, AbortsAs};
+    ghost use Rattle.bx_shared.specs.Sides.{same_route-self, same_route-on, last-is};
 
     ghost route_after = { RouteAfter };
 

@@ -120,7 +120,7 @@ added w m n x c mark is adds =
     let l = lane_of w m in
     let shape = lane_is w m n mark in
     joined w m c x (l + x) is (ap (λ z. bit_or z x) shape ∙ adds (l / 32) (owner_below w m)
-        ∙ ap (λ z. z + x) (sym shape))
+    ∙ ap (λ z. z + x) (sym shape))
 
 -- scheduled, transmitting, abort asked
 pub schedules : Adds 3 4
@@ -142,9 +142,9 @@ pub failed : (w m mask : ℕ) → w < 2 ^ 64 → IsTransmitting w m → Masks m 
 failed w m mask fits mark is = masked w m mask 247 (lane_of w m - 8) fits is
     (let l = lane_of w m in let few = owner_below w m in ⊎_elim
     (λ (e : mark_of w m ≡ 15). let shape =
-        lane_is w m 15 e in ap (λ z. bit_and z 247) shape ∙ (less_eight (l / 32) few).0 ∙ (omega arith))
+    lane_is w m 15 e in ap (λ z. bit_and z 247) shape ∙ (less_eight (l / 32) few).0 ∙ (omega arith))
     (λ (e : mark_of w m ≡ 31). let shape =
-        lane_is w m 31 e in ap (λ z. bit_and z 247) shape ∙ (less_eight (l / 32) few).1 ∙ (omega arith)) mark)
+    lane_is w m 31 e in ap (λ z. bit_and z 247) shape ∙ (less_eight (l / 32) few).1 ∙ (omega arith)) mark)
 
 -- the bits of a claim
 abbrev pub claim_bits : ℕ → ℕ → ℕ
@@ -183,7 +183,7 @@ claims = of_mailboxes (λ m. (r : ℕ) → r < 8 → Bits m (claim_bits m r) (fi
 pub claimed : (w m r : ℕ) → m < 3 → r < 8 → lane_of w m ≡ 0 → LaneSet w m (filling r) (bit_or w (claim_bits m r))
 claimed w m r small few empty =
     joined w m (claim_bits m r) (filling r) (filling r) (claims m small r few)
-        (ap (λ z. bit_or z (filling r)) empty ∙ or_zero_l (filling r))
+    (ap (λ z. bit_or z (filling r)) empty ∙ or_zero_l (filling r))
 
 -- bits and a mask that request mailbox m and make it the younger of both of its pairs
 pub record Requests (m c mask : ℕ) : Type 0 where
@@ -224,7 +224,7 @@ requests_0 = record {
   younger = of_mailboxes (λ j. ¬ (j ≡ 0) →
       ((order_bit 50331650 j 0 ≡ 1) × (order_bit 18446744073709551615 j 0 ≡ 1) × (older_bit j 0 ≡ 1))
       ⊎ ((order_bit 18446744073709551615 j 0 ≡ 0) × (older_bit j 0 ≡ 0))) (λ n. absurd (n refl))
-          (λ _. inl (refl, refl, refl)) (λ _. inl (refl, refl, refl));
+      (λ _. inl (refl, refl, refl)) (λ _. inl (refl, refl, refl));
   order = of_pairs (λ i j. ¬ (i ≡ 0) → ¬ (j ≡ 0) → (order_bit 50331650 i j ≡ 0)
       × (order_bit 18446744073709551615 i j ≡ 1)) (λ n _. absurd (n refl)) (λ n _. absurd (n refl))
       (λ _ _. (refl, refl));
@@ -240,7 +240,7 @@ requests_1 = record {
   younger = of_mailboxes (λ j. ¬ (j ≡ 1) →
       ((order_bit 67109376 j 1 ≡ 1) × (order_bit 18446744073692774399 j 1 ≡ 1) × (older_bit j 1 ≡ 1))
       ⊎ ((order_bit 18446744073692774399 j 1 ≡ 0) × (older_bit j 1 ≡ 0))) (λ _. inr (refl, refl)) (λ n. absurd (n refl))
-          (λ _. inl (refl, refl, refl));
+      (λ _. inl (refl, refl, refl));
   order = of_pairs (λ i j. ¬ (i ≡ 1) → ¬ (j ≡ 1) → (order_bit 67109376 i j ≡ 0)
       × (order_bit 18446744073692774399 i j ≡ 1)) (λ _ n. absurd (n refl)) (λ _ _. (refl, refl))
       (λ n _. absurd (n refl));
@@ -256,7 +256,7 @@ requests_2 = record {
   younger = of_mailboxes (λ j. ¬ (j ≡ 2) →
       ((order_bit 131072 j 2 ≡ 1) × (order_bit 18446744073608888319 j 2 ≡ 1) × (older_bit j 2 ≡ 1))
       ⊎ ((order_bit 18446744073608888319 j 2 ≡ 0) × (older_bit j 2 ≡ 0))) (λ _. inr (refl, refl))
-          (λ _. inr (refl, refl)) (λ n. absurd (n refl));
+      (λ _. inr (refl, refl)) (λ n. absurd (n refl));
   order = of_pairs (λ i j. ¬ (i ≡ 2) → ¬ (j ≡ 2) → (order_bit 131072 i j ≡ 0)
       × (order_bit 18446744073608888319 i j ≡ 1)) (λ _ _. (refl, refl)) (λ _ n. absurd (n refl))
       (λ _ n. absurd (n refl));
@@ -295,7 +295,7 @@ counted_youngest old mid new m x y k small = record {
   younger = λ j h n. ⊎_elim
       (λ (l : j < m). k.order j m l small ∙ y.younger j h n)
       (λ (g : m < j). ap (λ b. field new b 1) (omega arith) ∙ k.order m j g h ∙ ap (λ b. field mid b 1) (omega arith)
-          ∙ y.younger j h n)
+      ∙ y.younger j h n)
       (apart j m n);
   order = λ i j l h ni nj. k.order i j l h ∙ y.order i j l h ni nj;
   rest = k.rest ∙ ap one_more y.rest;

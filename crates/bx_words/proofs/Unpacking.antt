@@ -27,9 +27,9 @@ pub first_bytes : (all : List ℕ) → AllBytes all → length all ≤ 8 →
 first_bytes all are few =
     let k = 8 - length all in
     let long : length (all ++ replicate k 0) ≡ 8 =
-        omega (arith, length-append all (replicate k 0), length-replicate {A = ℕ} k 0) in
+    omega (arith, length-append all (replicate k 0), length-replicate {A = ℕ} k 0) in
     ap (take (length all)) (le_bytes_8 (all ++ replicate k 0) (little_endian all) long
-        (λ i. bytes_fit all k i are) refl)
+    (λ i. bytes_fit all k i are) refl)
     ∙ take-append_seam all (replicate k 0)
 
 -- a data frame of at most eight bytes is made
@@ -71,14 +71,14 @@ pub remote_frame : (f : FrameValue) (id : Identifier) (code : ℕ) → is_remote
     record { id = id; content = remote_code code } ≡ f
 remote_frame f id code remote id_is code_is =
     ap (λ i. record { id = i; content = remote_code code }) id_is
-        ∙ ap (λ n. record { id = f.id; content = remote_code n }) code_is
+    ∙ ap (λ n. record { id = f.id; content = remote_code n }) code_is
     ∙ ap (λ content. record { id = f.id; content = content }) (remote_is f.content remote)
 
 pub data_frame : (f : FrameValue) (id : Identifier) → is_remote f.content ≡ false → id ≡ f.id →
     record { id = id; content = data_bytes (bytes_of f.content) } ≡ f
 data_frame f id remote id_is =
     ap (λ i. record { id = i; content = data_bytes (bytes_of f.content) }) id_is
-        ∙ ap (λ content. record { id = f.id; content = content }) (data_is f.content remote)
+    ∙ ap (λ content. record { id = f.id; content = content }) (data_is f.content remote)
 
 -- what was made is given
 pub given : {T E : Type 0} (r : Result T E) (P : T → Type 0) (x v : T) → ResultUnwrapsOrElse r P x → r ≡ Ok v → x ≡ v

@@ -180,28 +180,68 @@ pub record IsMetInThreads (name text : Text) : Type 0 where
 
 first_of_threads : (name ds : Text) (k : ℕ) → k < 9 → IsUpTo 16 ((49 + k) ∷ ds) → IsMetInThreads name ((49 + k) ∷ ds)
 unfolding clap_on_literals
-first_of_threads name ds zero lt h = record { met = refl; slack = refl; one = refl;
-    taken = rw (accepted_to 16 (49 ∷ ds) _ (omega arith) refl refl refl h) refl }
-first_of_threads name ds (suc zero) lt h = record { met = refl; slack = refl; one = refl;
-    taken = rw (accepted_to 16 (50 ∷ ds) _ (omega arith) refl refl refl h) refl }
-first_of_threads name ds (suc (suc zero)) lt h = record { met = refl; slack = refl; one = refl;
-    taken = rw (accepted_to 16 (51 ∷ ds) _ (omega arith) refl refl refl h) refl }
-first_of_threads name ds (suc (suc (suc zero))) lt h = record { met = refl; slack = refl; one = refl;
-    taken = rw (accepted_to 16 (52 ∷ ds) _ (omega arith) refl refl refl h) refl }
-first_of_threads name ds (suc (suc (suc (suc zero)))) lt h = record { met = refl; slack = refl; one = refl;
-    taken = rw (accepted_to 16 (53 ∷ ds) _ (omega arith) refl refl refl h) refl }
+first_of_threads name ds zero lt h = record {
+  met = refl;
+  slack = refl;
+  one = refl;
+  taken = rw (accepted_to 16 (49 ∷ ds) _ (omega arith) refl refl refl h) refl;
+}
+first_of_threads name ds (suc zero) lt h = record {
+  met = refl;
+  slack = refl;
+  one = refl;
+  taken = rw (accepted_to 16 (50 ∷ ds) _ (omega arith) refl refl refl h) refl;
+}
+first_of_threads name ds (suc (suc zero)) lt h = record {
+  met = refl;
+  slack = refl;
+  one = refl;
+  taken = rw (accepted_to 16 (51 ∷ ds) _ (omega arith) refl refl refl h) refl;
+}
+first_of_threads name ds (suc (suc (suc zero))) lt h = record {
+  met = refl;
+  slack = refl;
+  one = refl;
+  taken = rw (accepted_to 16 (52 ∷ ds) _ (omega arith) refl refl refl h) refl;
+}
+first_of_threads name ds (suc (suc (suc (suc zero)))) lt h = record {
+  met = refl;
+  slack = refl;
+  one = refl;
+  taken = rw (accepted_to 16 (53 ∷ ds) _ (omega arith) refl refl refl h) refl;
+}
 first_of_threads name ds (suc (suc (suc (suc (suc zero))))) lt h =
-    record { met = refl; slack = refl; one = refl; taken =
-    rw (accepted_to 16 (54 ∷ ds) _ (omega arith) refl refl refl h) refl }
+    record {
+      met = refl;
+      slack = refl;
+      one = refl;
+      taken =
+          rw (accepted_to 16 (54 ∷ ds) _ (omega arith) refl refl refl h) refl;
+    }
 first_of_threads name ds (suc (suc (suc (suc (suc (suc zero)))))) lt h =
-    record { met = refl; slack = refl; one = refl; taken =
-    rw (accepted_to 16 (55 ∷ ds) _ (omega arith) refl refl refl h) refl }
+    record {
+      met = refl;
+      slack = refl;
+      one = refl;
+      taken =
+          rw (accepted_to 16 (55 ∷ ds) _ (omega arith) refl refl refl h) refl;
+    }
 first_of_threads name ds (suc (suc (suc (suc (suc (suc (suc zero))))))) lt h =
-    record { met = refl; slack = refl; one = refl; taken =
-    rw (accepted_to 16 (56 ∷ ds) _ (omega arith) refl refl refl h) refl }
+    record {
+      met = refl;
+      slack = refl;
+      one = refl;
+      taken =
+          rw (accepted_to 16 (56 ∷ ds) _ (omega arith) refl refl refl h) refl;
+    }
 first_of_threads name ds (suc (suc (suc (suc (suc (suc (suc (suc zero)))))))) lt h =
-    record { met = refl; slack = refl; one = refl; taken =
-    rw (accepted_to 16 (57 ∷ ds) _ (omega arith) refl refl refl h) refl }
+    record {
+      met = refl;
+      slack = refl;
+      one = refl;
+      taken =
+          rw (accepted_to 16 (57 ∷ ds) _ (omega arith) refl refl refl h) refl;
+    }
 first_of_threads name ds (suc (suc (suc (suc (suc (suc (suc (suc (suc k))))))))) lt h = absurd (omega arith)
 
 digits_of_threads : (name text : Text) → IsUpTo 16 text → 48 < get_or text 0 0 → IsMetInThreads name text

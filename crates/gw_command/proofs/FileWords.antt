@@ -46,7 +46,7 @@ walk_is rules c cs is =
 abbrev takes_value : Shape → Walk → Bool
 takes_value s end = (step_passes s 1 nothing_held value && true)
     && (settle_passes s.rules s.args_override_self end.held
-        && (list_all default_passes s.rules && is_valid s (finished s.rules end.held) false))
+    && (list_all default_passes s.rules && is_valid s (finished s.rules end.held) false))
 
 level_is : (s : Shape) (c : ℕ) (cs : Text) → c ≢ 45 → level_passes s [] nothing_held ((c ∷ cs) ∷ []) false
     ≡ takes_value s (walk_over s.rules (c ∷ cs))

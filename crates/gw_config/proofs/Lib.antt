@@ -4,3 +4,4 @@ pub mod NodeLaws
 pub mod WhereLaws
 pub mod SoundLaws
 pub mod SoundNodes
+pub mod SoundFaults

@@ -19,7 +19,7 @@ pub talkers-step : (name : List ℕ) (segments : List SegmentValue) (i : ℕ) (s
     ≡ (is_among name (talker_names s.talkers) || is_among name (all_talker_names (drop (i + 1) segments)))
 talkers-step name segments i s lt is =
     ap (λ ss. is_among name (all_talker_names ss)) (drop-cons segments i s lt
-        ∙ ap (λ t. t ∷ drop (suc i) segments) (sym is) ∙ ap (λ n. s ∷ drop n segments) (sym (add-one i)))
+    ∙ ap (λ t. t ∷ drop (suc i) segments) (sym is) ∙ ap (λ n. s ∷ drop n segments) (sym (add-one i)))
     ∙ among-append name (talker_names s.talkers) (all_talker_names (drop (i + 1) segments))
 
 pub talkers-end : (name : List ℕ) (segments : List SegmentValue) (i : ℕ) → length segments ≤ i →

@@ -19,7 +19,7 @@ left-step : (place : ℕ) (cs : List ControllerValue) (i : ℕ) (c : ControllerV
     controller_names (controllers_on place (drop i cs)) ≡ names_left (c.segment == place) c place (drop (i + 1) cs)
 left-step place cs i c lt is =
     ap (λ xs. controller_names (controllers_on place xs)) (drop-cons cs i c lt ∙ ap (λ x. x ∷ drop (suc i) cs) (sym is)
-        ∙ ap (λ n. c ∷ drop n cs) (sym (add-one i)))
+    ∙ ap (λ n. c ∷ drop n cs) (sym (add-one i)))
 
 pub on_here : (place : ℕ) (cs : List ControllerValue) (i : ℕ) (c : ControllerValue) → i < length cs →
     c ≡ get_or cs i c → c.segment ≡ place →
@@ -35,8 +35,8 @@ pub on_found : (name : List ℕ) (node place : ℕ) (cs : List ControllerValue) 
 on_found name node place cs i c lt is on found =
     ap (position_from (bytes_eq name) node) (on_here place cs i c lt is on)
     ∙ ap
-        (λ b. cond b (Some node) (position_from (bytes_eq name) (node + 1)
-          (controller_names (controllers_on place (drop (i + 1) cs))))) found
+    (λ b. cond b (Some node) (position_from (bytes_eq name) (node + 1)
+    (controller_names (controllers_on place (drop (i + 1) cs))))) found
 
 pub on_passed : (name : List ℕ) (node place : ℕ) (cs : List ControllerValue) (i : ℕ) (c : ControllerValue) →
     i < length cs → c ≡ get_or cs i c → c.segment ≡ place →
@@ -46,8 +46,8 @@ pub on_passed : (name : List ℕ) (node place : ℕ) (cs : List ControllerValue)
 on_passed name node place cs i c lt is on passed =
     ap (position_from (bytes_eq name) node) (on_here place cs i c lt is on)
     ∙ ap
-        (λ b. cond b (Some node) (position_from (bytes_eq name) (node + 1)
-          (controller_names (controllers_on place (drop (i + 1) cs))))) passed
+    (λ b. cond b (Some node) (position_from (bytes_eq name) (node + 1)
+    (controller_names (controllers_on place (drop (i + 1) cs))))) passed
 
 pub on_end : (name : List ℕ) (node place : ℕ) (cs : List ControllerValue) (i : ℕ) → length cs ≤ i →
     position_from (bytes_eq name) node (controller_names (controllers_on place (drop i cs))) ≡ None
@@ -60,7 +60,7 @@ pub position-append-found : (test : List ℕ → Bool) (n k : ℕ) (xs ys : List
 position-append-found test n k [] ys e = cc
 position-append-found test n k (x ∷ xs) ys e =
     elim (test x) as (λ b. cond b (Some n) (position_from test (n + 1) xs) ≡ Some k →
-        cond b (Some n) (position_from test (n + 1) (xs ++ ys)) ≡ Some k) [
+    cond b (Some n) (position_from test (n + 1) (xs ++ ys)) ≡ Some k) [
       | true ↦ λ h. h
       | false ↦ λ h. position-append-found test (n + 1) k xs ys h
     ] e
@@ -73,7 +73,7 @@ position-append-later test n m [] ys e is =
     ap (λ k. position_from test k ys) (let same : n ≡ m = omega (arith, is) in same)
 position-append-later test n m (x ∷ xs) ys e is =
     elim (test x) as (λ b. cond b (Some n) (position_from test (n + 1) xs) ≡ None →
-        cond b (Some n) (position_from test (n + 1) (xs ++ ys)) ≡ position_from test m ys) [
+    cond b (Some n) (position_from test (n + 1) (xs ++ ys)) ≡ position_from test m ys) [
       | true ↦ λ h. cc
       | false ↦ λ h. position-append-later test (n + 1) m xs ys h (omega (arith, is))
     ] e
@@ -85,7 +85,7 @@ node-step : (cs : List ControllerValue) (name : List ℕ) (ss : List SegmentValu
     (node_from cs name (i + 1) (drop (i + 1) ss))
 node-step cs name ss i s lt is =
     ap (node_from cs name i) (drop-cons ss i s lt ∙ ap (λ x. x ∷ drop (suc i) ss) (sym is)
-        ∙ ap (λ n. s ∷ drop n ss) (sym (add-one i)))
+    ∙ ap (λ n. s ∷ drop n ss) (sym (add-one i)))
 
 pub node_here : (cs : List ControllerValue) (name : List ℕ) (ss : List SegmentValue) (i node : ℕ) (s : SegmentValue) →
     i < length ss → s ≡ get_or ss i s →
@@ -114,4 +114,4 @@ length-names ts place cs =
     length-append (talker_names ts) (controller_names on)
     ∙ ap (λ n. n + length (controller_names on)) (length-map ts (λ (t : TalkerValue). t.name))
     ∙ ap (λ n. length ts + n) (length-map on (λ (one : ControllerValue). one.name)
-        ∙ length-filter (λ (one : ControllerValue). one.segment == place) cs)
+    ∙ length-filter (λ (one : ControllerValue). one.segment == place) cs)

@@ -60,11 +60,14 @@ talker_ok bits taken front value t e =
     from_bind (list (codes "frames") 10000 from) _ t e3 (λ items is_list e4.
     from_bind (each listed_frame items) _ t e4 (λ frames are_frames e5.
     let test = passed_ok (nat_lt (length front) most_nodes) (record { name = name; on = on; frames = frames }) t
-        (too_many (codes "talkers")) e5 in
+    (too_many (codes "talkers")) e5 in
     new_talker taken front (record { name = name; on = on; frames = frames }) t test.1
     (new_name_ok (codes "talkers") (taken ++ talker_names front) from name is_name)
-    (let few : length frames ≤ 10000 = omega (arith, count_ok (λ before. listed_frame) [] frames items are_frames,
-          list_ok (codes "frames") 10000 from items is_list) in few)
+    (let few : length frames ≤ 10000 = omega (
+      arith,
+      count_ok (λ before. listed_frame) [] frames items are_frames,
+      list_ok (codes "frames") 10000 from items is_list,
+    ) in few)
     (ltb-true (length front) 16 test.0))))))
 
 -- talkers that are read have names of their own, few frames each, and are few
@@ -87,7 +90,7 @@ talkers_ok : (bits : ℕ) (taken : List (List ℕ)) (items : Items) (ts : List T
     each_after (talker_of bits taken) [] items ≡ Ok ts → AreNewTalkers taken ts
 talkers_ok bits taken items ts apart e =
     each_after_keeps (talker_of bits taken) (AreNewTalkers taken)
-        (λ front d t before is. talkers_more taken front t before (talker_ok bits taken front d t is)) [] ts items
+    (λ front d t before is. talkers_more taken front t before (talker_ok bits taken front d t is)) [] ts items
     (record { names = subst AreApart (sym (append-nil taken)) apart; frames = tt; few = omega arith }) e
 
 -- segments that are read have names of their own, and their talkers are as above
@@ -123,7 +126,7 @@ segment_ok bits front value s before e =
     let same : record { name = name; talkers = talkers } ≡ s = cc in
     let P : SegmentValue → Type 0 = λ one. AreNewSegments (front ++ one ∷ []) in
     subst P same (segments_more front (record { name = name; talkers = talkers }) before
-        (new_name_ok (codes "segments") (segment_names front) from name is_name)
+    (new_name_ok (codes "segments") (segment_names front) from name is_name)
     (talkers_ok bits (all_talker_names front) items talkers before.talkers are_talkers))))))
 
 pub segments_ok : (bits : ℕ) (from : Json) (ss : List SegmentValue) → segments_of bits from ≡ Ok ss → AreNewSegments ss
@@ -131,5 +134,9 @@ unfolding segments_of
 segments_ok bits from ss e =
     from_bind (filled_list (codes "segments") 8 from) _ ss e (λ items is_list e1.
     each_after_keeps (segment_of bits) AreNewSegments (segment_ok bits) [] ss items
-    (record { names = λ i j d below within. absurd (omega arith); talkers = λ i j d below within. absurd (omega arith);
-          frames = tt; few = tt }) e1)
+    (record {
+      names = λ i j d below within. absurd (omega arith);
+      talkers = λ i j d below within. absurd (omega arith);
+      frames = tt;
+      few = tt;
+    }) e1)

@@ -6,17 +6,14 @@ use Rattle.std.proofs.lemmas.Bool.{ltb-true, eq-eqb, eqb-true}
 use Rattle.std.proofs.lemmas.List.{append-nil, map-append}
 use Rattle.std.proofs.lemmas.List.Quantifiers.{all_pairs_push}
 use Rattle.std.proofs.lemmas.List.Sums.{sum_by-append}
-use Rattle.std.specs.List.{list_any, position_from}
-use Rattle.std.specs.Str.{bytes_eq}
+use Rattle.std.specs.List.{list_any}
 use Rattle.json.specs.Json.{Json}
-use Rattle.json.specs.Find.{get}
 use Rattle.bx_core.specs.Lists.{Each}
 use Rattle.gw_config.specs.declared.version.Version.{Version}
-use Rattle.gw_config.specs.declared.node_place.NodePlace.{NodePlace}
 use Rattle.gw_config.specs.declared.planned_fault.PlannedFault.{PlannedFault}
 use Rattle.gw_config.specs.declared.planned_fault.PlannedFault.TheVariants.{AtNode, OnLine}
-use Rattle.gw_fields.specs.Faults.{Fault, too_many, fifo_twice, unknown_name}
-use Rattle.gw_fields.specs.Fields.{or_fault, object_of, whole, optional_truth, text_of, list, optional_list}
+use Rattle.gw_fields.specs.Faults.{Fault, too_many, fifo_twice}
+use Rattle.gw_fields.specs.Fields.{object_of, whole, optional_truth, list}
 use Rattle.gw_fields.specs.Names.{is_among, new_name, place_named}
 use Rattle.gw_config.specs.Talkers.{talker_names, most_nodes}
 use Rattle.gw_config.specs.Segments.{SegmentValue, segment_names, all_talker_names, segments_of}
@@ -26,21 +23,21 @@ use Rattle.gw_config.specs.Controllers.{ControllerValue, controller_names, contr
 use Rattle.gw_config.specs.Controllers.{controller_with, controller_of, controllers_of}
 use Rattle.gw_config.specs.Routes.{RouteValue, route_names, takes_from, routes_into, placed, route_with, route_of}
 use Rattle.gw_config.specs.Routes.{routes_of}
-use Rattle.gw_config.specs.PlannedFaults.{or_later, node_from, node_fault, line_fault, fault_with, planned_fault_of}
 use Rattle.gw_config.specs.PlannedFaults.{planned_faults_of}
 use Rattle.gw_config.specs.Scripts.{ScriptValue}
 use Rattle.gw_config.specs.Nodes.{talkers_on, names_of_nodes}
 use Rattle.gw_config.specs.SoundScripts.{HasFewFrames, IsAtNode, AreApart, TakesElsewhere}
 use Rattle.gw_config.proofs.NodeLaws.{length-names}
-use Rattle.gw_fields.proofs.Readings.{from_bind, passed_ok, found_ok, each_after_keeps, new_name_ok}
-use Rattle.gw_config.proofs.SoundLaws.{HasFewTalkers, segments_ok, apart_more, each-push, none_passes}
+use Rattle.gw_fields.proofs.Readings.{from_bind, passed_ok, each_after_keeps, new_name_ok}
+use Rattle.gw_config.proofs.SoundLaws.{HasFewTalkers, segments_ok, apart_more, none_passes}
+use Rattle.gw_config.proofs.SoundFaults.{IsFaultAtNode, faults_ok}
 
 -- one element more is counted where it passes
 count-more : {A : Type 0} (test : A → Bool) (xs : List A) (x : A) →
     count_by test (xs ++ x ∷ []) ≡ count_by test xs + cond (test x) 1 0
 count-more test xs x =
     let parts : count_by test (xs ++ x ∷ []) ≡ count_by test xs + count_by test (x ∷ []) =
-        sum_by-append (λ y. cond (test y) 1 0) xs (x ∷ []) in
+    sum_by-append (λ y. cond (test y) 1 0) xs (x ∷ []) in
     parts ∙ ap (λ n. count_by test xs + n) (let one : 0 + cond (test x) 1 0 ≡ cond (test x) 1 0 = omega arith in one)
 
 -- no segment has more than 16 nodes with these controllers
@@ -69,7 +66,7 @@ more_on None front c place before room = omega arith
 more_on (Some s) front c place before room =
     let test : ControllerValue → Bool = λ one. one.segment == place in
     rw (count-more test front c) (count_stays (c.segment == place) (length s.talkers) (count_by test front) before
-        (λ on. room (eqb-true c.segment place on)))
+    (λ on. room (eqb-true c.segment place on)))
 
 nodes_more : (segments : List SegmentValue) (front : List ControllerValue) (c : ControllerValue) →
     HaveFewNodes segments front → node_count front c.segment (slice_get segments c.segment) < 16 →
@@ -83,7 +80,7 @@ controllers_more : (segments : List SegmentValue) (front : List ControllerValue)
 controllers_more segments front c before here = record {
   names = subst AreApart (append_assoc (all_talker_names segments) (controller_names front) (c.name ∷ [])
       ∙ ap (λ ns. all_talker_names segments ++ ns)
-          (sym (map-append (λ (one : ControllerValue). one.name) front (c ∷ []))))
+      (sym (map-append (λ (one : ControllerValue). one.name) front (c ∷ []))))
       (apart_more (all_talker_names segments ++ controller_names front) c.name before.names here.name);
   few = nodes_more segments front c before.few here.room;
 }
@@ -99,9 +96,9 @@ controller_room version bits segments front name segment from c e =
     from_bind (banks_of version from) _ c e2 (λ banks are_banks e3.
     let read : ControllerValue = record { name = name; segment = segment; on = on; txfp = txfp; banks = banks } in
     let test = passed_ok (nat_lt (node_count front segment (slice_get segments segment)) most_nodes) read c
-        (too_many (codes "controllers")) e3 in
+    (too_many (codes "controllers")) e3 in
     let P : ControllerValue → Type 0 =
-        λ one. (name ≡ one.name) × (node_count front one.segment (slice_get segments one.segment) < 16) in
+    λ one. (name ≡ one.name) × (node_count front one.segment (slice_get segments one.segment) < 16) in
     subst P test.1 (refl, ltb-true (node_count front segment (slice_get segments segment)) 16 test.0))))
 
 controller_ok : (version : Version) (bits : ℕ) (segments : List SegmentValue) (front : List ControllerValue)
@@ -111,7 +108,7 @@ unfolding controller_of
 controller_ok version bits segments front value c e =
     from_bind (object_of (codes "controllers") value) _ c e (λ from is_object e1.
     from_bind (new_name (codes "controllers") (all_talker_names segments ++ controller_names front) from) _ c e1
-        (λ name is_name e2.
+    (λ name is_name e2.
     from_bind (place_named (codes "segment") (segment_names segments) from) _ c e2 (λ segment is_segment e3.
     let room = controller_room version bits segments front name segment from c e3 in
     record {
@@ -134,10 +131,12 @@ unfolding controllers_of
 controllers_ok version bits segments from cs apart few e =
     from_bind (list (codes "controllers") 16 from) _ cs e (λ items is_list e1.
     each_after_keeps (controller_of version bits segments) (AreNewControllers segments)
-        (λ front d c before is. controllers_more segments front c before
-        (controller_ok version bits segments front d c is)) [] cs items
-    (record { names = subst AreApart (sym (append-nil (all_talker_names segments))) apart;
-          few = λ place. few_at segments place place few }) e1)
+    (λ front d c before is. controllers_more segments front c before
+    (controller_ok version bits segments front d c is)) [] cs items
+    (record {
+      names = subst AreApart (sym (append-nil (all_talker_names segments))) apart;
+      few = λ place. few_at segments place place few;
+    }) e1)
 
 -- routes that are read have names and FIFOs of their own, and at most eight lead into one controller
 pub record AreNewRoutes (rs : List RouteValue) : Type 0 where
@@ -167,7 +166,7 @@ into_more front r before room controller =
     let test : RouteValue → Bool = λ one. one.target == controller in
     let P : ℕ → Type 0 = λ k. routes_into k front < 8 in
     rw (count-more test front r) (into_stays (r.target == controller) (count_by test front) (before controller)
-        (λ on. subst P (eqb-true r.target controller on) room))
+    (λ on. subst P (eqb-true r.target controller on) room))
 
 routes_more : (front : List RouteValue) (r : RouteValue) → AreNewRoutes front → IsNewRoute front r →
     AreNewRoutes (front ++ r ∷ [])
@@ -188,7 +187,7 @@ placed_ok : (front : List RouteValue) (read r : RouteValue) → placed front rea
     × (list_any (takes_from r.source r.fifo) front ≡ false) × (routes_into r.target front < 8)
 placed_ok front read r e =
     let h = both_tests (list_any (takes_from read.source read.fifo) front)
-        (nat_lt (routes_into read.target front) 8) read r (fifo_twice (length front)) (too_many (codes "routes")) e in (
+    (nat_lt (routes_into read.target front) 8) read r (fifo_twice (length front)) (too_many (codes "routes")) e in (
       h.0,
       ap (λ (one : RouteValue). list_any (takes_from one.source one.fifo) front) (sym h.0) ∙ h.1,
       let P : RouteValue → Type 0 = λ one. routes_into one.target front < 8 in
@@ -206,7 +205,7 @@ route_ok version controllers front value r e =
     from_bind (place_named (codes "to") (controller_names controllers) from) _ r e4 (λ target is_target e5.
     from_bind (rewrites_of version from) _ r e5 (λ rewrites are_rewrites e6.
     let h = placed_ok front (record { name = name; source = source; fifo = fifo; target = target; rewrites = rewrites })
-        r e6 in
+    r e6 in
     record {
       name = ap (λ (one : RouteValue). is_among one.name (route_names front)) (sym h.0)
           ∙ new_name_ok (codes "routes") (route_names front) from name is_name;
@@ -220,106 +219,12 @@ unfolding routes_of
 routes_ok version controllers from rs e =
     from_bind (list (codes "routes") 16 from) _ rs e (λ items is_list e1.
     each_after_keeps (route_of version controllers) AreNewRoutes
-        (λ front d r before is. routes_more front r before (route_ok version controllers front d r is)) [] rs items
-    (record { names = λ i j d below within. absurd (omega arith); fifos = λ i j d below within. absurd (omega arith);
-          few = λ controller. omega arith }) e1)
-
--- a planned fault is at a node of its segment, by the names of the nodes there
-abbrev pub IsNamed : List SegmentValue → List ControllerValue → NodePlace → Type 0
-IsNamed segments controllers node = (s : SegmentValue) × (slice_get segments node.segment ≡ Some s)
-    × (node.place < length (node_names controllers node.segment s))
-
-abbrev pub IsFaultAtNode : List SegmentValue → List ControllerValue → PlannedFault → Type 0
-IsFaultAtNode segments controllers (AtNode node bit) = IsNamed segments controllers node
-IsFaultAtNode segments controllers (OnLine segment bit level) = Unit {0}
-
-position-below : (test : List ℕ → Bool) (first k : ℕ) (xs : List (List ℕ)) → position_from test first xs ≡ Some k →
-    k < first + length xs
-position-below test first k [] e = cc
-position-below test first k (x ∷ xs) e =
-    elim (test x) as (λ b. cond b (Some first) (position_from test (first + 1) xs) ≡ Some k →
-        k < first + length (x ∷ xs)) [
-      | true ↦ λ h. let same : first ≡ k = cc in omega (arith, same)
-      | false ↦ λ h. omega (arith, position-below test (first + 1) k xs h)
-    ] e
-
--- where a node is found
-record IsFound (controllers : List ControllerValue) (first : ℕ) (ss : List SegmentValue)
-    (node : NodePlace) : Type 0 where
-  pub later : ℕ
-  pub at : node.segment ≡ first + later
-  pub segment : SegmentValue
-  pub is : slice_get ss later ≡ Some segment
-  pub below : node.place < length (node_names controllers node.segment segment)
-
-found_from : (controllers : List ControllerValue) (name : List ℕ) (first : ℕ) (ss : List SegmentValue)
-    (node : NodePlace) → node_from controllers name first ss ≡ Some node →
-    IsFound controllers first ss node
-found_from controllers name first [] node e = cc
-found_from controllers name first (s ∷ ss) node e =
-    elim (position_from (bytes_eq name) 0 (node_names controllers first s)) as
-        (λ o. position_from (bytes_eq name) 0 (node_names controllers first s) ≡ o →
-    or_later first o (node_from controllers name (first + 1) ss) ≡ Some node → IsFound controllers first (s ∷ ss) node)
-        [
-      | Some k ↦ λ found is.
-          let below : k < 0 + length (node_names controllers first s) =
-              position-below (bytes_eq name) 0 k (node_names controllers first s) found in
-          let same : record { segment = first; place = k } ≡ node = cc in
-          subst (λ (one : NodePlace). IsFound controllers first (s ∷ ss) one) same
-          (record { later = 0; at = (let none : first ≡ first + 0 = omega arith in none); segment = s; is = refl;
-                below = omega (arith, below) })
-      | None ↦ λ found is.
-          let rest = found_from controllers name (first + 1) ss node is in
-          record { later = suc rest.later;
-              at = (let more : node.segment ≡ first + suc rest.later = omega (arith, rest.at) in more); segment =
-              rest.segment; is = rest.is; below = rest.below }
-    ] refl e
-
-named_ok : (segments : List SegmentValue) (controllers : List ControllerValue) (node : NodePlace) →
-    IsFound controllers 0 segments node → IsNamed segments controllers node
-named_ok segments controllers node found =
-    (found.segment, ap (slice_get segments) (let same : node.segment ≡ found.later = omega (arith, found.at) in same)
-        ∙ found.is, found.below)
-
-fault_ok : (bits : ℕ) (segments : List SegmentValue) (controllers : List ControllerValue) (from : Json)
-    (given : Option Json) (f : PlannedFault) →
-    fault_with bits segments controllers from given ≡ Ok f → IsFaultAtNode segments controllers f
-unfolding node_fault line_fault
-fault_ok bits segments controllers from (Some value) f e =
-    from_bind (text_of (codes "node") value) _ f e (λ name is_name e1.
-    from_bind (or_fault (unknown_name (codes "node")) (node_from controllers name 0 segments)) _ f e1
-        (λ node is_node e2.
-    from_bind (whole (codes "bit") 0 (bits - 1) from) _ f e2 (λ bit is_bit e3.
-    let same : AtNode node bit ≡ f = cc in
-    let P : PlannedFault → Type 0 = IsFaultAtNode segments controllers in
-    subst P same
-        (named_ok segments controllers node (found_from controllers name 0 segments node
-          (found_ok (unknown_name (codes "node")) (node_from controllers name 0 segments) node is_node))))))
-fault_ok bits segments controllers from None f e =
-    from_bind (place_named (codes "segment") (segment_names segments) from) _ f e (λ segment is_segment e1.
-    from_bind (whole (codes "bit") 0 (bits - 1) from) _ f e1 (λ bit is_bit e2.
-    from_bind (whole (codes "level") 0 1 from) _ f e2 (λ level is_level e3.
-    let same : OnLine segment bit (level == 1) ≡ f = cc in
-    let P : PlannedFault → Type 0 = IsFaultAtNode segments controllers in
-    subst P same tt)))
-
-planned_ok : (bits : ℕ) (segments : List SegmentValue) (controllers : List ControllerValue) (value : Json)
-    (f : PlannedFault) → planned_fault_of bits segments controllers value ≡ Ok f →
-    IsFaultAtNode segments controllers f
-unfolding planned_fault_of
-planned_ok bits segments controllers value f e =
-    from_bind (object_of (codes "faults") value) _ f e
-        (λ from is_object e1. fault_ok bits segments controllers from (get (codes "node") from) f e1)
-
-pub faults_ok : (bits : ℕ) (segments : List SegmentValue) (controllers : List ControllerValue) (from : Json)
-    (fs : List PlannedFault) → planned_faults_of bits segments controllers from ≡ Ok fs →
-    Each (IsFaultAtNode segments controllers) fs
-unfolding planned_faults_of
-faults_ok bits segments controllers from fs e =
-    from_bind (optional_list (codes "faults") 10000 from) _ fs e (λ items is_list e1.
-    each_after_keeps (λ front. planned_fault_of bits segments controllers) (Each (IsFaultAtNode segments controllers))
-    (λ front d f before is. each-push (IsFaultAtNode segments controllers) front f before
-        (planned_ok bits segments controllers d f is)) [] fs items tt e1)
+    (λ front d r before is. routes_more front r before (route_ok version controllers front d r is)) [] rs items
+    (record {
+      names = λ i j d below within. absurd (omega arith);
+      fifos = λ i j d below within. absurd (omega arith);
+      few = λ controller. omega arith;
+    }) e1)
 
 -- what the lists of a script keep
 pub record IsOrderly (s : ScriptValue) : Type 0 where
@@ -349,14 +254,14 @@ few_on s segment here is few =
     let at : length (node_names s.controllers segment here) ≤ 16 =
     subst P (ap (node_count s.controllers segment) is ∙ sym (names-count s.controllers segment here)) (few segment) in
     subst P (ap (λ o. length (talker_names (talkers_on o) ++ controller_names (controllers_on segment s.controllers)))
-        (sym is)) at
+    (sym is)) at
 
 at_node : (s : ScriptValue) (f : PlannedFault) → IsFaultAtNode s.segments s.controllers f → IsAtNode s f
 at_node s (AtNode node bit) (here, is, below) =
     let P : ℕ → Type 0 = λ n. node.place < n in
     subst P
-        (ap (λ o. length (talker_names (talkers_on o) ++ controller_names (controllers_on node.segment s.controllers)))
-        (sym is)) below
+    (ap (λ o. length (talker_names (talkers_on o) ++ controller_names (controllers_on node.segment s.controllers)))
+    (sym is)) below
 at_node s (OnLine segment bit level) at = tt
 
 each_weaker : {A : Type 0} (P Q : A → Type 0) → ((x : A) → P x → Q x) → (xs : List A) → Each P xs → Each Q xs

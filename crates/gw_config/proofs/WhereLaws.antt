@@ -8,7 +8,7 @@ filter-here : {A : Type 0} (test : A → Bool) (xs : List A) (i : ℕ) (x : A) �
     filter test (drop i xs) ≡ x ∷ filter test (drop (i + 1) xs)
 filter-here test xs i x lt is passes =
     ap (filter test) (drop-cons xs i x lt ∙ ap (λ y. y ∷ drop (suc i) xs) (sym is)
-        ∙ ap (λ n. x ∷ drop n xs) (sym (add-one i)))
+    ∙ ap (λ n. x ∷ drop n xs) (sym (add-one i)))
     ∙ ap (λ b. cond b (x ∷ filter test (drop (i + 1) xs)) (filter test (drop (i + 1) xs))) passes
 
 -- so it is their element of place 0
@@ -25,4 +25,4 @@ get-append-second [] ys k beyond = ap (slice_get ys) (let same : k ≡ k - 0 = o
 get-append-second (x ∷ xs) ys zero beyond = absurd (omega (arith, beyond))
 get-append-second (x ∷ xs) ys (suc k) beyond =
     get-append-second xs ys k (omega (arith, beyond))
-        ∙ ap (slice_get ys) (let same : k - length xs ≡ suc k - suc (length xs) = omega arith in same)
+    ∙ ap (slice_get ys) (let same : k - length xs ≡ suc k - suc (length xs) = omega arith in same)

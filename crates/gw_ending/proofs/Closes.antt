@@ -97,11 +97,11 @@ lines_taken : (fifo : ℕ) (old new : List Site) (there : Place) → PortChanges
     lines_at new ≡ lines_at old
 lines_taken fifo old new there t =
     pairs-map (λ (site : Site). site.segment.events) (λ (site : Site). site.segment.events) old new (record {
-  at = λ i a b e f. (let w = site_was (SetsSlot fifo None) old new there t i b f in
-      let same : w.site ≡ a = same_some w.site a (sym w.site_is ∙ e) in
-      ap (λ (v : SegmentValue). v.events) w.segment_is ∙ ap (λ (site : Site). site.segment.events) same);
-  size = t.sites_size;
-})
+      at = λ i a b e f. (let w = site_was (SetsSlot fifo None) old new there t i b f in
+          let same : w.site ≡ a = same_some w.site a (sym w.site_is ∙ e) in
+          ap (λ (v : SegmentValue). v.events) w.segment_is ∙ ap (λ (site : Site). site.segment.events) same);
+      size = t.sites_size;
+    })
 
 -- a FIFO that was taken out leaves each segment
 pub segment_after : (fifo : ℕ) (old new : List Site) (there : Place) → PortChanges (SetsSlot fifo None) old new there →
@@ -125,8 +125,8 @@ closes_taken s fifo old new there route lane t c =
       tied = subst (λ (m : Closed). RouteTied (priority_of c.value) lane.number
           (grown no_bus_past (told_at to.1.site lane.target.port)) c.past (left_of lane.number m.left.items)) (sym to.2)
           (subst (λ (v : SegmentValue). RouteTied (priority_of c.value) lane.number
-                (grown no_bus_past (told_of (length v.plan.talkers.items + lane.target.port) v.events)) c.past
-                (left_of lane.number c.to.mail.left.items))
+          (grown no_bus_past (told_of (length v.plan.talkers.items + lane.target.port) v.events)) c.past
+          (left_of lane.number c.to.mail.left.items))
           (sym (segment_after fifo old new there t lane.target c.to to.0 c.to_is to.1)) c.tied);
     }
 
@@ -167,10 +167,12 @@ closes_start s sites lanes o = record {
   each_site = o.each_site;
   same = refl;
   lanes = λ k lane e. (let route = some_there s.routes k (let within = slice_get_within lanes k lane e in
-        omega (arith, within, o.each_lane.size)) in
-      let at : k ≡ 0 + k = omega arith in
-      (route.0, ap (slice_get s.routes) (sym at) ∙ route.1,
-          subst (λ n. IsDoneLane s sites n route.0 lane) at (o.each_lane.at k route.0 lane route.1 e)));
+      omega (arith, within, o.each_lane.size)) in
+      let at : k ≡ 0 + k = omega arith in (
+        route.0,
+        ap (slice_get s.routes) (sym at) ∙ route.1,
+        subst (λ n. IsDoneLane s sites n route.0 lane) at (o.each_lane.at k route.0 lane route.1 e),
+      ));
   size = omega (arith, o.each_lane.size);
   few = λ room h. h;
   done = λ room h. record { at = λ k route r e f. absurd (cc f); size = refl };
@@ -199,20 +201,22 @@ closes_step s first old new lane rest reports r sound b t ends =
           let at : length reports + suc k ≡ length (reports ++ r ∷ []) + k = omega (arith, one_more) in
           let less : length reports < length reports + suc k = omega arith in
           let apart = lanes_apart s (length reports) (length reports + suc k) here.0 there.0 lane later sound less
-              here.1 there.1 here.2.lane_is there.2.lane_is in
+          here.1 there.1 here.2.lane_is there.2.lane_is in
           let takes = takes_other lane.fifo None old new lane.source later t
-              (λ same fifos. apart (sym same) (sym fifos)) there.2.takes in
-          let closes = closes_taken s lane.fifo old new lane.source there.0 later t there.2.closes in
-          (there.0, ap (slice_get s.routes) (sym at) ∙ there.1,
-              subst (λ n. IsDoneLane s new n there.0 later) at
-              (record { lane_is = there.2.lane_is; log = there.2.log; takes = takes; closes = closes })));
+          (λ same fifos. apart (sym same) (sym fifos)) there.2.takes in
+          let closes = closes_taken s lane.fifo old new lane.source there.0 later t there.2.closes in (
+            there.0,
+            ap (slice_get s.routes) (sym at) ∙ there.1,
+            subst (λ n. IsDoneLane s new n there.0 later) at
+                (record { lane_is = there.2.lane_is; log = there.2.log; takes = takes; closes = closes }),
+          ));
       size = omega (arith, b.size, one_more);
       few = λ room h. few_taken room lane.fifo old new lane.source t (b.few room h);
       done = λ room h. subst (λ n. PairsBelow (λ k route. IsRouteRun room s (lines_at first) k route) s.routes
           (reports ++ r ∷ []) n) (sym one_more)
           (pairs_step (λ k route. IsRouteRun room s (lines_at first) k route) s.routes reports
-              (length reports) here.0 r here.1
+          (length reports) here.0 r here.1
           (subst (λ lines. IsRouteRun room s lines (length reports) here.0 r) b.same
-              (route_run room s old (length reports) here.0 lane r sound b.each_site here.1 here.2.lane_is here.2.closes
-                (b.few room h) ends)) (b.done room h));
+          (route_run room s old (length reports) here.0 lane r sound b.each_site here.1 here.2.lane_is here.2.closes
+          (b.few room h) ends)) (b.done room h));
     }

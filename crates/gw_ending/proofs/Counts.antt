@@ -61,8 +61,12 @@ pub same_length : (xs ys : List ℕ) → ((n : ℕ) → times n xs ≡ times n y
 same_length [] ys h = no_times ys h
 same_length (x ∷ xs) ys h =
     let there : 0 < times x ys = omega (arith, h x, times_self x) in
-    omega (arith, without_length x ys there, same_length xs (without x ys)
-        (λ n. omega (arith, h n, without_times x n ys there)))
+    omega (
+      arith,
+      without_length x ys there,
+      same_length xs (without x ys)
+          (λ n. omega (arith, h n, without_times x n ys there)),
+    )
 
 pub has_number : (xs : List Entry) (x : Entry) → Has xs x → Has (numbers xs) x.number
 has_number [] x h = absurd h
@@ -96,9 +100,10 @@ each_from_has P (x ∷ xs) h = (h x (inl refl), each_from_has P xs (λ y k. h y 
 
 pub rises_left : (xs ys : List ℕ) → Rises (xs ++ ys) → Rises xs
 rises_left [] ys r = tt
-rises_left (x ∷ xs) ys r =
-    (each_from_has (λ y. x < y) xs (λ y h. each_of (λ y. x < y) (xs ++ ys) y r.0 (has-left xs ys y h)),
-    rises_left xs ys r.1)
+rises_left (x ∷ xs) ys r = (
+  each_from_has (λ y. x < y) xs (λ y h. each_of (λ y. x < y) (xs ++ ys) y r.0 (has-left xs ys y h)),
+  rises_left xs ys r.1,
+)
 
 pub rises_across : (xs ys : List ℕ) (x y : ℕ) → Rises (xs ++ ys) → Has xs x → Has ys y → x < y
 rises_across [] ys x y r h k = absurd h

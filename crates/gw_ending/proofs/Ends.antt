@@ -38,7 +38,7 @@ stored_frames : (r : RouteReport) (intake : Intake) (h : HandValue) (waiting : L
     Parts r intake h waiting left → frames_of intake.rxin.stored ≡ r.released.items ++ frames_of left
 stored_frames r intake h waiting left p =
     ap frames_of p.stored_is ∙ map-append (λ (x : RxFrame). x.frame) h.out.released left
-        ∙ ap (λ fs. fs ++ frames_of left) (sym p.log ∙ sym p.released_is)
+    ∙ ap (λ fs. fs ++ frames_of left) (sym p.log ∙ sym p.released_is)
 
 links : (r : RouteReport) (intake : Intake) (h : HandValue) (waiting : List Entry) (left : List RxFrame) →
     Parts r intake h (numbers waiting) left →
@@ -81,8 +81,8 @@ ends_by r intake h waiting left p =
       linked = links r intake h waiting left p;
       reaped_too = λ txfp number did past tied matches completed. subst (Each (Has r.aborted.items)) tied.reaped_is
           (reaped_aborted txfp h.rewrites r (entries_of number did.started)
-              (links r intake h waiting left p (length waiting) txfp number did past
-                (omega arith) tied matches completed));
+          (links r intake h waiting left p (length waiting) txfp number did past
+          (omega arith) tied matches completed));
       released_is = p.released_is;
       aborted_is = p.aborted_is;
       left = left;

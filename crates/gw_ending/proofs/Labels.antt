@@ -102,7 +102,7 @@ talker-quiet plan trace bit k is less p =
           (quiet-off (sending_of k trace) p)
       | inr late ↦ (let act = acts.from_there_on late in
           subst (IsQuiet (sending_of k trace)) (sym (act_found bit.level bit.acts k (Some act.0) act.1))
-              (quiet-on (sending_of k trace) act.0 p act.3.no_label act.3.no_reaping))
+          (quiet-on (sending_of k trace) act.0 p act.3.no_label act.3.no_reaping))
     ]
 
 lines-each : (Q : Event → Type 0) (bit node : ℕ) (tells : List Told) →
@@ -116,7 +116,7 @@ lines_from-each : (Q : Event → Type 0) (tells : ℕ → List Told) (bit node c
 lines_from-each Q tells bit node zero all = tt
 lines_from-each Q tells bit node (suc more) all =
     each-append Q (lines bit node (tells node)) (lines_from tells bit (suc node) more)
-        (lines-each Q bit node (tells node) (λ one has. all node one (omega arith) has))
+    (lines-each Q bit node (tells node) (λ one has. all node one (omega arith) has))
     (lines_from-each Q tells bit (suc node) more (λ k one less has. all k one (omega (arith, less)) has))
 
 bit-fair : (plan : SegmentPlan) (trace : List Bit) (bit : Bit) → IsBit plan trace bit →
@@ -124,13 +124,17 @@ bit-fair : (plan : SegmentPlan) (trace : List Bit) (bit : Bit) → IsBit plan tr
     Each (IsFair plan) (events_at trace bit)
 bit-fair plan trace bit is quiet =
     each-append (IsFair plan) (lines_from (λ k. starts_of (act_of k bit)) (length trace) 0 (length bit.acts))
-        (lines_from (λ k. rest_of (sending_of k trace) (act_of k bit)) (length trace) 0 (length bit.acts))
+    (lines_from (λ k. rest_of (sending_of k trace) (act_of k bit)) (length trace) 0 (length bit.acts))
     (lines_from-each (IsFair plan) (λ k. starts_of (act_of k bit)) (length trace) 0 (length bit.acts)
-    (λ k one less has. record { node = omega (arith, less, is.each);
-          talker = λ talker. (quiet k talker).starts one has }))
+    (λ k one less has. record {
+      node = omega (arith, less, is.each);
+      talker = λ talker. (quiet k talker).starts one has;
+    }))
     (lines_from-each (IsFair plan) (λ k. rest_of (sending_of k trace) (act_of k bit)) (length trace) 0 (length bit.acts)
-    (λ k one less has. record { node = omega (arith, less, is.each);
-          talker = λ talker. (quiet k talker).rest one has }))
+    (λ k one less has. record {
+      node = omega (arith, less, is.each);
+      talker = λ talker. (quiet k talker).rest one has;
+    }))
 
 -- so are all lines of a run
 pub record FairRun (plan : SegmentPlan) (trace : List Bit) (events : List Event) : Type 0 where

@@ -107,8 +107,13 @@ front out (r ∷ rs) (y ∷ ys) a b c d =
     elim (bool_cases (out r.number)) [
       | inl o ↦ (let t : (rest : List Entry) × (filter (λ x. not (out x.number)) rs ≡ (y ∷ ys) ++ rest) =
           front out rs (y ∷ ys) a.1 b
-          (λ x h. (elim (c x h).0 [ inl e ↦ absurd (let w : out r.number ≡ false = subst P (sym e) (c x h).1 in cc)
-                  | inr k ↦ k ], (c x h).1))
+          (λ x h. (
+            elim (c x h).0 [
+              | inl e ↦ absurd (let w : out r.number ≡ false = subst P (sym e) (c x h).1 in cc)
+              | inr k ↦ k
+            ],
+            (c x h).1,
+          ))
           (λ x h q. d x (inr h) q) in
           (t.0, rw o t.1))
       | inr o ↦
@@ -156,8 +161,12 @@ none_of xs n out = elim (times_cases (times n xs)) [ inl e ↦ e | inr h ↦ abs
 -- the core law, with what was sent as the report tells it
 lawful : {room : ℕ} (txfp : Bool) (rewrites : List Rewrite) (r : RouteReport) (started : List Entry)
     (l : RouteLinked room txfp rewrites r started) →
-    IsRouteLawful txfp (record { requested = l.lists.requested; done = r.completed.items; aborted = l.lists.aborted;
-          reaped = l.lists.reaped }) l.waiting
+    IsRouteLawful txfp (record {
+      requested = l.lists.requested;
+      done = r.completed.items;
+      aborted = l.lists.aborted;
+      reaped = l.lists.reaped;
+    }) l.waiting
 lawful txfp rewrites r started l =
     subst
     (λ (d : List Entry). IsRouteLawful txfp
@@ -171,11 +180,11 @@ aborted_times : {room : ℕ} (txfp : Bool) (rewrites : List Rewrite) (r : RouteR
 aborted_times txfp rewrites r started l n =
     let ended : List ℕ = numbers r.completed.items ++ l.waiting in
     let law : times n (numbers l.lists.requested)
-        ≡ times n (numbers r.completed.items) + times n l.lists.aborted + times n l.lists.reaped + times n l.waiting =
-        (lawful txfp rewrites r started l).once n in
+    ≡ times n (numbers r.completed.items) + times n l.lists.aborted + times n l.lists.reaped + times n l.waiting =
+    (lawful txfp rewrites r started l).once n in
     let most : times n (numbers l.lists.requested) ≤ 1 = rises_once (numbers l.lists.requested) n l.law.rises in
     let both : times n ended ≡ times n (numbers r.completed.items) + times n l.waiting =
-        times-append n (numbers r.completed.items) l.waiting in
+    times-append n (numbers r.completed.items) l.waiting in
     rw l.aborted_is (elim (bool_cases (is_among ended n)) [
       | inl e ↦ (let a : times n (fold (settle ended) [] l.logged) ≡ 0 = settle_ended ended l.logged [] n e in
           let b : 0 < times n ended = among_times ended n e in omega arith)
@@ -184,17 +193,17 @@ aborted_times txfp rewrites r started l n =
             | inl nowhere ↦ (let a : times n (fold (settle ended) [] l.logged) ≡ 0 =
                 settle_none ended l.logged [] n (omega (arith, nowhere)) in
                 let b : times n l.lists.aborted ≡ 0 = none_of l.lists.aborted n
-                    (λ h. let p : 0 < times n l.logged = has_times l.logged n (l.ended n h) in omega arith) in
+                (λ h. let p : 0 < times n l.logged = has_times l.logged n (l.ended n h) in omega arith) in
                 let c : times n l.lists.reaped ≡ 0 = none_of l.lists.reaped n
-                    (λ h. let p : 0 < times n l.logged = has_times l.logged n (l.ask_logged n (l.reaped_asked n h)) in
-                    omega arith) in
+                (λ h. let p : 0 < times n l.logged = has_times l.logged n (l.ask_logged n (l.reaped_asked n h)) in
+                omega arith) in
                 omega arith)
             | inr there ↦ (let a : 0 < times n (fold (settle ended) [] l.logged) =
                 settle_some ended l.logged [] n e (omega (arith, there)) in
                 let b : times n (fold (settle ended) [] l.logged) ≤ 1 =
-                    settle_most ended l.logged [] n (λ m. omega arith) in
+                settle_most ended l.logged [] n (λ m. omega arith) in
                 let c : 0 < times n (numbers l.lists.requested) =
-                    has_times (numbers l.lists.requested) n (l.known n (times_has l.logged n there)) in
+                has_times (numbers l.lists.requested) n (l.known n (times_has l.logged n there)) in
                 omega arith)
           ])
     ])
@@ -210,8 +219,12 @@ sent_kept txfp rewrites r started l x h =
       elim (bool_cases (is_among r.aborted.items x.number)) [
         | inl e ↦ absurd (let a : 0 < times x.number r.aborted.items = among_times r.aborted.items x.number e in
             let b : 0 < times x.number (numbers ds) = has_times (numbers ds) x.number (has_number ds x h) in
-            omega (arith, aborted_times txfp rewrites r started l x.number, law.once x.number,
-                rises_once (numbers l.lists.requested) x.number law.rises))
+            omega (
+              arith,
+              aborted_times txfp rewrites r started l x.number,
+              law.once x.number,
+              rises_once (numbers l.lists.requested) x.number law.rises,
+            ))
         | inr e ↦ e
       ],
     )
@@ -222,10 +235,10 @@ pub aborted_released : {room : ℕ} (txfp : Bool) (rewrites : List Rewrite) (r :
 aborted_released txfp rewrites r started l =
     let P : List ℕ → Type 0 = λ ns. Each (Has (numbers (released rewrites r))) ns in
     subst P (sym l.aborted_is) (each_more (Has l.logged) (Has (numbers (released rewrites r)))
-        (settled (numbers r.completed.items ++ l.waiting) l.logged)
+    (settled (numbers r.completed.items ++ l.waiting) l.logged)
     (λ n has. subst (λ es. Has (numbers es) n) l.log
     (subst (λ ns. Has ns n) (sym (map-append (λ (e : Entry). e.number) l.lists.requested l.in_hand))
-        (has-left (numbers l.lists.requested) (numbers l.in_hand) n (l.known n has))))
+    (has-left (numbers l.lists.requested) (numbers l.in_hand) n (l.known n has))))
     (settled_logged (numbers r.completed.items ++ l.waiting) l.logged))
 
 -- what was reaped is among the aborted
@@ -242,22 +255,22 @@ in_order txfp rewrites r started by_requests l =
     let ds : List Entry = r.completed.items in
     let out : ℕ → Bool = is_among r.aborted.items in
     let t : (rest : List Entry) × (filter (λ x. not (out x.number)) l.lists.requested ≡ ds ++ rest) =
-        front out l.lists.requested ds law.rises (rises_left (numbers ds) l.waiting (law.ordered by_requests))
+    front out l.lists.requested ds law.rises (rises_left (numbers ds) l.waiting (law.ordered by_requests))
     (sent_kept txfp rewrites r started l)
     (λ x h o.
     let z : times x.number r.aborted.items ≡ 0 = not_among_times r.aborted.items x.number o in
     let one : 0 < times x.number (numbers l.lists.requested) =
-        has_times (numbers l.lists.requested) x.number (has_number l.lists.requested x h) in
+    has_times (numbers l.lists.requested) x.number (has_number l.lists.requested x h) in
     elim (times_cases (times x.number (numbers ds))) [
       | inl nowhere ↦ inr (λ y k. rises_across (numbers ds) l.waiting y.number x.number (law.ordered by_requests)
           (has_number ds y k)
           (times_has l.waiting x.number
-              (omega (arith, aborted_times txfp rewrites r started l x.number, law.once x.number))))
+          (omega (arith, aborted_times txfp rewrites r started l x.number, law.once x.number))))
       | inr there ↦ inl (let u : (y : Entry) × Has ds y × (y.number ≡ x.number) =
           number_has ds x.number (times_has (numbers ds) x.number there) in
           let P : Entry → Type 0 = λ v. Has ds v in
           subst P (same_number l.lists.requested u.0 x law.rises
-              (each_of (Has l.lists.requested) ds u.0 law.done_known u.1) h u.2) u.1)
+          (each_of (Has l.lists.requested) ds u.0 law.done_known u.1) h u.2) u.1)
     ]) in
     record {
       rest = t.0 ++ filter (λ x. not (out x.number)) l.in_hand;
@@ -290,7 +303,7 @@ each_once txfp rewrites r started l =
           (λ x h. let k = sent_kept txfp rewrites r started l x h in
           let P : List Entry → Type 0 = λ es. Has (filter keep es) x in
           subst P l.log (has-filter keep (l.lists.requested ++ l.in_hand) x (ap not k.1)
-              (has-left l.lists.requested l.in_hand x k.0)));
+          (has-left l.lists.requested l.in_hand x k.0)));
     }
 
 pub ordered_by : {room : ℕ} (txfp : Bool) (rewrites : List Rewrite) (r : RouteReport) (started : List Entry) →
@@ -303,7 +316,7 @@ pub not_refilled : {room : ℕ} (txfp : Bool) (rewrites : List Rewrite) (r : Rou
 not_refilled txfp rewrites r started l =
     let P : List Entry → Type 0 = λ v. Each (Has v) started in
     subst P l.log (each_from_has (Has (l.lists.requested ++ l.in_hand)) started
-        (λ x h. has-left l.lists.requested l.in_hand x (l.starts x h)))
+    (λ x h. has-left l.lists.requested l.in_hand x (l.starts x h)))
 
 pub balances : {room : ℕ} (txfp : Bool) (rewrites : List Rewrite) (r : RouteReport) (started : List Entry) →
     RouteLinked room txfp rewrites r started → Balances r
@@ -312,8 +325,13 @@ balances txfp rewrites r started l =
     let ds : List Entry = r.completed.items in
     let four : List ℕ = numbers ds ++ r.aborted.items ++ l.waiting in
     let size : length (numbers l.lists.requested) ≡ length four = same_length (numbers l.lists.requested) four (λ n.
-    omega (arith, law.once n, aborted_times txfp rewrites r started l n,
-        times-append n (numbers ds ++ r.aborted.items) l.waiting, times-append n (numbers ds) r.aborted.items)) in
+    omega (
+      arith,
+      law.once n,
+      aborted_times txfp rewrites r started l n,
+      times-append n (numbers ds ++ r.aborted.items) l.waiting,
+      times-append n (numbers ds) r.aborted.items,
+    )) in
     omega (
       arith,
       size,

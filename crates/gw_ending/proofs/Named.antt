@@ -56,16 +56,20 @@ own_entry : (xs : List Item) (x : Item) → Has xs x → Has (entries_of x.0 xs)
 own_entry [] x has = absurd has
 own_entry (y ∷ xs) x has = elim (eqb_tells y.0 x.0) [
   | inl own ↦ rw own.0 (elim has [ inl is ↦ inl (ap entry_on_bus is) | inr more ↦ inr (own_entry xs x more) ])
-  | inr other ↦ rw other.0 (elim has [ inl is ↦ absurd (other.1 (ap (λ (z : Item). z.0) is))
-        | inr more ↦ own_entry xs x more ])
+  | inr other ↦ rw other.0 (elim has [
+    | inl is ↦ absurd (other.1 (ap (λ (z : Item). z.0) is))
+    | inr more ↦ own_entry xs x more
+  ])
 ]
 
 own_number : (xs : List (ℕ × ℕ)) (x : ℕ × ℕ) → Has xs x → Has (numbers_of x.0 xs) x.1
 own_number [] x has = absurd has
 own_number (y ∷ xs) x has = elim (eqb_tells y.0 x.0) [
   | inl own ↦ rw own.0 (elim has [ inl is ↦ inl (ap (λ (z : ℕ × ℕ). z.1) is) | inr more ↦ inr (own_number xs x more) ])
-  | inr other ↦ rw other.0 (elim has [ inl is ↦ absurd (other.1 (ap (λ (z : ℕ × ℕ). z.0) is))
-        | inr more ↦ own_number xs x more ])
+  | inr other ↦ rw other.0 (elim has [
+    | inl is ↦ absurd (other.1 (ap (λ (z : ℕ × ℕ). z.0) is))
+    | inr more ↦ own_number xs x more
+  ])
 ]
 
 -- what is told of a request is told of its route
@@ -79,20 +83,20 @@ never_told tells left (Started frame (Some own)) label n is has =
     let same : own ≡ label = cc is in
     let item : Item = (label.route, label.number, frame) in
     let started = named_by start_in tells (Started frame (Some own)) item has
-        (subst (λ l. Has (start_in (Started frame (Some l))) item) (sym same) (inl refl)) in
+    (subst (λ l. Has (start_in (Started frame (Some l))) item) (sym same) (inl refl)) in
     entry_told (all_in start_in tells) item started n.none_started
 never_told tells left (Completed start frame None) label n is has = absurd (cc is)
 never_told tells left (Completed start frame (Some own)) label n is has =
     let same : own ≡ label = cc is in
     let item : Item = (label.route, label.number, frame) in
     let sent = named_by sent_in tells (Completed start frame (Some own)) item has
-        (subst (λ l. Has (sent_in (Completed start frame (Some l))) item) (sym same) (inl refl)) in
+    (subst (λ l. Has (sent_in (Completed start frame (Some l))) item) (sym same) (inl refl)) in
     entry_told (all_in sent_in tells) item sent n.none_done
 never_told tells left (Reaped own) label n is has =
     let same : own ≡ label = cc is in
     let pair : ℕ × ℕ = (label.route, label.number) in
     let reaped = named_by reaped_in tells (Reaped own) pair has
-        (subst (λ l. Has (reaped_in (Reaped l)) pair) (sym same) (inl refl)) in
+    (subst (λ l. Has (reaped_in (Reaped l)) pair) (sym same) (inl refl)) in
     absurd (subst (λ ns. Has ns label.number) n.none_reaped (own_number (all_in reaped_in tells) pair reaped))
 never_told tells left (Took start frame) label n is has = absurd (cc is)
 never_told tells left (Lost start) label n is has = absurd (cc is)
@@ -104,10 +108,14 @@ never_told tells left Back label n is has = absurd (cc is)
 told_there : (events : List Event) (event : Event) → Has events event → Has (told_of event.node events) event.told
 told_there [] event has = absurd has
 told_there (e ∷ events) event has = elim (eqb_tells e.node event.node) [
-  | inl own ↦ rw own.0 (elim has [ inl is ↦ inl (ap (λ (x : Event). x.told) is)
-        | inr more ↦ inr (told_there events event more) ])
-  | inr other ↦ rw other.0 (elim has [ inl is ↦ absurd (other.1 (ap (λ (x : Event). x.node) is))
-        | inr more ↦ told_there events event more ])
+  | inl own ↦ rw own.0 (elim has [
+    | inl is ↦ inl (ap (λ (x : Event). x.told) is)
+    | inr more ↦ inr (told_there events event more)
+  ])
+  | inr other ↦ rw other.0 (elim has [
+    | inl is ↦ absurd (other.1 (ap (λ (x : Event). x.node) is))
+    | inr more ↦ told_there events event more
+  ])
 ]
 
 names_count : (s : ScriptValue) (i : ℕ) (site : Site) → IsDoneSite s i site →
@@ -138,8 +146,14 @@ few_nodes s sites controller place port sound done is at =
     let made = pair_at (λ i segment. IsDoneSite s i) s.segments sites place.site at.site done at.site_is in
     let within = slice_get_within (controller_places s place.site) place.port controller is in
     let few = sound.few_nodes place.site (segment_there s controller place sound is) in
-    omega (arith, few, within, names_count s place.site at.site made.2, ports_count s place.site at.site made.2,
-        made.2.plan_is.talkers.size)
+    omega (
+      arith,
+      few,
+      within,
+      names_count s place.site at.site made.2,
+      ports_count s place.site at.site made.2,
+      made.2.plan_is.talkers.size,
+    )
 
 -- a request of a controller's node is one of a route into it
 request_named : (s : ScriptValue) (i p : ℕ) (site : Site) (record_of : Record) (event : Event) (label : Label) →
@@ -149,15 +163,15 @@ request_named : (s : ScriptValue) (i p : ℕ) (site : Site) (record_of : Record)
 request_named s i p site record_of event label d r has node within is =
     let controller = some_there (controller_places s i) p (omega (arith, within, ports_count s i site d)) in
     let port = pair_of (λ k controller. IsDonePort s controller (told_at site k) (length site.segment.levels))
-        (controller_places s i) site.ports.items p controller.0 d.ports controller.1 in
+    (controller_places s i) site.ports.items p controller.0 d.ports controller.1 in
     let told : Has (told_of (length site.segment.plan.talkers.items + p) site.segment.events) event.told =
     subst (λ n. Has (told_of n site.segment.events) event.told) node
-        (subst (λ es. Has (told_of event.node es) event.told) r.value.events_is
-        (told_there record_of.events.items event has)) in
+    (subst (λ es. Has (told_of event.node es) event.told) r.value.events_is
+    (told_there record_of.events.items event has)) in
     let at : controller_at s i event.node ≡ Some controller.0 = ap (controller_at s i)
-        (node ∙ ap (λ n. n + p) d.plan_is.talkers.size) ∙ controller_node s i p controller.0 controller.1 in
+    (node ∙ ap (λ n. n + p) d.plan_is.talkers.size) ∙ controller_node s i p controller.0 controller.1 in
     let below : label.route < length (route_places s controller.0) =
-        elim (cases_lt label.route (length (route_places s controller.0))) [
+    elim (cases_lt label.route (length (route_places s controller.0))) [
       | inl less ↦ less
       | inr beyond ↦ absurd (never_told (told_at site p) port.0.mail.left.items event.told label
           (port.2.unasked label.route beyond) is told)
@@ -185,7 +199,7 @@ nodes_named s i site record_of d r = record {
   events = each_from (NamesEvent s i) record_of.events.items
       (λ event has. event_named s i site record_of event d r has
       (each_of (IsFair site.segment.plan) record_of.events.items event
-        (fair_run site.segment.plan r.run.run).lines has));
+      (fair_run site.segment.plan r.run.run).lines has));
   counters = omega (
     arith,
     r.run.size,

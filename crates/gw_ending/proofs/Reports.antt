@@ -37,7 +37,7 @@ never_again s i site record_of d r k within =
     let controller = some_there (controller_places s i) k (omega (arith, within, places)) in
     let port = some_there site.ports.items k (omega (arith, within, places, d.ports.size)) in
     subst (λ es. StartsUndone no_bus_past (told_of (length site.segment.plan.talkers.items + k) es))
-        (sym r.value.events_is) (d.ports.at k controller.0 port.0 controller.1 port.1).once
+    (sym r.value.events_is) (d.ports.at k controller.0 port.0 controller.1 port.1).once
 
 segment_run : (s : ScriptValue) (i : ℕ) (site : Site) (record_of : Record) → IsDoneSite s i site →
     IsRecordAt site record_of → IsSegmentRun s i record_of
@@ -50,7 +50,7 @@ segment_run s i site record_of d r = record {
   once = never_again s i site record_of d r;
   requests = λ trace run k within.
       (r.copies trace run).controllers (length site.segment.plan.talkers.items + k)
-          (never_again s i site record_of d r k within);
+      (never_again s i site record_of d r k within);
 }
 
 pub runs_segments : (s : ScriptValue) (sites : List Site) (records : List Record) → AreDoneSites s sites →
@@ -66,7 +66,7 @@ pub lines_told : (sites : List Site) (records : List Record) → Pairs (λ i. Is
     map (λ (record_of : Record). record_of.events.items) records ≡ lines_at sites
 lines_told sites records p =
     pairs-map (λ (site : Site). site.segment.events) (λ (record_of : Record). record_of.events.items) sites records
-        (record { at = λ i site record_of e f. (p.at i site record_of e f).value.events_is; size = p.size })
+    (record { at = λ i site record_of e f. (p.at i site record_of e f).value.events_is; size = p.size })
 
 -- what holds of the element at each place holds of each
 pub each_there : {X : Type 0} (P : X → Type 0) (xs : List X) → ((k : ℕ) (x : X) → slice_get xs k ≡ Some x → P x) →
@@ -85,7 +85,7 @@ pub all_balance : (room : ℕ) (s : ScriptValue) (report : Report) → RunsRoute
     Each Balances report.routes.items
 all_balance room s report p = each_there Balances report.routes.items
     (λ k r e. (pair_at (λ place route. IsRouteRun room s (lines_of report) place route) s.routes report.routes.items k r
-      p e).2.claims.sum)
+    p e).2.claims.sum)
 
 -- a node that is a controller is behind the talkers
 node_place : (talkers node controller : ℕ) (places : List ℕ) (b : Bool) → nat_lt node talkers ≡ b →
@@ -102,7 +102,7 @@ one_node s segment a b controller e f =
     let p = node_place talkers a controller (controller_places s segment) (nat_lt a talkers) refl e in
     let q = node_place talkers b controller (controller_places s segment) (nat_lt b talkers) refl f in
     let same = place-once (λ (c : ControllerValue). c.segment == segment) 0 s.controllers controller (a - talkers)
-        (b - talkers) p.1 q.1 in
+    (b - talkers) p.1 q.1 in
     omega (arith, same, p.0, q.0)
 
 -- the lines tell one thing of a controller
@@ -112,9 +112,9 @@ told_once s lines controller a b p q =
     let value : p.value ≡ q.value = same_some p.value q.value (sym p.value_is ∙ q.value_is) in
     let segment : p.value.segment ≡ q.value.segment = ap (λ (c : ControllerValue). c.segment) value in
     let node : p.node ≡ q.node = one_node s q.value.segment p.node q.node controller
-        (ap (λ n. controller_at s n p.node) (sym segment) ∙ p.node_is) q.node_is in
+    (ap (λ n. controller_at s n p.node) (sym segment) ∙ p.node_is) q.node_is in
     let events : p.events ≡ q.events =
-        same_some p.events q.events (sym p.events_is ∙ ap (slice_get lines) segment ∙ q.events_is) in
+    same_some p.events q.events (sym p.events_is ∙ ap (slice_get lines) segment ∙ q.events_is) in
     p.tells_is ∙ ap (λ n. told_of n p.events) node ∙ ap (told_of q.node) events ∙ sym q.tells_is
 
 -- and a route has one number at its target
@@ -127,14 +127,14 @@ pub none_refilled : (room : ℕ) (s : ScriptValue) (report : Report) (place : �
     (is : AreStartsOf s (lines_of report) place started) → NotRefilled is.route.rewrites r started
 none_refilled room s report place r started p e starts =
     let run =
-        pair_at (λ k route. IsRouteRun room s (lines_of report) k route) s.routes report.routes.items place r p e in
+    pair_at (λ k route. IsRouteRun room s (lines_of report) k route) s.routes report.routes.items place r p e in
     let route : starts.route ≡ run.0 = same_some starts.route run.0 (sym starts.route_is ∙ run.1) in
     let target : starts.route.target ≡ run.0.target = ap (λ (q : RouteValue). q.target) route in
     let told : starts.to ≡ run.2.to = told_once s (lines_of report) run.0.target starts.to run.2.to
-        (subst (λ c. AreToldOf s (lines_of report) c starts.to) target starts.to_is) run.2.to_is in
+    (subst (λ c. AreToldOf s (lines_of report) c starts.to) target starts.to_is) run.2.to_is in
     let number : starts.number ≡ run.2.number = one_number s run.0.target starts.number run.2.number place
-        (ap (λ c. route_at s c starts.number) (sym target) ∙ starts.number_is) run.2.number_is in
+    (ap (λ c. route_at s c starts.number) (sym target) ∙ starts.number_is) run.2.number_is in
     subst (λ (q : RouteValue). NotRefilled q.rewrites r started) (sym route)
-        (subst (NotRefilled run.0.rewrites r)
-        (sym (starts.started_is ∙ ap (λ n. entries_of n (all_in start_in starts.to)) number
-            ∙ ap (λ tells. entries_of run.2.number (all_in start_in tells)) told)) run.2.claims.no_refill)
+    (subst (NotRefilled run.0.rewrites r)
+    (sym (starts.started_is ∙ ap (λ n. entries_of n (all_in start_in starts.to)) number
+    ∙ ap (λ tells. entries_of run.2.number (all_in start_in tells)) told)) run.2.claims.no_refill)

@@ -114,11 +114,11 @@ slot_stands : (port : Port) (taken : List FrameValue) (fifo : ℕ) (intake : Int
 slot_stands port taken fifo intake few both is = elim (eqb_tells fifo 0) [
   | inl zero ↦ (let first : port.first ≡ Some intake = ap (λ b. cond b port.first port.second) (sym zero.0) ∙ is in
       subst (λ n. FifoStands port.banks n intake taken) (sym zero.1)
-          (subst (λ o. SlotStands port.banks 0 o taken) first both.first))
+      (subst (λ o. SlotStands port.banks 0 o taken) first both.first))
   | inr more ↦ (let second : port.second ≡ Some intake = ap (λ b. cond b port.first port.second) (sym more.0) ∙ is in
       let one : 1 ≡ fifo = omega (arith, few, more.1) in
       subst (λ n. FifoStands port.banks n intake taken) one
-          (subst (λ o. SlotStands port.banks 1 o taken) second both.second))
+      (subst (λ o. SlotStands port.banks 1 o taken) second both.second))
 ]
 
 pub offered_at : (s : ScriptValue) (sites : List Site) (controller fifo : ℕ) (place : Place) (port : Port)
@@ -128,7 +128,7 @@ pub offered_at : (s : ScriptValue) (sites : List Site) (controller fifo : ℕ) (
     (all_in taken_in (told_of (length d.site.segment.plan.talkers.items + place.port) d.site.segment.events))
 offered_at s sites controller fifo place port intake sound small d is =
     slot_stands port _ fifo intake small
-        (d.port_done.taken (omega (arith, d.port_done.few, d.done.made, sound.few_bits))) is
+    (d.port_done.taken (omega (arith, d.port_done.few, d.done.made, sound.few_bits))) is
 
 small_fifo : (s : ScriptValue) (k : ℕ) (route : RouteValue) (lane : Lane) → IsSound s →
     slice_get s.routes k ≡ Some route → IsLaneOf s k route lane → lane.fifo ≤ 1
@@ -139,7 +139,7 @@ pub was_offered : (s : ScriptValue) (sites : List Site) (k : ℕ) (route : Route
     AreDoneSites s sites → slice_get s.routes k ≡ Some route → IsLaneOf s k route lane → WasOffered sites lane
 was_offered s sites k route lane sound done e l = λ port intake at is.
     let stands = offered_at s sites route.source lane.fifo lane.source port intake sound
-        (small_fifo s k route lane sound e l) (done_at s sites route.source lane.source port done l.source_is at) is in
+    (small_fifo s k route lane sound e l) (done_at s sites route.source lane.source port done l.source_is at) is in
     (stands.offered, stands.stands)
 
 -- the talkers of the script stand in front of the controllers
@@ -152,7 +152,7 @@ has_talkers s sites place done site e =
 from_plan : (planned : List RouteAbort) (h : HandValue) → FromPlan planned h → IsSublist h.aborted (numbers_in planned)
 from_plan planned h p = subst (λ aborts. IsSublist h.aborted (numbers_in aborts)) (sym p.all)
     (subst (IsSublist h.aborted) (sym (map-append (λ (a : RouteAbort). a.number) p.done h.aborts))
-        (sublist_left h.aborted (numbers_in p.done) (numbers_in h.aborts) p.logged))
+    (sublist_left h.aborted (numbers_in p.done) (numbers_in h.aborts) p.logged))
 
 pub route_run : (room : ℕ) (s : ScriptValue) (sites : List Site) (k : ℕ) (route : RouteValue) (lane : Lane)
     (r : RouteReport) → IsSound s → AreDoneSites s sites → slice_get s.routes k ≡ Some route → IsLaneOf s k route lane →
@@ -162,23 +162,23 @@ route_run room s sites k route lane r sound done e l closes few ends =
     let from = done_at s sites route.source lane.source ends.from done l.source_is ends.from_is in
     let to = done_at s sites route.target lane.target closes.to done l.target_is closes.to_is in
     let stands = offered_at s sites route.source lane.fifo lane.source ends.from ends.takes.intake sound
-        (small_fifo s k route lane sound e l) from ends.takes.slot_is in
+    (small_fifo s k route lane sound e l) from ends.takes.slot_is in
     let waiting = left_of lane.number closes.to.mail.left.items in
     let ended = numbers r.completed.items ++ numbers waiting in
     let logged = (hand_value lane.hand).aborted in
     let tells = told_at closes.to_is.site lane.target.port in
     let value : closes.value ≡ to.port_done.value =
-        same_some closes.value to.port_done.value (sym closes.value_is ∙ to.port_done.value_is) in
+    same_some closes.value to.port_done.value (sym closes.value_is ∙ to.port_done.value_is) in
     let end = ends.end_is closes.to closes.to_is in
     let completed = ends.completed_is closes.to closes.to_is in
     let room_left : length waiting ≤ room = (let all = few lane.target closes.to closes.to_is in
-        omega (arith, all, left-length lane.number closes.to.mail.left.items)) in
+    omega (arith, all, left-length lane.number closes.to.mail.left.items)) in
     let links : RouteLinked room (priority_of to.port_done.value) lane.hand.rewrites.items r
-        (entries_of lane.number (all_in start_in tells)) =
+    (entries_of lane.number (all_in start_in tells)) =
     subst (λ v. RouteLinked room (priority_of v) lane.hand.rewrites.items r
-        (entries_of lane.number (all_in start_in tells))) value
+    (entries_of lane.number (all_in start_in tells))) value
     (end.linked room (priority_of closes.value) lane.number (grown no_bus_past tells) closes.past room_left closes.tied
-        closes.matches completed) in
+    closes.matches completed) in
     record {
       from = told_at from.site lane.source.port;
       from_is = told s sites route.source lane.source ends.from l.source_is from;
@@ -190,20 +190,20 @@ route_run room s sites k route lane r sound done e l closes few ends =
       offers = subst (λ banks. GoTo banks route.fifo (all_in taken_in (told_at from.site lane.source.port))
           stands.offered) from.port_done.banks_is
           (subst (λ n. GoTo ends.from.banks n (all_in taken_in (told_at from.site lane.source.port)) stands.offered)
-              l.fifo_is stands.goes);
+          l.fifo_is stands.goes);
       fifo = end.fifo stands.offered stands.stands;
       completed_is = completed;
       claims = subst (λ rewrites. Headline room (priority_of to.port_done.value) rewrites r
           (entries_of lane.number (all_in start_in tells))) l.rewrites_is
           (linked (priority_of to.port_done.value) lane.hand.rewrites.items r
-              (entries_of lane.number (all_in start_in tells)) links);
+          (entries_of lane.number (all_in start_in tells)) links);
       apart = subst (AllPairs (λ number later. number ≢ later)) (sym end.aborted_is) (settled_apart ended logged);
       named = subst (λ ns. IsSublist ns (aborted_in s k)) (sym end.aborted_is)
           (sublist_on (settled ended logged) logged (aborted_in s k) (settled_sublist ended logged)
-              (from_plan (aborts_of s k) (hand_value lane.hand) l.plan));
+          (from_plan (aborts_of s k) (hand_value lane.hand) l.plan));
       released_too = subst (λ rewrites. Each (Has (numbers (released rewrites r))) r.aborted.items) l.rewrites_is
           (aborted_released (priority_of to.port_done.value) lane.hand.rewrites.items r
-              (entries_of lane.number (all_in start_in tells)) links);
+          (entries_of lane.number (all_in start_in tells)) links);
       reaped_too = end.reaped_too (priority_of closes.value) lane.number
           (grown no_bus_past tells) closes.past closes.tied closes.matches completed;
     }

@@ -17,7 +17,7 @@ settled_from ended so_far front [] h = sublist_left so_far front [] h
 settled_from ended so_far front (n ∷ logged) h =
     subst (IsSublist (fold (settle ended) (settle ended so_far n) logged)) (append_assoc front (n ∷ []) logged)
     (settled_from ended (settle ended so_far n) (front ++ n ∷ []) logged
-        (settle_sublist (is_among ended n) (is_among so_far n) so_far front n h))
+    (settle_sublist (is_among ended n) (is_among so_far n) so_far front n h))
 
 -- what counts as aborted is of the log, in its order
 pub settled_sublist : (ended logged : List ℕ) → IsSublist (settled ended logged) logged

@@ -60,7 +60,7 @@ pub left_grows : (route : ℕ) (left : List Left) (i : ℕ) (d : Left) → i < l
     ++ numbers (left_of route (get_or left i d ∷ []))
 left_grows route left i d lt =
     ap (λ es. numbers (left_of route es)) (take_one left i d lt)
-        ∙ ap numbers (left-append route (take i left) (get_or left i d ∷ []))
+    ∙ ap numbers (left-append route (take i left) (get_or left i d ∷ []))
     ∙ map-append (λ (e : Entry). e.number) (left_of route (take i left)) (left_of route (get_or left i d ∷ []))
 
 -- no more is left of a route than of all

@@ -68,4 +68,4 @@ pub each_refused : {A : Type 0} (read : List A → Json → Result A Fault) (old
 each_refused read old front all vs i v e lt is front_is so_far =
     fault-weaker e (λ f. read front (view v) ≡ Err f) (λ f. all ≡ Err f)
     (λ f refused. sym so_far ∙ each-stops read old f vs i v lt is (ap (λ xs. read xs (view v)) (sym front_is)
-          ∙ refused))
+    ∙ refused))

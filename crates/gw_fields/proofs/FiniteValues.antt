@@ -83,7 +83,7 @@ module _ (p : Parse Json) where
   pub member_read : (n : ℕ) (k : List ℕ) (ts s r : List Token) (j : Json) → 0 < n → read_key ts ≡ Some (Some k, s) →
       tested is_finite (p s) ≡ Some (j, r)
       → tested are_finite_members (members p n ts) ≡ parse_map (member k j)
-          (tested are_finite_members (members p (n - 1) r))
+      (tested are_finite_members (members p (n - 1) r))
   member_read n k ts s r j some key e =
       let h = tested_some is_finite (p s) j r e in
       ap (tested are_finite_members) (members_more p n k ts s r j some key h.0) ∙ with_member k j h.1 _

@@ -9,7 +9,7 @@ pub rest-step : {A B : Type 0} (f : A → B) (xs : List A) (i : ℕ) (x : A) →
     map f (drop i xs) ≡ f x ∷ map f (drop (i + 1) xs)
 rest-step f xs i x lt is =
     ap (map f) (drop-cons xs i x lt) ∙ ap (λ y. f y ∷ map f (drop (suc i) xs)) (sym is)
-        ∙ ap (λ n. f x ∷ map f (drop n xs)) (sym (add-one i))
+    ∙ ap (λ n. f x ∷ map f (drop n xs)) (sym (add-one i))
 
 -- the search stops here
 pub position_here : {A B : Type 0} (test : B → Bool) (f : A → B) (xs : List A) (i : ℕ) (x : A) → i < length xs →
@@ -17,7 +17,7 @@ pub position_here : {A B : Type 0} (test : B → Bool) (f : A → B) (xs : List 
     position_from test i (map f (drop i xs)) ≡ Some i
 position_here test f xs i x lt is yes_here =
     ap (position_from test i) (rest-step f xs i x lt is)
-        ∙ ap (λ b. cond b (Some i) (position_from test (i + 1) (map f (drop (i + 1) xs)))) yes_here
+    ∙ ap (λ b. cond b (Some i) (position_from test (i + 1) (map f (drop (i + 1) xs)))) yes_here
 
 -- it goes on
 pub position_later : {A B : Type 0} (test : B → Bool) (f : A → B) (xs : List A) (i : ℕ) (x : A) → i < length xs →
@@ -25,7 +25,7 @@ pub position_later : {A B : Type 0} (test : B → Bool) (f : A → B) (xs : List
     position_from test i (map f (drop i xs)) ≡ position_from test (i + 1) (map f (drop (i + 1) xs))
 position_later test f xs i x lt is not_here =
     ap (position_from test i) (rest-step f xs i x lt is)
-        ∙ ap (λ b. cond b (Some i) (position_from test (i + 1) (map f (drop (i + 1) xs)))) not_here
+    ∙ ap (λ b. cond b (Some i) (position_from test (i + 1) (map f (drop (i + 1) xs)))) not_here
 
 -- there is nothing left
 pub position_nowhere : {A B : Type 0} (test : B → Bool) (f : A → B) (xs : List A) (i : ℕ) → length xs ≤ i →

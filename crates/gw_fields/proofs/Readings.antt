@@ -50,7 +50,7 @@ pub new_name_ok : (list_name : List ℕ) (taken : List (List ℕ)) (from : Json)
 unfolding new_name
 new_name_ok list_name taken from name e =
     let h = bind_ok (formed_name from) (λ (read : List ℕ). if is_among read taken then Err
-        (double_name list_name) else Ok read) name e in
+    (double_name list_name) else Ok read) name e in
     let t = failed_ok (is_among h.0 taken) h.0 name (double_name list_name) h.2 in
     ap (λ (one : List ℕ). is_among one taken) (sym t.1) ∙ t.0
 
@@ -64,7 +64,7 @@ count_ok read front all (item d ds) e =
     let h = bind_ok (read front d) (λ x. each_after read (front ++ x ∷ []) ds) all e in
     count_ok read (front ++ h.0 ∷ []) all ds h.2
     ∙ (let same : length (front ++ h.0 ∷ []) + items_count ds ≡ length front + items_count (item d ds) =
-        omega (arith, length-append front (h.0 ∷ [])) in same)
+    omega (arith, length-append front (h.0 ∷ [])) in same)
 
 pub list_ok : (name : List ℕ) (most : ℕ) (from : Json) (items : Items) → list name most from ≡ Ok items →
     items_count items ≤ most
@@ -72,7 +72,7 @@ unfolding list list_of
 list_ok name most from items e =
     let h = bind_ok (field name from) (list_of name most) items e in
     let i = bind_ok (or_fault (wrong_kind name) (as_array h.0))
-        (λ (found : Items). if nat_le (items_count found) most then Ok found else Err (too_many name)) items h.2 in
+    (λ (found : Items). if nat_le (items_count found) most then Ok found else Err (too_many name)) items h.2 in
     let t = passed_ok (nat_le (items_count i.0) most) i.0 items (too_many name) i.2 in
     let few : items_count i.0 ≤ most = leb-true (items_count i.0) most t.0 in
     let P : Items → Type 0 = λ found. items_count found ≤ most in

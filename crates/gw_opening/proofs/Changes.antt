@@ -34,20 +34,29 @@ module _ {B : Type 0} where
         (sym at.site_is ∙ ap (slice_get old) same.1 ∙ t.site_is) in
         let site_late : slice_get new place.site ≡ Some t.late_site = ap (slice_get new) same.1 ∙ t.late_site_is in
         elim (eqb_tells place.port there.port) [
-          | inl here ↦ changed_to (record { site = t.late_site; site_is = site_late;
-                port_is = ap (slice_get t.late_site.ports.items) here.1 ∙ t.late_is })
+          | inl here ↦ changed_to (record {
+            site = t.late_site;
+            site_is = site_late;
+            port_is = ap (slice_get t.late_site.ports.items) here.1 ∙ t.late_is;
+          })
               (ap (λ s. record { site = s; port = place.port }) same.1
-                  ∙ ap (λ q. record { site = there.site; port = q }) here.1)
+              ∙ ap (λ q. record { site = there.site; port = q }) here.1)
               (same_some port t.port (sym at.port_is
-                    ∙ ap (λ (s : Site (Port B)). slice_get s.ports.items place.port) site_same
-                    ∙ ap (slice_get t.site.ports.items) here.1 ∙ t.port_is))
-          | inr beside ↦ same_port (record { site = t.late_site; site_is = site_late;
-                port_is = t.other_ports place.port beside.1
-                ∙ ap (λ (s : Site (Port B)). slice_get s.ports.items place.port) (sym site_same) ∙ at.port_is })
+              ∙ ap (λ (s : Site (Port B)). slice_get s.ports.items place.port) site_same
+              ∙ ap (slice_get t.site.ports.items) here.1 ∙ t.port_is))
+          | inr beside ↦ same_port (record {
+            site = t.late_site;
+            site_is = site_late;
+            port_is = t.other_ports place.port beside.1
+                ∙ ap (λ (s : Site (Port B)). slice_get s.ports.items place.port) (sym site_same) ∙ at.port_is;
+          })
               (λ e. beside.1 (ap (λ (q : Place). q.port) e))
         ])
-    | inr other ↦ same_port (record { site = at.site; site_is = t.other_sites place.site other.1 ∙ at.site_is;
-          port_is = at.port_is }) (λ e. other.1 (ap (λ (q : Place). q.site) e))
+    | inr other ↦ same_port (record {
+      site = at.site;
+      site_is = t.other_sites place.site other.1 ∙ at.site_is;
+      port_is = at.port_is;
+    }) (λ e. other.1 (ap (λ (q : Place). q.site) e))
   ]
 
 -- what a port was before
@@ -81,10 +90,10 @@ module _ {B : Type 0} where
     size = t.ports_size;
     ports = λ k port f. elim (place_cases t.site.ports.items t.late_site.ports.items there.port t.port t.late t.port_is
         t.late_is t.other_ports k port f) [
-      | inl here ↦ changed_port t.port (ap (slice_get t.site.ports.items) here.0 ∙ t.port_is)
-          (subst (Change t.port) (sym here.1) t.changes) (ap (λ j. record { site = there.site; port = j }) here.0)
-      | inr beside ↦ same_port beside.1
-    ];
+          | inl here ↦ changed_port t.port (ap (slice_get t.site.ports.items) here.0 ∙ t.port_is)
+              (subst (Change t.port) (sym here.1) t.changes) (ap (λ j. record { site = there.site; port = j }) here.0)
+          | inr beside ↦ same_port beside.1
+        ];
   }
 
   pub site_was : (Change : Port B → Port B → Type 0) (old new : List (Site (Port B))) (there : Place)
@@ -92,10 +101,10 @@ module _ {B : Type 0} where
       SiteWas Change old there i late
   site_was Change old new there t i late e =
       elim (place_cases old new there.site t.site t.late_site t.site_is t.late_site_is t.other_sites i late e) [
-    | inl here ↦ subst (λ s. SiteWas Change old there i s) (sym here.1)
-        (subst (λ n. SiteWas Change old there n t.late_site) (sym here.0) (changed_site Change old new there t))
-    | inr beside ↦ same_site Change old there i late beside.1
-  ]
+        | inl here ↦ subst (λ s. SiteWas Change old there i s) (sym here.1)
+            (subst (λ n. SiteWas Change old there n t.late_site) (sym here.0) (changed_site Change old new there t))
+        | inr beside ↦ same_site Change old there i late beside.1
+      ]
 
   -- a FIFO that was put somewhere or taken leaves all mailboxes
   pub mail_after : (fifo : ℕ) (slot : Option Intake) (old new : List (Site (Port B))) (there : Place) →

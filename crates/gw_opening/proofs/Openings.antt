@@ -48,10 +48,10 @@ module _ {B : Type 0} where
       AreNewSites s sites → IsPlaceOf s controller place → NewPortAt s sites controller place
   place_there s sites controller place sound new is =
       let site = some_there sites place.site (let within = segment_there s controller place sound is in
-          omega (arith, within, new.size)) in
+      omega (arith, within, new.size)) in
       let made = pair_at (λ i segment. IsNewSite s i) s.segments sites place.site site.0 new site.1 in
       let port = pair_of (λ k. IsNewPort s) (controller_places s place.site) site.0.ports.items place.port controller
-          made.2.ports is in
+      made.2.ports is in
       record { port = port.0; at = record { site = site.0; site_is = site.1; port_is = port.1 }; is_new = port.2 }
 
 -- an empty FIFO in a slot
@@ -77,8 +77,10 @@ module _ {B : Type 0} where
   new_site_set s fifo slot old there i site empty w n = record {
     plan_is = subst (λ (v : SegmentValue). IsPlanOf s i v.plan) (sym w.segment_is) n.plan_is;
     opens = subst (λ (v : SegmentValue). IsOpening v.plan v) (sym w.segment_is) n.opens;
-    ports = record { at = λ k controller port e f. by_port k controller port e (w.ports k port f);
-        size = w.size ∙ n.ports.size };
+    ports = record {
+      at = λ k controller port e f. by_port k controller port e (w.ports k port f);
+      size = w.size ∙ n.ports.size;
+    };
   }
     where
       by_port : (k controller : ℕ) (port : Port B) → slice_get (controller_places s i) k ≡ Some controller →
@@ -120,8 +122,11 @@ module _ {B : Type 0} where
 
   takes_set : (fifo : ℕ) (slot : Option Intake) (lane : Lane) (old new : Port B) → (lane.fifo == 0) ≢ (fifo == 0) →
       SetsSlot fifo slot old new → TakesFrom lane old → TakesFrom lane new
-  takes_set fifo slot lane old new ne set t = record { intake = t.intake;
-      slot_is = slot_other fifo lane.fifo slot old new ne set ∙ t.slot_is; queue_is = t.queue_is }
+  takes_set fifo slot lane old new ne set t = record {
+    intake = t.intake;
+    slot_is = slot_other fifo lane.fifo slot old new ne set ∙ t.slot_is;
+    queue_is = t.queue_is;
+  }
 
   -- another route takes from where it took before
   pub takes_other : (fifo : ℕ) (slot : Option Intake) (old new : List (Site (Port B))) (there : Place) (lane : Lane) →
@@ -132,8 +137,11 @@ module _ {B : Type 0} where
     where
       by_late : Late (SetsSlot fifo slot) old new there t lane.source k.from → Takes new lane
       by_late (late_same at elsewhere) = record { from = k.from; from_is = at; takes = k.takes }
-      by_late (changed_to at here is) = record { from = t.late; from_is = at;
-          takes = takes_set fifo slot lane t.port t.late (apart here) t.changes (subst (TakesFrom lane) is k.takes) }
+      by_late (changed_to at here is) = record {
+        from = t.late;
+        from_is = at;
+        takes = takes_set fifo slot lane t.port t.late (apart here) t.changes (subst (TakesFrom lane) is k.takes);
+      }
 
 module _ {B : Type 0} where
   -- a FIFO that is put somewhere leaves all mailboxes
@@ -165,7 +173,7 @@ module _ {B : Type 0} where
   have_mails-on NewMail s old new same all place late controller value at is e =
       let before = same place late at in
       subst (NewMail (priority_of value) (routes_at s controller)) (sym before.2)
-          (all place before.0 controller value before.1 is e)
+      (all place before.0 controller value before.1 is e)
 
 -- routes so far
 pub record OpensBelow {B : Type 0} (s : ScriptValue) (sites : List (Site (Port B))) (lanes : List Lane)
@@ -187,7 +195,7 @@ apart_at : {X : Type 0} (R : X → X → Type 0) (xs : List X) (i j : ℕ) (x y 
 apart_at R xs i j x y less e f all =
     let within = slice_get_within xs j y f in
     subst (λ a. R a y) (get_or_from_slice_get xs i x x e)
-        (subst (λ b. R (get_or xs i x) b) (get_or_from_slice_get xs j y x f) (all i j x less within))
+    (subst (λ b. R (get_or xs i x) b) (get_or_from_slice_get xs j y x f) (all i j x less within))
 
 -- both are 0 or both are 1
 same_fifo_number : (a b : ℕ) → a ≤ 1 → b ≤ 1 → a == 0 ≡ b == 0 → a ≡ b
@@ -204,11 +212,11 @@ pub lanes_apart : (s : ScriptValue) (j k : ℕ) (r q : RouteValue) (a b : Lane) 
     slice_get s.routes j ≡ Some r → slice_get s.routes k ≡ Some q → IsLaneOf s j r a → IsLaneOf s k q b → TakesApart a b
 lanes_apart s j k r q a b sound less e f p o = λ same is.
     let here : Some r.source ≡ Some q.source =
-        sym p.source_is ∙ ap (λ (x : Place). slice_get (controller_places s x.site) x.port) same ∙ o.source_is in
+    sym p.source_is ∙ ap (λ (x : Place). slice_get (controller_places s x.site) x.port) same ∙ o.source_is in
     let range_r = each_at (IsRouteIn s.controllers) s.routes j r e sound.routes in
     let range_q = each_at (IsRouteIn s.controllers) s.routes k q f sound.routes in
     let fifos : r.fifo ≡ q.fifo = same_fifo_number r.fifo q.fifo range_r.1 range_q.1
-        (ap (λ n. n == 0) (sym p.fifo_is) ∙ is ∙ ap (λ n. n == 0) o.fifo_is) in
+    (ap (λ n. n == 0) (sym p.fifo_is) ∙ is ∙ ap (λ n. n == 0) o.fifo_is) in
     apart_at TakesElsewhere s.routes j k r q less e f sound.own_fifos (same_some r.source q.source here, fifos)
 
 module _ {B : Type 0} where
@@ -227,8 +235,8 @@ module _ {B : Type 0} where
               let before : j < k = omega (arith, inside, b.each_lane.size) in
               let route = some_there s.routes j (omega (arith, before, less)) in
               others other (lanes_apart s j k route.0 value.0 other lane sound before route.1 value.1
-                  (b.each_lane.at j route.0 other route.1 front).lane_is (is value.0 value.1).lane_is)
-                  (b.takes j other front))
+              (b.each_lane.at j route.0 other route.1 front).lane_is (is value.0 value.1).lane_is)
+              (b.takes j other front))
           | inr last ↦ subst (Takes new) last.1 takes
         ];
       }

@@ -40,7 +40,7 @@ place-found test first (y ∷ xs) (suc k) x e passes =
     ap (slice_get (places_where test first (y ∷ xs))) (count-cons test y (take k xs))
     ∙ found-step (test y) first (places_where test (first + 1) xs) (count_by test (take k xs)) (first + suc k)
     (place-found test (first + 1) xs k x e passes ∙ ap Some (let at : first + 1 + k ≡ first + suc k = omega arith in
-          at))
+    at))
 
 -- what stands at a place of them passes
 pub record PlacePasses {X : Type 0} (test : X → Bool) (first : ℕ) (xs : List X) (place : ℕ) : Type 0 where
@@ -52,15 +52,25 @@ pub record PlacePasses {X : Type 0} (test : X → Bool) (first : ℕ) (xs : List
 
 passes-on : {X : Type 0} (test : X → Bool) (first : ℕ) (x : X) (xs : List X) (place : ℕ) →
     PlacePasses test (first + 1) xs place → PlacePasses test first (x ∷ xs) place
-passes-on test first x xs place p = record { nth = suc p.nth; element = p.element; place_is = omega (arith, p.place_is);
-    there = p.there; passes = p.passes }
+passes-on test first x xs place p = record {
+  nth = suc p.nth;
+  element = p.element;
+  place_is = omega (arith, p.place_is);
+  there = p.there;
+  passes = p.passes;
+}
 
 passes-step : {X : Type 0} (test : X → Bool) (first : ℕ) (x : X) (xs : List X) (k place : ℕ) (b : Bool) → test x ≡ b →
     ((j : ℕ) → slice_get (places_where test (first + 1) xs) j ≡ Some place → PlacePasses test (first + 1) xs place) →
     slice_get (cond b (first ∷ places_where test (first + 1) xs) (places_where test (first + 1) xs)) k ≡ Some place →
     PlacePasses test first (x ∷ xs) place
-passes-step test first x xs zero place true is more e = record { nth = 0; element = x;
-    place_is = (let same = same_some first place e in omega (arith, same)); there = refl; passes = is }
+passes-step test first x xs zero place true is more e = record {
+  nth = 0;
+  element = x;
+  place_is = (let same = same_some first place e in omega (arith, same));
+  there = refl;
+  passes = is;
+}
 passes-step test first x xs (suc k) place true is more e = passes-on test first x xs place (more k e)
 passes-step test first x xs k place false is more e = passes-on test first x xs place (more k e)
 

@@ -33,8 +33,12 @@ none_stored P (x ∷ xs) n e = absurd (omega (arith, e))
 slot_starts : (banks : List BankValue) (fifo : ℕ) (slot : Option Intake) → IsEmptySlot slot →
     SlotStands banks fifo slot []
 slot_starts banks fifo None empty = tt
-slot_starts banks fifo (Some intake) empty = record { offered = []; goes = nothing; stands = empty;
-    numbered = none_stored (IsNumbered banks fifo) intake.rxin.stored intake.overrun (left-length empty.stored_is) }
+slot_starts banks fifo (Some intake) empty = record {
+  offered = [];
+  goes = nothing;
+  stands = empty;
+  numbered = none_stored (IsNumbered banks fifo) intake.rxin.stored intake.overrun (left-length empty.stored_is);
+}
 
 module _ {B : Type 0} (after : B → BusPast → Type 0) (transmitting : B → Option Item) where
   port_starts : (s : ScriptValue) (controller node : ℕ) (segment : SegmentValue) (port : Port B) → segment.events ≡ [] →
@@ -56,8 +60,14 @@ module _ {B : Type 0} (after : B → BusPast → Type 0) (transmitting : B → O
       length site.ports.items ≡ length site.segment.sending
   ports_count s i site n =
       let test : ControllerValue → Bool = λ (c : ControllerValue). c.segment == i in
-      omega (arith, n.ports.size, places-length test 0 s.controllers, length-filter test s.controllers,
-          n.plan_is.controllers.size, n.opens.one_each)
+      omega (
+        arith,
+        n.ports.size,
+        places-length test 0 s.controllers,
+        length-filter test s.controllers,
+        n.plan_is.controllers.size,
+        n.opens.one_each,
+      )
 
   pub site_starts : (s : ScriptValue) (i : ℕ) (site : Site (Port B)) → IsNewSite s i site →
       ((k : ℕ) (port : Port B) → slice_get site.ports.items k ≡ Some port → after port.mail no_bus_past) →
@@ -72,5 +82,5 @@ module _ {B : Type 0} (after : B → BusPast → Type 0) (transmitting : B → O
     each =
         λ k port e. (let made = pair_at (λ j. IsNewPort s) (controller_places s i) site.ports.items k port n.ports e in
         port_starts s made.0 (length site.segment.plan.talkers.items + k) site.segment port n.opens.no_events made.2
-            (new k port e));
+        (new k port e));
   }

@@ -43,8 +43,12 @@ module _ {X Y : Type 0} (Back : X → Y → Type 0) (dealt : List X) where
       AreBackBy (set slots p (Some y)) (got ++ p ∷ [])
   one_back slots got p y within back before k x there some =
       elim (cases_eq p k) [
-        | inl same ↦ (y, subst (λ i. slice_get (set slots p (Some y)) i ≡ Some (Some y)) same
-            (get_set_same slots p (Some y) within), back x (ap (slice_get dealt) same ∙ there))
+        | inl same ↦ (
+          y,
+          subst (λ i. slice_get (set slots p (Some y)) i ≡ Some (Some y)) same
+              (get_set_same slots p (Some y) within),
+          back x (ap (slice_get dealt) same ∙ there),
+        )
         | inr other ↦ (let e = weigh-append (here k) got (p ∷ []) in
             let none = here_other k p other in
             let old = before k x there (omega (arith, e, none, some)) in

@@ -27,9 +27,9 @@ one_place old mid new start n place is so put =
     let next : n + 1 ≡ suc n = omega arith in
     let whole : mid.put ++ place ∷ [] ≡ start ++ places (n + 1) =
     ap (λ (v : Account). v.put ++ place ∷ []) so ∙ ap (λ p. (start ++ places n) ++ p ∷ []) is
-        ∙ append_assoc start (places n) (n ∷ []) ∙ ap (λ k. start ++ places k) (sym next) in
+    ∙ append_assoc start (places n) (n ∷ []) ∙ ap (λ k. start ++ places k) (sym next) in
     put ∙ ap (λ l. account mid.parts l mid.taken) whole
-        ∙ ap (λ (v : Account). account v.parts (start ++ places (n + 1)) v.taken) so
+    ∙ ap (λ (v : Account). account v.parts (start ++ places (n + 1)) v.taken) so
 
 -- a baton that was taken is put back
 pub even_on : (v w u : Account) (p q : ℕ) → w ≡ account v.parts v.put (v.taken ++ p ∷ []) →
@@ -39,8 +39,17 @@ even_on v w u p q first then same even h =
     let taken = ap (λ (y : Account). weigh h y.taken) then in
     let put' = ap (λ (y : Account). weigh h y.put) first in
     let taken' = ap (λ (y : Account). weigh h y.taken) first in
-    omega (arith, put, taken, put', taken', weigh-append h w.put (q ∷ []), weigh-append h v.taken (p ∷ []), ap h same,
-        even h)
+    omega (
+      arith,
+      put,
+      taken,
+      put',
+      taken',
+      weigh-append h w.put (q ∷ []),
+      weigh-append h v.taken (p ∷ []),
+      ap h same,
+      even h,
+    )
 
 -- where all places have something, the next one has
 pub full_there : {Y : Type 0} (front : List (Option Y)) (rest left whole : List (Option Y)) (slot : Option Y) → front

@@ -39,8 +39,12 @@ idle_snoc views w here all j u e none =
 
 module _ {X : Type 0} (place : X → ℕ) where
   pub begins : Balanced place [] (account 1024 [] [] ∷ [])
-  begins = (refl, (λ h. refl), idle_snoc [] (account 1024 [] []) (λ none. absurd (omega (arith, none)))
-      (λ j u e none. absurd (some-ne-none u (sym e))))
+  begins = (
+    refl,
+    (λ h. refl),
+    idle_snoc [] (account 1024 [] []) (λ none. absurd (omega (arith, none)))
+        (λ j u e none. absurd (some-ne-none u (sym e))),
+  )
 
   pub puts : (n pass : ℕ) (v : Account) (x : X) → 0 < v.parts →
       Pushes (Balanced place) n pass v x (λ w. w ≡ account v.parts (v.put ++ place x ∷ []) v.taken)
@@ -53,8 +57,12 @@ module _ {X : Type 0} (place : X → ℕ) where
               let s = total_set (λ u. weigh h u.put) views pass v w at in
               let t = total_set (λ u. weigh h u.taken) views pass v w at in
               let p = b.1 h in
-              omega (arith, weigh-append h v.put (place x ∷ []), ap (weigh h) (map-append place items (x ∷ [])),
-                  weigh-append h (map place items) (place x ∷ []))),
+              omega (
+                arith,
+                weigh-append h v.put (place x ∷ []),
+                ap (weigh h) (map-append place items (x ∷ [])),
+                weigh-append h (map place items) (place x ∷ []),
+              )),
           idle_set views pass w (λ none. absurd (omega (arith, none, some_part))) b.2,
         ),
         refl,
@@ -125,8 +133,11 @@ part_le f (x ∷ xs) (suc pass) v at = omega (arith, part_le f xs pass v at)
 none_counts : (f : Account → ℕ) (views : List Account) → total (λ u. u.parts) views ≡ 0 →
     ((j : ℕ) (u : Account) → get_elem? views j ≡ some u → u.parts ≡ 0 → f u ≡ 0) → total f views ≡ 0
 none_counts f [] none zeros = refl
-none_counts f (x ∷ xs) none zeros = omega (arith, zeros 0 x refl (omega (arith, none)),
-    none_counts f xs (omega (arith, none)) (λ j u e. zeros (suc j) u e))
+none_counts f (x ∷ xs) none zeros = omega (
+  arith,
+  zeros 0 x refl (omega (arith, none)),
+  none_counts f xs (omega (arith, none)) (λ j u e. zeros (suc j) u e),
+)
 
 -- where one has all parts, it alone counts
 one_counts : (f : Account → ℕ) (views : List Account) (pass : ℕ) (v : Account) → get_elem? views pass ≡ some v →
@@ -135,16 +146,27 @@ one_counts : (f : Account → ℕ) (views : List Account) (pass : ℕ) (v : Acco
 one_counts f [] pass v at all zeros = absurd (some-ne-none v (sym at))
 one_counts f (x ∷ xs) zero v at all zeros =
     let is = same_view x v at in
-    omega (arith, ap f is, none_counts f xs (omega (arith, all, ap (λ (y : Account). y.parts) is))
-        (λ j u e. zeros (suc j) u e))
+    omega (
+      arith,
+      ap f is,
+      none_counts f xs (omega (arith, all, ap (λ (y : Account). y.parts) is))
+          (λ j u e. zeros (suc j) u e),
+    )
 one_counts f (x ∷ xs) (suc pass) v at all zeros =
     let le = part_le (λ u. u.parts) xs pass v at in
-    omega (arith, zeros 0 x refl (omega (arith, all, le)),
-        one_counts f xs pass v at (omega (arith, all, le)) (λ j u e. zeros (suc j) u e))
+    omega (
+      arith,
+      zeros 0 x refl (omega (arith, all, le)),
+      one_counts f xs pass v at (omega (arith, all, le)) (λ j u e. zeros (suc j) u e),
+    )
 
 pub learns : {X : Type 0} (place : X → ℕ) (pass : ℕ) (v : Account) → Learns (Balanced place) pass v (Remains place v)
 learns place pass v items views b at all h =
     let whole : total (λ u. u.parts) views ≡ v.parts = omega (arith, b.0, all) in
-    omega (arith, b.1 h, one_counts (λ u. weigh h u.put) views pass v at whole
-        (λ j u e none. ap (weigh h) (b.2 j u e none).0),
-        one_counts (λ u. weigh h u.taken) views pass v at whole (λ j u e none. ap (weigh h) (b.2 j u e none).1))
+    omega (
+      arith,
+      b.1 h,
+      one_counts (λ u. weigh h u.put) views pass v at whole
+          (λ j u e none. ap (weigh h) (b.2 j u e none).0),
+      one_counts (λ u. weigh h u.taken) views pass v at whole (λ j u e none. ap (weigh h) (b.2 j u e none).1),
+    )

@@ -61,7 +61,7 @@ pub counts_follow : {T E : Type 0} (r : Result T E) (route : ℕ) (l : RouteList
     OnOk r ((next : List ℕ) × AppendsDones route old next l.done × (new ≡ next ++ count_line route l waits))
 counts_follow r route l waits old next new a b c d e a_is b_is c_is d_is e_is lines = on_ok_weaker r (λ last.
     let counts : line (count_pieces route a b c d e) ≡ count_line route l waits =
-        rw (a_is, b_is, c_is, d_is, e_is) refl in
+    rw (a_is, b_is, c_is, d_is, e_is) refl in
     (next, lines, last ∙ ap (λ t. next ++ t) (nested-line (count_pieces route a b c d e) ∙ counts)))
 
 -- the first of the events that are left
@@ -98,12 +98,12 @@ pub whole_report : (txfp : Bool) (routes : ℕ) (events items : List Event) (fir
 whole_report txfp routes events items first last start middle text items_are first_is start_is last_is middle_is count
     told =
     let goes : last ≡ run (opening_by txfp routes) events =
-        last_is ∙ ap (λ s. run s items) first_is ∙ ap (run (opening_by txfp routes)) items_are in
+    last_is ∙ ap (λ s. run s items) first_is ∙ ap (run (opening_by txfp routes)) items_are in
     let counts : length last.routes ≡ routes =
-        count ∙ ap (λ (s : State). length s.routes) first_is ∙ length-replicate routes no_lists in
+    count ∙ ap (λ (s : State). length s.routes) first_is ∙ length-replicate routes no_lists in
     let lines : middle ≡ refused_lines (opening_by txfp routes) 0 events =
     middle_is ∙ ap (λ t. t ++ refused_lines first 0 items) start_is ∙ ap (λ s. refused_lines s 0 items) first_is
-        ∙ ap (refused_lines (opening_by txfp routes) 0) items_are in
+    ∙ ap (refused_lines (opening_by txfp routes) 0) items_are in
     subst (λ t. AppendsRoutes (run (opening_by txfp routes) events) routes t text) lines
     (subst (λ n. AppendsRoutes (run (opening_by txfp routes) events) n middle text) counts
     (subst (λ s. AppendsRoutes s (length last.routes) middle text) goes told))

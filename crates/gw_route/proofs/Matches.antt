@@ -32,8 +32,14 @@ length-as-requested h = length-map h.released (rewritten h.rewrites)
 -- all numbers that were given out are requested, but the one in the hand
 pub tickets-requested : (h : HandValue) (past : RoutePast) → LogMatches h past →
     length past.requested + length h.in_hand ≡ h.tickets
-tickets-requested h past l = omega (arith, ap length l.log, length-append past.requested h.in_hand,
-    length-numbered 1 (as_requested h), length-as-requested h, l.tickets_is)
+tickets-requested h past l = omega (
+  arith,
+  ap length l.log,
+  length-append past.requested h.in_hand,
+  length-numbered 1 (as_requested h),
+  length-as-requested h,
+  l.tickets_is,
+)
 
 -- so the last of them is the number of them
 pub last-requested : (h : HandValue) (past : RoutePast) → LogMatches h past →
@@ -44,7 +50,7 @@ pub due-count : (h : HandValue) (past : RoutePast) (a : RouteAbort) → LogMatch
     IsDue h.turns past.requested a → IsDueByCount h a
 due-count h past a l d =
     let within : (0 < a.number) × (a.number ≤ 0 + length past.requested) =
-        numbered-bounds 0 a.number (as_requested h) past.requested h.in_hand l.log d.known in
+    numbered-bounds 0 a.number (as_requested h) past.requested h.in_hand l.log d.known in
     record { reached = d.reached; positive = within.0; below = omega (arith, within.1, tickets-requested h past l) }
 
 pub count-due : (h : HandValue) (past : RoutePast) (a : RouteAbort) → LogMatches h past → IsDueByCount h a →
@@ -56,13 +62,27 @@ count-due h past a l d = record {
 }
 
 pub matches-counted : (h : HandValue) (past : RoutePast) → LogMatches h past → LogMatches (counted h) past
-matches-counted h past l = record { log = l.log; one_hand = l.one_hand; tickets_is = l.tickets_is; limit = l.limit;
-    ended = l.ended; asked = l.asked; known = l.known }
+matches-counted h past l = record {
+  log = l.log;
+  one_hand = l.one_hand;
+  tickets_is = l.tickets_is;
+  limit = l.limit;
+  ended = l.ended;
+  asked = l.asked;
+  known = l.known;
+}
 
 -- the FIFO was asked, and gave nothing
 pub matches-asked : (h : HandValue) (past : RoutePast) → LogMatches h past → LogMatches (none_given h) past
-matches-asked h past l = record { log = l.log; one_hand = l.one_hand; tickets_is = l.tickets_is; limit = l.limit;
-    ended = l.ended; asked = l.asked; known = l.known }
+matches-asked h past l = record {
+  log = l.log;
+  one_hand = l.one_hand;
+  tickets_is = l.tickets_is;
+  limit = l.limit;
+  ended = l.ended;
+  asked = l.asked;
+  known = l.known;
+}
 
 matches-taken : (h : HandValue) (past : RoutePast) (x : RxFrame) → h.in_hand ≡ [] → LogMatches h past →
     LogMatches (taken (given h x) x.frame) past
@@ -70,7 +90,7 @@ matches-taken h past x empty l =
     let new : FrameValue = rewritten h.rewrites x.frame in
     let next : h.tickets + 1 ≡ 1 + length (as_requested h) = omega (arith, l.tickets_is, length-as-requested h) in
     let front : past.requested ≡ numbered 1 (as_requested h) =
-        sym (append-nil past.requested) ∙ ap (λ (v : List Entry). past.requested ++ v) (sym empty) ∙ l.log in
+    sym (append-nil past.requested) ∙ ap (λ (v : List Entry). past.requested ++ v) (sym empty) ∙ l.log in
     record {
       log = ap (λ (v : List Entry). v ++ record { number = h.tickets + 1; frame = new } ∷ []) front
           ∙ ap (λ k. numbered 1 (as_requested h) ++ numbered k (new ∷ [])) next
@@ -96,7 +116,7 @@ pub number-filled : (h : HandValue) (past : RoutePast) (e : Entry) → h.in_hand
     e.number ≡ length past.requested + 1
 number-filled h past e held l =
     let joined : past.requested ++ e ∷ [] ≡ numbered 1 (as_requested h) =
-        ap (λ (v : List Entry). past.requested ++ v) (sym held) ∙ l.log in
+    ap (λ (v : List Entry). past.requested ++ v) (sym held) ∙ l.log in
     let high : e.number ≡ 0 + length past.requested + 1 = last-numbered 0 (as_requested h) past.requested e joined in
     omega (arith, high)
 
@@ -122,8 +142,8 @@ pub matches-requested : (h : HandValue) (past : RoutePast) (e : Entry) (answer :
     LogMatches (if_requested answer h) (after_request past e.number e.frame answer)
 matches-requested h past e (Ok Yes) held limit l =
     let low : e.number ≤ greatest_number =
-        (let refused : (greatest_number < e.number) → ⊥ = λ k. (let never : false ≡ true = limit.1 k in cc) in
-        omega (arith, refused)) in
+    (let refused : (greatest_number < e.number) → ⊥ = λ k. (let never : false ≡ true = limit.1 k in cc) in
+    omega (arith, refused)) in
     let size : length (past.requested ++ e ∷ []) ≡ length past.requested + 1 = length-append past.requested (e ∷ []) in
     record {
       log = append-nil (past.requested ++ e ∷ []) ∙ ap (λ (v : List Entry). past.requested ++ v) (sym held) ∙ l.log;

@@ -19,7 +19,7 @@ numbered-append n [] gs = ap (λ k. numbered k gs) (let e : n ≡ n + 0 = omega 
 numbered-append n (f ∷ fs) gs =
     let e : n + 1 + length fs ≡ n + suc (length fs) = omega arith in
     ap (λ (l : List Entry). record { number = n; frame = f } ∷ l) (numbered-append (n + 1) fs gs
-        ∙ ap (λ k. numbered (n + 1) fs ++ numbered k gs) e)
+    ∙ ap (λ k. numbered (n + 1) fs ++ numbered k gs) e)
 
 -- the first number at the front
 first_number : (n : ℕ) (f : FrameValue) (fs : List FrameValue) (x : Entry) (xs ys : List Entry) → (x ∷ xs)

@@ -42,7 +42,7 @@ one_done : (planned : List RouteAbort) (h : HandValue) (abort : RouteAbort) → 
     planned ≡ (p.done ++ abort ∷ []) ++ remove h.aborts 0
 one_done planned h abort first p =
     p.all ∙ ap (λ xs. p.done ++ xs) (first_and_rest h.aborts abort first)
-        ∙ sym (append_assoc p.done (abort ∷ []) (remove h.aborts 0))
+    ∙ sym (append_assoc p.done (abort ∷ []) (remove h.aborts 0))
 
 number_done : (done : List RouteAbort) (abort : RouteAbort) → numbers_in (done ++ abort ∷ []) ≡ numbers_in done
     ++ abort.number ∷ []
@@ -84,11 +84,18 @@ pub turn_keeps : (planned : List RouteAbort) (after after' : RoutePast → Type 
     FromPlan planned old → FromPlan planned new
 turn_keeps planned after after' old new answer linked made p =
     let counted_matches : LogMatches (counted old) linked.0 =
-    record { log = linked.2.log; one_hand = linked.2.one_hand; tickets_is = linked.2.tickets_is; limit = linked.2.limit;
-        ended = linked.2.ended; asked = linked.2.asked; known = linked.2.known } in
+    record {
+      log = linked.2.log;
+      one_hand = linked.2.one_hand;
+      tickets_is = linked.2.tickets_is;
+      limit = linked.2.limit;
+      ended = linked.2.ended;
+      asked = linked.2.asked;
+      known = linked.2.known;
+    } in
     let t = made linked.0 linked.1 counted_matches in
     turned_keeps planned (counted old) new linked.0 t.0 answer t.2
-        (record { done = p.done; all = p.all; logged = p.logged })
+    (record { done = p.done; all = p.all; logged = p.logged })
 
 filled_counts : (h filled : HandValue) (entry : Entry) → Filled h filled entry → filled.turns ≡ h.turns
 filled_counts h filled entry f = elim f.1 [
@@ -119,7 +126,14 @@ pub turn_counts : (after after' : RoutePast → Type 0) (old new : HandValue) (a
     TurnMade after after' old new answer → new.turns ≡ next_turn old.turns
 turn_counts after after' old new answer linked made =
     let counted_matches : LogMatches (counted old) linked.0 =
-    record { log = linked.2.log; one_hand = linked.2.one_hand; tickets_is = linked.2.tickets_is; limit = linked.2.limit;
-        ended = linked.2.ended; asked = linked.2.asked; known = linked.2.known } in
+    record {
+      log = linked.2.log;
+      one_hand = linked.2.one_hand;
+      tickets_is = linked.2.tickets_is;
+      limit = linked.2.limit;
+      ended = linked.2.ended;
+      asked = linked.2.asked;
+      known = linked.2.known;
+    } in
     let t = made linked.0 linked.1 counted_matches in
     turned_counts (counted old) new linked.0 t.0 answer t.2

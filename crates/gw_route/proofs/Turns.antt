@@ -25,9 +25,12 @@ use Rattle.gw_route.proofs.Matches.{matches-requested, matches-aborted, last-req
 pub acted-idle : (after : RoutePast → Type 0) (old new : HandValue) →
     ((abort : RouteAbort) → first_abort old ≡ Some abort → IsDueByCount old abort → ⊥) →
     new ≡ none_given old → old.in_hand ≡ [] → WasEmpty old.out → Acted after after old new Idle
-acted-idle after old new none same empty dry past a l =
-    (past, a, subst (λ (v : HandValue). Turned old v past past Idle) (sym same)
-        (idle (λ abort first d. none abort first (due-count old past abort l d)) empty dry))
+acted-idle after old new none same empty dry past a l = (
+  past,
+  a,
+  subst (λ (v : HandValue). Turned old v past past Idle) (sym same)
+      (idle (λ abort first d. none abort first (due-count old past abort l d)) empty dry),
+)
 
 pub acted-request : (after after' : RoutePast → Type 0) (old filled new : HandValue) (e : Entry)
     (sent : Result Sent NumberTooLarge) (answer : TurnAnswer) →
@@ -39,9 +42,12 @@ pub acted-request : (after after' : RoutePast → Type 0) (old filled new : Hand
 acted-request after after' old filled new e sent answer none f limit says is step past a l =
     let next : RoutePast = after_request past e.number e.frame sent in
     let made : Turned old (if_requested sent filled) past next (requested_answer sent) =
-    by_request e sent (λ abort first d. none abort first (due-count old past abort l d)) f limit in
-    (next, step past a, subst (λ (t : TurnAnswer). Turned old new past next t) (sym says)
-        (subst (λ (v : HandValue). Turned old v past next (requested_answer sent)) (sym is) made))
+    by_request e sent (λ abort first d. none abort first (due-count old past abort l d)) f limit in (
+      next,
+      step past a,
+      subst (λ (t : TurnAnswer). Turned old new past next t) (sym says)
+          (subst (λ (v : HandValue). Turned old v past next (requested_answer sent)) (sym is) made),
+    )
 
 pub acted-abort : (after after' : RoutePast → Type 0) (old new : HandValue) (abort : RouteAbort) (told : AbortAnswer)
     (answer : TurnAnswer) →
@@ -53,9 +59,12 @@ acted-abort after after' old new abort told answer first due says is step past a
     let t : (asks : Bool) × after' (after_abort past abort.number told asks) = step past a in
     let next : RoutePast = after_abort past abort.number told t.0 in
     let made : Turned old (if_aborted told abort.number old) past next (aborted_answer told) =
-        by_abort abort told t.0 first (count-due old past abort l due) in
-    (next, t.1, subst (λ (v : TurnAnswer). Turned old new past next v) (sym says)
-        (subst (λ (v : HandValue). Turned old v past next (aborted_answer told)) (sym is) made))
+    by_abort abort told t.0 first (count-due old past abort l due) in (
+      next,
+      t.1,
+      subst (λ (v : TurnAnswer). Turned old new past next v) (sym says)
+          (subst (λ (v : HandValue). Turned old v past next (aborted_answer told)) (sym is) made),
+    )
 
 -- the number in the hand is above the last one that was requested
 pub above-last : (old filled : HandValue) (past : RoutePast) (e : Entry) → Filled old filled e → LogMatches old past →

@@ -16,8 +16,12 @@ peeled : {old new : SegmentValue} (made : ℕ) → length old.levels ≤ made �
 peeled {new = new} made least most no_bit =
     record { before = new; made_is = omega (arith, least, most); quiet = no_bit }
 peeled {new = new} made least most (one_more {mid = mid} bits bit) = elim (cases_lt made (length new.levels)) [
-  | inl less ↦ (let inside : made ≤ length mid.levels = omega (arith, less, ap length bit.levels_is,
-        length-append mid.levels (bit.level ∷ [])) in
+  | inl less ↦ (let inside : made ≤ length mid.levels = omega (
+    arith,
+    less,
+    ap length bit.levels_is,
+    length-append mid.levels (bit.level ∷ []),
+  ) in
       let h = peeled made least inside bits in
       record { before = h.before; made_is = h.made_is; quiet = one_more h.quiet bit })
   | inr all ↦ record { before = new; made_is = omega (arith, all, most); quiet = no_bit }

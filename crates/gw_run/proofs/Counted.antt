@@ -30,9 +30,9 @@ due-quotient turn bit some due = by_count ((bit + 1) / turn) (div-add-mod (bit +
     by_count (suc k) e =
         let more : turn * suc k ≡ k * turn + turn = mul-suc turn k ∙ ap (λ n. n + turn) (mul_comm turn k) in
         let next : (k + 1) * turn ≡ k * turn + turn =
-            ap (λ n. n * turn) (let one : k + 1 ≡ suc k = omega arith in one) ∙ suc-mul k turn in
+        ap (λ n. n * turn) (let one : k + 1 ≡ suc k = omega arith in one) ∙ suc-mul k turn in
         let is : bit / turn ≡ k = div-eq_of_lt-le turn (let low : k * turn ≤ bit = omega (arith, due, more, e, some) in
-            low) (let high : bit < (k + 1) * turn = omega (arith, due, more, next, e) in high) in
+        low) (let high : bit < (k + 1) * turn = omega (arith, due, more, next, e) in high) in
         omega (arith, is)
 
 -- none is due, so there are as many
@@ -45,9 +45,9 @@ same-quotient turn bit some none =
     by_rest q (suc r) is e lt =
         let same : turn * q ≡ q * turn = mul_comm turn q in
         let next : (q + 1) * turn ≡ q * turn + turn =
-            ap (λ n. n * turn) (let one : q + 1 ≡ suc q = omega arith in one) ∙ suc-mul q turn in
+        ap (λ n. n * turn) (let one : q + 1 ≡ suc q = omega arith in one) ∙ suc-mul q turn in
         sym (div-eq_of_lt-le turn (let low : q * turn ≤ bit = omega (arith, same, e) in low)
-            (let high : bit < (q + 1) * turn = omega (arith, same, next, e, lt) in high))
+        (let high : bit < (q + 1) * turn = omega (arith, same, next, e, lt) in high))
 
 -- below a million turns each one counts
 one-more : (turns : ℕ) → turns < 1000000 → next_turn turns ≡ turns + 1
@@ -67,13 +67,13 @@ turned_once turn bit old new some few due counts h k lane e =
     let before = some_there old k (omega (arith, within, counts.size)) in
     let had : before.0.hand.turns ≡ bit / turn = h k before.0 before.1 in
     counts.at k before.0 lane before.1 e ∙ ap next_turn had
-        ∙ one-more (bit / turn) (omega (arith, few, few-turns turn bit some)) ∙ sym (due-quotient turn bit some due)
+    ∙ one-more (bit / turn) (omega (arith, few, few-turns turn bit some)) ∙ sym (due-quotient turn bit some due)
 
 pub none_turned : (s : ScriptValue) (sites : List Site) (lanes : List Lane) (turn : ℕ) → Opens s sites lanes →
     HaveTurned turn 0 lanes
 none_turned s sites lanes turn o k lane e =
     (pair_at (λ j route. IsNewLane s j route) s.routes lanes k lane o.opens.each_lane e).2.turns_is
-        ∙ sym (zero-div turn)
+    ∙ sym (zero-div turn)
 
 -- a port of those behind a change of one: that one, or another
 port_before : (Change : Port → Port → Type 0) (old new : List Site) (there : Place)
@@ -81,13 +81,16 @@ port_before : (Change : Port → Port → Type 0) (old new : List Site) (there :
     (port ≡ t.late) ⊎ IsAt old place port
 port_before Change old new there t place port at =
     elim (place_cases old new there.site t.site t.late_site t.site_is t.late_site_is t.other_sites place.site at.site
-        at.site_is) [
+    at.site_is) [
       | inl here ↦ elim (place_cases t.site.ports.items t.late_site.ports.items there.port t.port t.late t.port_is
           t.late_is t.other_ports place.port port
           (ap (λ (x : Site). slice_get x.ports.items place.port) (sym here.1) ∙ at.port_is)) [
             | inl it ↦ inl it.1
-            | inr beside ↦ inr (record { site = t.site; site_is = ap (slice_get old) here.0 ∙ t.site_is;
-                  port_is = beside.1 })
+            | inr beside ↦ inr (record {
+              site = t.site;
+              site_is = ap (slice_get old) here.0 ∙ t.site_is;
+              port_is = beside.1;
+            })
           ]
       | inr other ↦ inr (record { site = at.site; site_is = other.1; port_is = at.port_is })
     ]
@@ -103,13 +106,13 @@ short_turn old new lane after t unshort h place port at = elim (port_before _ ol
 pub short_bits : (old new : List Site) → AtPlaces (λ i. SiteMoves) old new → NoneShort old → NoneShort new
 short_bits old new moves h place port at =
     let site = some_there old place.site (let within = slice_get_within new place.site at.site at.site_is in
-        omega (arith, within, moves.size)) in
+    omega (arith, within, moves.size)) in
     let ports = (moves.at place.site site.0 at.site site.1 at.site_is).ports in
     let was = some_there site.0.ports.items place.port
-        (let within = slice_get_within at.site.ports.items place.port port at.port_is in
-        omega (arith, within, ports.size)) in
+    (let within = slice_get_within at.site.ports.items place.port port at.port_is in
+    omega (arith, within, ports.size)) in
     (ports.at place.port was.0 port was.1 at.port_is).mail.short
-        ∙ h place was.0 (record { site = site.0; site_is = site.1; port_is = was.1 })
+    ∙ h place was.0 (record { site = site.0; site_is = site.1; port_is = was.1 })
 
 pub none_short : (s : ScriptValue) (sites : List Site) (lanes : List Lane) → Opens s sites lanes → NoneShort sites
 none_short s sites lanes o place port at = (new_mail_at s sites lanes place port o at).is_new.unshort

@@ -20,12 +20,12 @@ pub segments_turn : (first old new : List Site) (lane after : Lane) → LaneTurn
     SameSegments first old → SameSegments first new
 segments_turn first old new lane after t s = record {
   at = λ i a b p q. (let middle = some_there old i (let within = slice_get_within first i a p in
-        omega (arith, within, s.size)) in
+      omega (arith, within, s.size)) in
       elim (place_cases old new lane.target.site t.at.site t.at.late_site t.at.site_is t.at.late_site_is
-          t.at.other_sites i b q) [
+      t.at.other_sites i b q) [
         | inl here ↦ ap (λ (x : Site). x.segment) here.1 ∙ t.at.segment_is
             ∙ ap (λ (x : Site). x.segment) (same_some t.at.site middle.0
-                (sym t.at.site_is ∙ ap (slice_get old) (sym here.0) ∙ middle.1)) ∙ s.at i a middle.0 p middle.1
+            (sym t.at.site_is ∙ ap (slice_get old) (sym here.0) ∙ middle.1)) ∙ s.at i a middle.0 p middle.1
         | inr there ↦ ap (λ (x : Site). x.segment) (same_some b middle.0 (sym there.1 ∙ middle.1))
             ∙ s.at i a middle.0 p middle.1
       ]);
@@ -35,10 +35,10 @@ segments_turn first old new lane after t s = record {
 of_bits_turns : (bits : ℕ) (old new : List Site) → SameSegments old new → AreOfBits bits old → AreOfBits bits new
 of_bits_turns bits old new s h = record {
   plans = λ i site e. (let before = some_there old i (let within = slice_get_within new i site e in
-        omega (arith, within, s.size)) in
+      omega (arith, within, s.size)) in
       ap (λ v. v.plan.bits) (s.at i before.0 site before.1 e) ∙ h.plans i before.0 before.1);
   at_most = λ i site e. (let before = some_there old i (let within = slice_get_within new i site e in
-        omega (arith, within, s.size)) in
+      omega (arith, within, s.size)) in
       omega (arith, ap (λ v. length v.levels) (s.at i before.0 site before.1 e), h.at_most i before.0 before.1));
 }
 
@@ -47,7 +47,7 @@ pub made_turns : (bits made : ℕ) (old new : List Site) → SameSegments old ne
 made_turns bits made old new s h = record {
   of_bits = of_bits_turns bits old new s h.of_bits;
   ahead = λ i site e. (let before = some_there old i (let within = slice_get_within new i site e in
-        omega (arith, within, s.size)) in
+      omega (arith, within, s.size)) in
       subst (IsAhead made) (sym (s.at i before.0 site before.1 e)) (h.ahead i before.0 before.1));
 }
 
@@ -61,18 +61,25 @@ pub made_bits : (bits next : ℕ) (old new : List Site) → AtPlaces (λ i. Site
 made_bits bits next old new m h = record {
   of_bits = record {
     plans = λ i site e. (let before = some_there old i (let within = slice_get_within new i site e in
-          omega (arith, within, m.size)) in
+        omega (arith, within, m.size)) in
         ap (λ p. p.bits) (m.at i before.0 site before.1 e).moves.plan_is ∙ h.plans i before.0 before.1);
     at_most = λ i site e. (let before = some_there old i (let within = slice_get_within new i site e in
-          omega (arith, within, m.size)) in (m.at i before.0 site before.1 e).at_most);
+        omega (arith, within, m.size)) in (m.at i before.0 site before.1 e).at_most);
   };
   ahead = λ i site e. (let before = some_there old i (let within = slice_get_within new i site e in
-        omega (arith, within, m.size)) in (m.at i before.0 site before.1 e).ahead);
+      omega (arith, within, m.size)) in (m.at i before.0 site before.1 e).ahead);
 }
 
 keeps_self : (lane : Lane) → LaneKeeps lane lane
-keeps_self lane = record { source_is = refl; fifo_is = refl; target_is = refl; number_is = refl; queue_is = refl;
-    rewrites_is = refl; plan = λ planned h. h }
+keeps_self lane = record {
+  source_is = refl;
+  fifo_is = refl;
+  target_is = refl;
+  number_is = refl;
+  queue_is = refl;
+  rewrites_is = refl;
+  plan = λ planned h. h;
+}
 
 keeps_on : (a b c : Lane) → LaneKeeps a b → LaneKeeps b c → LaneKeeps a c
 keeps_on a b c p q = record {
@@ -92,7 +99,7 @@ lanes_start lanes =
 pub lanes_on : (first old new : List Lane) → LanesKeep first old → LanesKeep old new → LanesKeep first new
 lanes_on first old new p q = record {
   at = λ k a c e f. (let b = some_there old k (let within = slice_get_within first k a e in
-        omega (arith, within, p.size)) in
+      omega (arith, within, p.size)) in
       keeps_on a b.0 c (p.at k a b.0 e b.1) (q.at k b.0 c b.1 f));
   size = q.size ∙ p.size;
 }

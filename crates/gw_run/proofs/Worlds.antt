@@ -60,7 +60,7 @@ pub takes_on : (lane : Lane) (old new : Port) → SameFifo old.first new.first �
     TakesFrom lane old → TakesFrom lane new
 takes_on lane old new first second h =
     let s = slot_on lane (slot_of old lane.fifo) (slot_of new lane.fifo)
-        (slots lane old new (lane.fifo == 0) first second) (h.intake, h.slot_is, h.queue_is) in
+    (slots lane old new (lane.fifo == 0) first second) (h.intake, h.slot_is, h.queue_is) in
     record { intake = s.0; slot_is = s.1; queue_is = s.2 }
 
 -- a bit of all segments

@@ -23,9 +23,9 @@ onto-IsAscii zero base n behind some few is = is
 onto-IsAscii (suc count) base n behind some few is =
     let last : List ℕ = digit_glyph false (n % base) ∷ behind in
     let more : IsAscii last =
-        IsAscii-cons _ behind (digit_glyph-small (nat_lt (n % base) 10) (n % base) (omega arith)) is in
+    IsAscii-cons _ behind (digit_glyph-small (nat_lt (n % base) 10) (n % base) (omega arith)) is in
     either (nat_eq (n / base) 0) last (digits_onto count base false (n / base) last) more
-        (onto-IsAscii count base (n / base) last some few more)
+    (onto-IsAscii count base (n / base) last some few more)
 
 digits-IsAscii : (base n : ℕ) → 0 < base → base ≤ 16 → IsAscii (digits base false n)
 unfolding digits
@@ -60,4 +60,4 @@ content-IsAscii (remote_code code) = IsAscii-append (codes "remote ") _
 pub frame-IsUtf8 : (f : FrameValue) → IsUtf8 (frame_text f)
 frame-IsUtf8 f = IsUtf8-from_ascii _ (IsAscii-append (identifier_text f.id ++ codes " ") _
     (IsAscii-append _ (codes " ") (identifier-IsAscii f.id) (IsAscii-from_all (codes " ") (search rules)))
-        (content-IsAscii f.content))
+    (content-IsAscii f.content))

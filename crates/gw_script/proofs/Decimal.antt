@@ -26,8 +26,14 @@ decimal_pair n some few =
     let front : n / 10 / 10 ≡ n / 100 = omega arith in
     let tens : n / 10 % 10 ≡ n % 100 / 10 = omega arith in
     let ones : n % 10 ≡ n % 100 % 10 = omega arith in
-    rw (decimal_step n (omega arith) few, decimal_step (n / 10) (omega arith) (omega arith), append_assoc, front, tens,
-        ← ones)
+    rw (
+      decimal_step n (omega arith) few,
+      decimal_step (n / 10) (omega arith) (omega arith),
+      append_assoc,
+      front,
+      tens,
+      ← ones,
+    )
 
 pub length_pair : (n : ℕ) → 100 ≤ n → n < 2 ^ 64 → length (decimal n) ≡ length (decimal (n / 100)) + 2
 length_pair n some few = ap length (decimal_pair n some few) ∙ length-append _ _

@@ -47,7 +47,7 @@ one_digit : (width count n all : ℕ) (behind : List ℕ) → n / 16 ≡ 0 → a
 one_digit width count n all behind none is =
     let zeros : all - suc (length behind) ≡ width = omega arith in
     ap (padded all) (spelled_last count n behind none)
-        ∙ rw (zeros, none) (sym (last_digits-zero width (glyph n ∷ behind)))
+    ∙ rw (zeros, none) (sym (last_digits-zero width (glyph n ∷ behind)))
 
 -- with zeros in front, the digits are the last ones
 padded-spelled : (width count n all : ℕ) (behind : List ℕ) → width < count → n < 16 ^ suc width →
@@ -59,7 +59,7 @@ padded-spelled (suc width) (suc count) n all behind enough fits is = elim (eq-ze
   | inl none ↦ one_digit (suc width) count n all behind none is
   | inr some ↦
       ap (padded all) (spelled_next count n behind some)
-          ∙ padded-spelled width count (n / 16) all (glyph n ∷ behind) (omega arith) (omega arith) (omega arith)
+      ∙ padded-spelled width count (n / 16) all (glyph n ∷ behind) (omega arith) (omega arith) (omega arith)
 ]
 
 digits-onto : (n : ℕ) → digits 16 false n ≡ digits_onto 64 16 false n []
@@ -89,7 +89,7 @@ three-digits n few =
 
 pub eight-digits : (n : ℕ) → n < 2 ^ 32 → hexadecimal 8 n
     ≡ hexadecimal 2 (n / 16777216) ++ (hexadecimal 2 (n / 65536 % 256)
-        ++ (hexadecimal 2 (n / 256 % 256) ++ hexadecimal 2 (n % 256)))
+    ++ (hexadecimal 2 (n / 256 % 256) ++ hexadecimal 2 (n % 256)))
 eight-digits n few =
     let a : n / 16 / 16 / 16 / 16 / 16 / 16 / 16 % 16 ≡ n / 16777216 / 16 = omega arith in
     let b : n / 16 / 16 / 16 / 16 / 16 / 16 % 16 ≡ n / 16777216 % 16 = omega arith in

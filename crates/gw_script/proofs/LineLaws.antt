@@ -11,4 +11,4 @@ lines-step said xs i x old new lt is new_is =
     ap (λ t. t ++ lines_from said (i + 1) (drop (i + 1) xs)) new_is
     ∙ append_assoc old (said i x) (lines_from said (i + 1) (drop (i + 1) xs))
     ∙ ap (λ ys. old ++ lines_from said i ys)
-        (sym (drop-cons xs i x lt ∙ ap (λ y. y ∷ drop (suc i) xs) (sym is) ∙ ap (λ n. x ∷ drop n xs) (sym (add-one i))))
+    (sym (drop-cons xs i x lt ∙ ap (λ y. y ∷ drop (suc i) xs) (sym is) ∙ ap (λ n. x ∷ drop n xs) (sym (add-one i))))

@@ -46,15 +46,15 @@ module _ {S : Type 0} where
       SameFrom s segment nth first old → SameFrom s segment (nth + 1) first new
   same_more s segment nth controller first old new here l same k c above e n less =
       l.others (seat_of s c n)
-          (elsewhere s controller c n less (λ is. let at = one_place s segment nth k controller c here e is in
-            omega (arith, at, above))) ∙ same k c (omega (arith, above)) e n less
+      (elsewhere s controller c n less (λ is. let at = one_place s segment nth k controller c here e is in
+      omega (arith, at, above))) ∙ same k c (omega (arith, above)) e n less
 
   pub behind_more : (s : ScriptValue) (place : ℕ) (first old new : List (Option S)) → LeavesOn s place old new →
       SameBehind s place first old → SameBehind s (place + 1) first new
   behind_more s place first old new l same i k c above e n less =
       l.others (seat_of s c n)
-          (λ j d g. elsewhere s d c n less (λ is. let at = on_one_segment s i place k j c e (g ∙ ap Some is) in
-            omega (arith, at, above))) ∙ same i k c (omega (arith, above)) e n less
+      (λ j d g. elsewhere s d c n less (λ is. let at = on_one_segment s i place k j c e (g ∙ ap Some is) in
+      omega (arith, at, above))) ∙ same i k c (omega (arith, above)) e n less
 
 module _ {B S : Type 0} (routes_of : B → ℕ) (side_of : B → ℕ → S → Type 0) where
   pub may_close_on : (s : ScriptValue) (controller : ℕ) (port : Port B) (first seats : List (Option S)) →
@@ -88,8 +88,13 @@ module _ {B S : Type 0} (bus_after : B → BusPast → Type 0) (route_after : S 
   site_closes_on s i site closed first seats same c = record {
     segment_is = c.segment_is;
     ports =
-        record { at = λ k port late e f. record { at = λ controller g. closes_on s controller port late first seats
-          (same k controller g) ((c.ports.at k port late e f).at controller g) }; size = c.ports.size };
+        record {
+          at = λ k port late e f. record {
+            at = λ controller g. closes_on s controller port late first seats
+                (same k controller g) ((c.ports.at k port late e f).at controller g);
+          };
+          size = c.ports.size;
+        };
   }
 
 module _ {B S : Type 0} (side_of : B → ℕ → S → Type 0) where
@@ -110,5 +115,5 @@ pub side_there : {S : Type 0} (s : ScriptValue) (controller number : ℕ) (side 
 side_there s controller number side sides seats less holds there =
     let found = some_there sides number less in
     let same : Some found.0 ≡ Some side =
-        same_some (Some found.0) (Some side) (sym (holds.at number found.0 found.1) ∙ there) in
+    same_some (Some found.0) (Some side) (sym (holds.at number found.0 found.1) ∙ there) in
     found.1 ∙ same

@@ -62,12 +62,12 @@ module _ {B S : Type 0} (NewSet : Bool → ℕ → B → Type 0) (Rel : B → �
       PairsBelow (λ k. OpensPort NewSet Rel s new) (controller_places s segment) (ports ++ port ∷ []) (nth + 1)
   ports_more s segment nth controller ports port old new here l opens b =
       pairs_step (λ k. OpensPort NewSet Rel s new) (controller_places s segment) ports nth controller port here opens
-          (record {
+      (record {
         at = λ k c p e f. (let within = slice_get_within ports k p f in
             port_on s c p old new
-                (λ n less. l.others (seat_of s c n)
-                (elsewhere s controller c n less (λ same. let at = one_place s segment nth k controller c here e same in
-                    omega (arith, at, within, b.size)))) (b.at k c p e f));
+            (λ n less. l.others (seat_of s c n)
+            (elsewhere s controller c n less (λ same. let at = one_place s segment nth k controller c here e same in
+            omega (arith, at, within, b.size)))) (b.at k c p e f));
         size = b.size;
       })
 
@@ -79,7 +79,7 @@ module _ {B S : Type 0} (NewSet : Bool → ℕ → B → Type 0) (Rel : B → �
     ports = record {
       at = λ k c p e f. port_on s c p old new
           (λ n less. l.others (seat_of s c n) (λ j d g. elsewhere s d c n less
-            (λ same. ne (on_one_segment s i segment k j c e (g ∙ ap Some same))))) (o.ports.at k c p e f);
+          (λ same. ne (on_one_segment s i segment k j c e (g ∙ ap Some same))))) (o.ports.at k c p e f);
       size = o.ports.size;
     };
   }

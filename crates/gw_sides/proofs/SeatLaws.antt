@@ -36,9 +36,11 @@ same_target s c d m n route other e f same =
     let p = route_there s c m route e in
     let q = route_there s d n other f in
     let value : p.0 ≡ q.0 = same_some p.0 q.0 (sym p.1 ∙ ap (slice_get s.routes) same ∙ q.1) in
-    let target : c ≡ d = sym p.2 ∙ ap (λ (r : RouteValue). r.target) value ∙ q.2 in
-    (target, place-once (λ (r : RouteValue). r.target == d) 0 s.routes other m n
-        (subst (λ x. route_at s x m ≡ Some other) target (e ∙ ap Some same)) f)
+    let target : c ≡ d = sym p.2 ∙ ap (λ (r : RouteValue). r.target) value ∙ q.2 in (
+      target,
+      place-once (λ (r : RouteValue). r.target == d) 0 s.routes other m n
+          (subst (λ x. route_at s x m ≡ Some other) target (e ∙ ap Some same)) f,
+    )
 
 pub seats_apart : (s : ScriptValue) (c d m n : ℕ) → m < routes_at s c → n < routes_at s d →
     seat_of s c m ≡ seat_of s d n → (c ≡ d) × (m ≡ n)
@@ -72,9 +74,9 @@ on_one_segment s i j k m c e f =
     let q = place-passes (λ (x : ControllerValue). x.segment == j) 0 s.controllers m c f in
     let same : p.nth ≡ q.nth = omega (arith, p.place_is, q.place_is) in
     let value : p.element ≡ q.element =
-        same_some p.element q.element (sym p.there ∙ ap (slice_get s.controllers) same ∙ q.there) in
+    same_some p.element q.element (sym p.there ∙ ap (slice_get s.controllers) same ∙ q.there) in
     sym (eqb-true p.element.segment i p.passes) ∙ ap (λ (x : ControllerValue). x.segment) value
-        ∙ eqb-true q.element.segment j q.passes
+    ∙ eqb-true q.element.segment j q.passes
 
 pub one_place : (s : ScriptValue) (i k m c d : ℕ) → slice_get (controller_places s i) k ≡ Some c →
     slice_get (controller_places s i) m ≡ Some d → c ≡ d → k ≡ m
@@ -91,7 +93,7 @@ module _ {S : Type 0} where
     at = λ n x e. elim (pushed sides side n x e) [
       | inl front ↦ (let within = slice_get_within sides n x front in
           others (seat_of s c n) (λ same. let both = seats_apart s c c n (length sides)
-              (omega (arith, within, less)) less same in omega (arith, both.1, within)) ∙ holds.at n x front)
+          (omega (arith, within, less)) less same in omega (arith, both.1, within)) ∙ holds.at n x front)
       | inr last ↦ ap (λ m. slice_get new (seat_of s c m)) last.0 ∙ there ∙ ap (λ y. Some (Some y)) last.1
     ];
   }
@@ -129,4 +131,4 @@ module _ {S : Type 0} where
       Untaken s c (number + 1) first new
   untaken_more s c number first old new less others u n above q =
       others (seat_of s c n) (λ same. let both = seats_apart s c c n number q less same in omega (arith, both.1, above))
-          ∙ u n (omega (arith, above)) q
+      ∙ u n (omega (arith, above)) q

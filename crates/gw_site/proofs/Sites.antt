@@ -22,20 +22,26 @@ module _ {P : Type 0} (after : P → BusPast → Type 0) (asked : P → List Bus
       PortHolds after sink node old p → PortHolds after sink node new q
   port_on node old new lines wants sends p q es ls b h =
       let told : told_of node new.events ≡ told_of node old.events ++ told_of node lines =
-          ap (told_of node) es ∙ of-append node old.events lines in
+      ap (told_of node) es ∙ of-append node old.events lines in
       let took : all_in taken_in (told_of node new.events) ≡ all_in taken_in (told_of node old.events)
-          ++ all_in taken_in (told_of node lines) =
+      ++ all_in taken_in (told_of node lines) =
       ap (all_in taken_in) told ∙ all-append taken_in (told_of node old.events) (told_of node lines) in
       record {
         bus = subst (after q)
             (sym (ap (grown no_bus_past) told ∙ grown-append no_bus_past (told_of node old.events)
-              (told_of node lines))) (b.bus (grown no_bus_past (told_of node old.events)) h.bus);
+            (told_of node lines))) (b.bus (grown no_bus_past (told_of node old.events)) h.bus);
         taken = subst (sink q) (sym took) (b.offers (all_in taken_in (told_of node old.events)) h.taken);
         once = subst (StartsUndone no_bus_past) (sym told)
             (starts_undone-append no_bus_past (told_of node old.events) (told_of node lines) h.once
             (b.undone (grown no_bus_past (told_of node old.events)) h.bus));
-        few = omega (arith, h.few, b.one_at_most, ls, ap length took,
-            length-append (all_in taken_in (told_of node old.events)) (all_in taken_in (told_of node lines)));
+        few = omega (
+          arith,
+          h.few,
+          b.one_at_most,
+          ls,
+          ap length took,
+          length-append (all_in taken_in (told_of node old.events)) (all_in taken_in (told_of node lines)),
+        );
       }
 
   pub site_on : (old new : SegmentValue) (from to : List P) →
@@ -48,10 +54,10 @@ module _ {P : Type 0} (after : P → BusPast → Type 0) (asked : P → List Bus
         let sends = some_there new.sending k (omega (arith, within, fit.size)) in
         let p = some_there from k (omega (arith, within, fit.size, h.fit.size, m.size)) in
         let longer : length new.levels ≡ length old.levels + 1 =
-            ap length m.levels_is ∙ length-append old.levels (m.level ∷ []) in
+        ap length m.levels_is ∙ length-append old.levels (m.level ∷ []) in
         subst (λ n. PortHolds after sink (n + k) new q) (sym (ap (λ (pl : _). length pl.talkers.items) m.plan_is))
         (port_on (length old.plan.talkers.items + k) old new m.lines _ sends.0 p.0 q m.events_is longer
-            (m.ports k sends.0 p.0 q sends.1 p.1 e) (h.each k p.0 p.1));
+        (m.ports k sends.0 p.0 q sends.1 p.1 e) (h.each k p.0 p.1));
   }
 
   pub ports_leave : (old new : SegmentValue) (from to : List P) →
@@ -75,9 +81,9 @@ site_quietly after transmitting sink old new ports left h = record {
   each = λ k port e.
       let was = h.each k port e in
       let same : told_of (length new.plan.talkers.items + k) new.events
-          ≡ told_of (length old.plan.talkers.items + k) old.events = ap
-          (λ (plan : SegmentPlan). told_of (length plan.talkers.items + k) new.events) left.plan_is
-          ∙ ap (told_of (length old.plan.talkers.items + k)) left.events_is in
+      ≡ told_of (length old.plan.talkers.items + k) old.events = ap
+      (λ (plan : SegmentPlan). told_of (length plan.talkers.items + k) new.events) left.plan_is
+      ∙ ap (told_of (length old.plan.talkers.items + k)) left.events_is in
       record {
         bus = subst (λ told. after port (grown no_bus_past told)) (sym same) was.bus;
         taken = subst (λ told. sink port (all_in taken_in told)) (sym same) was.taken;

@@ -24,7 +24,7 @@ pub piece_more : (a b c : Option (List ℕ)) (written count : ℕ) (text : List 
     Appends a c (take (written + count) text)
 piece_more a b c written count text p q =
     subst (Appends a c) (sym (take-add written count text))
-        (appends_on a b c (take written text) (take count (drop written text)) p q)
+    (appends_on a b c (take written text) (take count (drop written text)) p q)
 
 -- and none more
 pub piece_kept : (a b c : Option (List ℕ)) (xs : List ℕ) → Appends a b xs → Keeps b c → Appends a c xs
@@ -52,7 +52,7 @@ front_more said xs i x n lt is =
     let begun = take n (said x) in
     let rest = drop n (said x) ++ flat_map said (drop (i + 1) xs) in
     let next : drop i xs ≡ x ∷ drop (i + 1) xs =
-        drop-cons xs i x lt ∙ ap (λ y. y ∷ drop (suc i) xs) (sym is) ∙ ap (λ k. x ∷ drop k xs) (sym (add-one i)) in
+    drop-cons xs i x lt ∙ ap (λ y. y ∷ drop (suc i) xs) (sym is) ∙ ap (λ k. x ∷ drop k xs) (sym (add-one i)) in
     let all : flat_map said xs ≡ front ++ (begun ++ rest) =
     ap (flat_map said) (sym (take-append-drop i xs))
     ∙ flat_map-append said (take i xs) (drop i xs)

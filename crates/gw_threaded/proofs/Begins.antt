@@ -77,7 +77,7 @@ module _ {B S : Type 0} (NewSet : Bool → ℕ → B → Type 0) (Rel : B → �
           let before = same (record { site = i; port = k }) port (record { site = site; site_is = f; port_is = h }) in
           let opened = o.at i said before.1.site e before.1.site_is in
           port_kept s seats controller before.0 port before.2 (n.ports.at k controller port g h)
-              (opened.ports.at k controller before.0 g before.1.port_is);
+          (opened.ports.at k controller before.0 g before.1.port_is);
       size = n.ports.size;
     };
   }
@@ -87,8 +87,11 @@ module _ {B S : Type 0} (NewSet : Bool → ℕ → B → Type 0) (Rel : B → �
       Opens s sites lanes → Starts NewSet Rel s sites seats lanes
   starts s seats first sites lanes size o same opens = record {
     opens = opens;
-    each_site = record { at = λ i said site e f. site_kept s seats first sites i said site same o e f
-        (opens.each_site.at i said site e f); size = opens.each_site.size };
+    each_site = record {
+      at = λ i said site e f. site_kept s seats first sites i said site same o e f
+          (opens.each_site.at i said site e f);
+      size = opens.each_site.size;
+    };
     size = size;
   }
 
@@ -109,13 +112,13 @@ module _ {B S : Type 0} (after : B → BusPast → Type 0) (asked : B → List B
   ready_site s seats i site o = record {
     holds = site_starts after transmitting s i site (opened_new s seats i site o)
         (λ k port e. let made =
-            pair_at (λ j. OpensPort (IsNewSet after asked transmitting routes_of txfp_of) Rel s seats)
-            (controller_places s i) site.ports.items k port o.ports e in
-            (made.2.mail made.2.is_new.value made.2.is_new.value_is).bus)
+        pair_at (λ j. OpensPort (IsNewSet after asked transmitting routes_of txfp_of) Rel s seats)
+        (controller_places s i) site.ports.items k port o.ports e in
+        (made.2.mail made.2.is_new.value made.2.is_new.value_is).bus)
         (λ k port e. let made =
-            pair_at (λ j. OpensPort (IsNewSet after asked transmitting routes_of txfp_of) Rel s seats)
-            (controller_places s i) site.ports.items k port o.ports e in
-            (made.2.mail made.2.is_new.value made.2.is_new.value_is).idle);
+        pair_at (λ j. OpensPort (IsNewSet after asked transmitting routes_of txfp_of) Rel s seats)
+        (controller_places s i) site.ports.items k port o.ports e in
+        (made.2.mail made.2.is_new.value made.2.is_new.value_is).idle);
     no_levels = o.opens.no_levels;
     bits_is = o.plan_is.bits_is;
   }
@@ -123,7 +126,7 @@ module _ {B S : Type 0} (after : B → BusPast → Type 0) (asked : B → List B
   pub ready_sites : (s : ScriptValue) (sites : List (Site (Port B))) (seats : List (Option S)) (lanes : List Lane) →
       Starts (IsNewSet after asked transmitting routes_of txfp_of) Rel s sites seats lanes →
       Each (IsReadySite (λ (p : Port B) past. after p.mail past) (λ (p : Port B). transmitting p.mail) SinkStands
-          s.bits) sites
+      s.bits) sites
   ready_sites s sites seats lanes o =
       each_of _ sites
       (λ i site e. let made =
@@ -146,7 +149,7 @@ module _ {B S : Type 0} (NewSet : Bool → ℕ → B → Type 0) (Rel : B → �
       IsPlaceOf s controller place → IsAt sites place port → OpensPort NewSet Rel s seats controller port
   port_opened s sites seats lanes controller place port o is at =
       let site = pair_at (λ i said. OpensSite NewSet Rel s seats i) s.segments sites place.site at.site o.each_site
-          at.site_is in
+      at.site_is in
       site.2.ports.at place.port controller port is at.port_is
 
   pub side_at : (s : ScriptValue) (sites : List (Site (Port B))) (seats : List (Option S)) (lanes : List Lane) (k : ℕ)
@@ -158,8 +161,14 @@ module _ {B S : Type 0} (NewSet : Bool → ℕ → B → Type 0) (Rel : B → �
       let to = place_there s sites made.0.target lane.target sound o.opens.each_site own.target_is in
       let opened = port_opened s sites seats lanes made.0.target lane.target to.port o own.target_is to.at in
       let side = opened.seated lane.number (number_below s made.0.target lane.number k own.number_is) in
-      record { to = to.port; to_is = to.at; side = side.0; side_there =
-          ap (slice_get seats) (sym (seat_is s made.0.target lane.number k own.number_is)) ∙ side.1; is_side = side.2 }
+      record {
+        to = to.port;
+        to_is = to.at;
+        side = side.0;
+        side_there =
+            ap (slice_get seats) (sym (seat_is s made.0.target lane.number k own.number_is)) ∙ side.1;
+        is_side = side.2;
+      }
 
   pub sides_there : (s : ScriptValue) (sites : List (Site (Port B))) (seats : List (Option S)) (lanes : List Lane) →
       IsSound s → Starts NewSet Rel s sites seats lanes → AreThere (length lanes) seats
@@ -186,8 +195,11 @@ module _ {B S G : Type 0} (NewSet : Bool → ℕ → B → Type 0) (side_of : B 
       let made = pair_at (λ j route. IsNewLane s j route) s.routes lanes k lane.0 o.opens.each_lane lane.1 in
       let side : at.side ≡ courier.side = same_place seats k at.side courier.side at.side_there lane.2.side_there in
       record {
-        linked = (no_route_past, subst (λ x. after x no_route_past) side at.is_side.1,
-            subst (λ hand. LogMatches (hand_value hand) no_route_past) (sym lane.2.hand_is) made.2.linked);
+        linked = (
+          no_route_past,
+          subst (λ x. after x no_route_past) side at.is_side.1,
+          subst (λ hand. LogMatches (hand_value hand) no_route_past) (sym lane.2.hand_is) made.2.linked,
+        );
         log = subst (λ hand. LogsReleased (hand_value hand)) (sym lane.2.hand_is) made.2.log;
       })
 
@@ -199,8 +211,10 @@ module _ {B S : Type 0} (NewSet : Bool → ℕ → B → Type 0) (Rel : B → �
     at = λ i said site e f. (let opened = o.at i said site e f in record {
       plan_is = opened.plan_is;
       opens = opened.opens;
-      ports = record { at = λ k controller port g h. (opened.ports.at k controller port g h).is_new;
-          size = opened.ports.size };
+      ports = record {
+        at = λ k controller port g h. (opened.ports.at k controller port g h).is_new;
+        size = opened.ports.size;
+      };
     });
     size = o.size;
   }

@@ -59,9 +59,12 @@ module _ {B S : Type 0} (bus_after : B → BusPast → Type 0) (transmitting : B
       Pairs (λ k. MayClose routes_of side_of s seats) (controller_places s i) site.ports.items
   may_close_all s sites seats lanes h i site e =
       let made = pair_at (λ j segment. HasRunSite bus_after transmitting route_after routes_of txfp_of side_of s seats
-          j) s.segments sites i site h.each_site e in
-      record { at = λ k controller port f g. (made.2.ports.at k controller port f g).may_close; size =
-          made.2.ports.size }
+      j) s.segments sites i site h.each_site e in
+      record {
+        at = λ k controller port f g. (made.2.ports.at k controller port f g).may_close;
+        size =
+            made.2.ports.size;
+      }
 
   module _ (room : ℕ) where
     sink_closed : (s : ScriptValue) (seats : List (Option S)) (controller : ℕ) (port : Port B) (closed : ClosedPort)
@@ -83,7 +86,7 @@ module _ {B S : Type 0} (bus_after : B → BusPast → Type 0) (transmitting : B
           let side = p.may_close.seated 0 (omega (arith, none)) in
           subst (λ m. NothingOf m did closed.mail.left.items) (sym zero_is)
           (tied_nothing (txfp_of port.mail) 0 did closed.mail.left.items
-              (c.tied 0 side.0 did no_route_past (omega (arith, none)) side.1 bus (p.unasked side.0 none side.1))))
+          (c.tied 0 side.0 did no_route_past (omega (arith, none)) side.1 bus (p.unasked side.0 none side.1))))
       | inr beyond ↦ c.beyond did bus n beyond
     ]
 
@@ -109,17 +112,17 @@ module _ {B S : Type 0} (bus_after : B → BusPast → Type 0) (transmitting : B
     site_closed s seats i site closed c d =
         subst (λ (v : SegmentValue). IsDoneSite s i (record { segment = v; ports = closed.ports })) (sym c.segment_is)
         (record {
-      plan_is = d.plan_is;
-      made = d.made;
-      ports = record {
-        at = λ k controller late e f.
-            let port = pair_at (ClosesNth bus_after route_after txfp_of room s seats i) site.ports.items
+          plan_is = d.plan_is;
+          made = d.made;
+          ports = record {
+            at = λ k controller late e f.
+                let port = pair_at (ClosesNth bus_after route_after txfp_of room s seats i) site.ports.items
                 closed.ports.items k late c.ports f in
-            port_closed s seats controller (length site.segment.plan.talkers.items + k) site.segment port.0 late
+                port_closed s seats controller (length site.segment.plan.talkers.items + k) site.segment port.0 late
                 (port.2.at controller e) (d.ports.at k controller port.0 e port.1) (d.holds.each k port.0 port.1);
-        size = c.ports.size ∙ d.ports.size;
-      };
-    })
+            size = c.ports.size ∙ d.ports.size;
+          };
+        })
 
     abbrev pub ClosedSites : ScriptValue → List (Option S) → List (Site (Port B)) → List ClosedSite → Type 0
     ClosedSites s seats sites closed = Pairs (ClosesSite bus_after route_after txfp_of room s seats) sites closed
@@ -130,11 +133,16 @@ module _ {B S : Type 0} (bus_after : B → BusPast → Type 0) (transmitting : B
         ClosedAt bus_after route_after txfp_of room s seats controller at.site closed place port
     closed_at s seats sites closed controller place port c at is =
         let site = pair_of (ClosesSite bus_after route_after txfp_of room s seats) sites closed place.site at.site c
-            at.site_is in
+        at.site_is in
         let late = pair_of (ClosesNth bus_after route_after txfp_of room s seats place.site) at.site.ports.items
-            site.0.ports.items place.port port site.2.ports at.port_is in
-        record { late = late.0; there = record { site = site.0; site_is = site.1; port_is = late.1 }; closes =
-            late.2.at controller is; segment_is = site.2.segment_is }
+        site.0.ports.items place.port port site.2.ports at.port_is in
+        record {
+          late = late.0;
+          there = record { site = site.0; site_is = site.1; port_is = late.1 };
+          closes =
+              late.2.at controller is;
+          segment_is = site.2.segment_is;
+        }
 
     takes_closed : (s : ScriptValue) (seats : List (Option S)) (controller : ℕ) (lane : Lane) (port : Port B)
         (closed : ClosedPort) → ClosesPort bus_after route_after txfp_of room s seats controller port closed →
@@ -154,27 +162,30 @@ module _ {B S : Type 0} (bus_after : B → BusPast → Type 0) (transmitting : B
         RunSites s seats sites → HasRunLane route_after s sites seats k route lane → IsDoneLane s closed k route lane
     lane_closed s seats sites closed k route lane sound c d l =
         let segment = some_there s.segments lane.target.site
-            (segment_there s route.target lane.target sound l.lane_is.target_is) in
+        (segment_there s route.target lane.target sound l.lane_is.target_is) in
         let found = pair_of (λ i segment. HasRunSite bus_after transmitting route_after routes_of txfp_of side_of s
-            seats i) s.segments sites lane.target.site segment.0 d segment.1 in
+        seats i) s.segments sites lane.target.site segment.0 d segment.1 in
         let site = found.0 in
         let into = pair_of (λ j. RunPort s seats) (controller_places s lane.target.site) site.ports.items
-            lane.target.port route.target found.2.ports l.lane_is.target_is in
+        lane.target.port route.target found.2.ports l.lane_is.target_is in
         let own = into.2 in
         let at : IsAt sites lane.target into.0 = record { site = site; site_is = found.1; port_is = into.1 } in
         let to = closed_at s seats sites closed route.target lane.target into.0 c at l.lane_is.target_is in
         let from = closed_at s seats sites closed route.source lane.source l.takes.from c l.takes.from_is
-            l.lane_is.source_is in
+        l.lane_is.source_is in
         let holds = found.2.holds.each lane.target.port into.0 into.1 in
         let did = grown no_bus_past
-            (told_of (length site.segment.plan.talkers.items + lane.target.port) site.segment.events) in
+        (told_of (length site.segment.plan.talkers.items + lane.target.port) site.segment.events) in
         let past = l.linked.0 in
         let seat = seat_is s route.target lane.number k l.lane_is.number_is in
         record {
           lane_is = l.lane_is;
           log = l.log;
-          takes = record { from = from.late; from_is = from.there;
-              takes = takes_closed s seats route.source lane l.takes.from from.late from.closes l.takes.takes };
+          takes = record {
+            from = from.late;
+            from_is = from.there;
+            takes = takes_closed s seats route.source lane l.takes.from from.late from.closes l.takes.takes;
+          };
           closes = record {
             to = to.late;
             to_is = to.there;
@@ -186,10 +197,10 @@ module _ {B S : Type 0} (bus_after : B → BusPast → Type 0) (transmitting : B
                 (grown no_bus_past (told_of (length v.plan.talkers.items + lane.target.port) v.events)) past
                 (left_of lane.number to.late.mail.left.items)) (sym to.segment_is)
                 (subst (λ txfp. RouteTied txfp lane.number did past (left_of lane.number to.late.mail.left.items))
-                    own.priority_is
+                own.priority_is
                 (to.closes.tied lane.number l.side did past
-                    (number_below s route.target lane.number k l.lane_is.number_is)
-                    (ap (slice_get seats) seat ∙ l.side_there) holds.bus l.linked.1));
+                (number_below s route.target lane.number k l.lane_is.number_is)
+                (ap (slice_get seats) seat ∙ l.side_there) holds.bus l.linked.1));
           };
         }
 
@@ -203,8 +214,11 @@ module _ {B S : Type 0} (bus_after : B → BusPast → Type 0) (transmitting : B
             site_closed s seats i site.0 late site.2 (h.each_site.at i segment site.0 e site.1);
         size = c.size ∙ h.each_site.size;
       };
-      each_lane = record { at = λ k route lane e f. lane_closed s seats sites closed k route lane sound c h.each_site
-          (h.each_lane.at k route lane e f); size = h.each_lane.size };
+      each_lane = record {
+        at = λ k route lane e f. lane_closed s seats sites closed k route lane sound c h.each_site
+            (h.each_lane.at k route lane e f);
+        size = h.each_lane.size;
+      };
     }
 
     -- no more wait than there is room for
@@ -213,11 +227,11 @@ module _ {B S : Type 0} (bus_after : B → BusPast → Type 0) (transmitting : B
         HasRun bus_after transmitting route_after routes_of txfp_of side_of s sites seats lanes → WaitAtMost room closed
     few_closed s seats sites lanes closed c h place late at =
         let site = pair_at (ClosesSite bus_after route_after txfp_of room s seats) sites closed place.site at.site c
-            at.site_is in
+        at.site_is in
         let made = pair_at (λ j segment. HasRunSite bus_after transmitting route_after routes_of txfp_of side_of s seats
-            j) s.segments sites place.site site.0 h.each_site site.1 in
+        j) s.segments sites place.site site.0 h.each_site site.1 in
         let port = pair_at (ClosesNth bus_after route_after txfp_of room s seats place.site) site.0.ports.items
-            at.site.ports.items place.port late site.2.ports at.port_is in
+        at.site.ports.items place.port late site.2.ports at.port_is in
         let controller = pair_at (λ j. RunPort s seats) (controller_places s place.site) site.0.ports.items place.port
-            port.0 made.2.ports port.1 in
+        port.0 made.2.ports port.1 in
         (port.2.at controller.0 controller.1).few

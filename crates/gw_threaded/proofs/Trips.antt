@@ -147,7 +147,7 @@ module _ {S G : Type 0} (after : S → RoutePast → Type 0) (stays : S → S �
     at = λ k less.
         let new = some_there made k (omega (arith, less, m.size, r.size, p.couriers_are.size)) in
         let back_at =
-            returned after stays seats behind late gates lanes made leads couriers back p r m h k new.0 new.1 in
+        returned after stays seats behind late gates lanes made leads couriers back p r m h k new.0 new.1 in
         (back_at.2.from.side, back_at.2.to.side, back_at.2.side_was, back_at.2.side_is, back_at.2.runs.stays_on);
     spare =
         λ place above. h.leaves.others place (omega (arith, above, r.size, p.couriers_are.size)) ∙ l.others place above;
@@ -185,17 +185,21 @@ module _ {B S : Type 0} (bus_after : B → BusPast → Type 0) (asked : B → Li
       IsAt sites place old → LateAt bus_stays late place old
   late_at sites late place old r at =
       let site = pair_of (λ i. SiteRuns (λ (p : Port B) past. bus_after p.mail past)
-          (λ (p : Port B). transmitting p.mail) SinkStands (PortLeaves bus_stays)) sites late place.site at.site r
-          at.site_is in
+      (λ (p : Port B). transmitting p.mail) SinkStands (PortLeaves bus_stays)) sites late place.site at.site r
+      at.site_is in
       let within = slice_get_within at.site.ports.items place.port old at.port_is in
       let port = some_there site.0.ports.items place.port (omega (arith, within, site.2.ports.size)) in
-      record { late = port.0; there = record { site = site.0; site_is = site.1; port_is = port.1 }; leaves =
-          site.2.ports.at place.port old port.0 at.port_is port.1 }
+      record {
+        late = port.0;
+        there = record { site = site.0; site_is = site.1; port_is = port.1 };
+        leaves =
+            site.2.ports.at place.port old port.0 at.port_is port.1;
+      }
 
   module _ (side_stays : (a b : B) (route : ℕ) (x : S) → bus_stays a b → side_of a route x → side_of b route x)
       (side_moves : (a : B) (route : ℕ) (x y : S) → stays x y → side_of a route x → side_of a route y)
       (routes_stay : (a b : B) → bus_stays a b → routes_of b ≡ routes_of a)
-          (txfp_stays : (a b : B) → bus_stays a b → txfp_of b ≡ txfp_of a) where
+      (txfp_stays : (a b : B) → bus_stays a b → txfp_of b ≡ txfp_of a) where
     -- a side of the mailboxes stands at the place of each number
     seated_on : (s : ScriptValue) (seats late : List (Option S)) (controller : ℕ) (old new : Port B) →
         SeatsKept stays (length s.routes) seats late → PortLeaves bus_stays old new →
@@ -210,15 +214,18 @@ module _ {B S : Type 0} (bus_after : B → BusPast → Type 0) (asked : B → Li
             × (slice_get late (seat_of s controller n) ≡ Some (Some x)) × side_of new.mail n x
         by_route None e =
             let spare : length s.routes ≤ seat_of s controller n =
-                omega (arith, ap (seat_from (length s.routes + controller)) e) in
+            omega (arith, ap (seat_from (length s.routes + controller)) e) in
             (was.0, k.spare (seat_of s controller n) spare ∙ was.1, side_stays old.mail new.mail n was.0 l.mail was.2.0)
         by_route (Some route) e =
             let at = seat_is s controller n route e in
             let moved = k.at route (route_within s controller n route e) in
             let same : was.0 ≡ moved.0 =
-                same_place seats route was.0 moved.0 (ap (slice_get seats) (sym at) ∙ was.1) moved.2 in
-            (moved.1, ap (slice_get late) at ∙ moved.3, side_moves new.mail n moved.0 moved.1 moved.4
-                (side_stays old.mail new.mail n moved.0 l.mail (subst (side_of old.mail n) same was.2.0)))
+            same_place seats route was.0 moved.0 (ap (slice_get seats) (sym at) ∙ was.1) moved.2 in (
+              moved.1,
+              ap (slice_get late) at ∙ moved.3,
+              side_moves new.mail n moved.0 moved.1 moved.4
+                  (side_stays old.mail new.mail n moved.0 l.mail (subst (side_of old.mail n) same was.2.0)),
+            )
 
     port_run : (s : ScriptValue) (seats late : List (Option S)) (controller : ℕ) (old new : Port B) →
         SeatsKept stays (length s.routes) seats late → PortLeaves bus_stays old new →
@@ -237,9 +244,9 @@ module _ {B S : Type 0} (bus_after : B → BusPast → Type 0) (asked : B → Li
           let first = o.seated 0 (omega (arith, none)) in
           let nobody = no_route s controller none in
           let spare : length s.routes ≤ seat_of s controller 0 =
-              omega (arith, ap (seat_from (length s.routes + controller)) nobody) in
+          omega (arith, ap (seat_from (length s.routes + controller)) nobody) in
           let same : first.0 ≡ side = same_place seats (seat_of s controller 0) first.0 side first.1
-              (sym (k.spare (seat_of s controller 0) spare) ∙ there) in
+          (sym (k.spare (seat_of s controller 0) spare) ∙ there) in
           subst (λ x. route_after x no_route_past) same first.2.1;
     }
 
@@ -257,7 +264,7 @@ module _ {B S : Type 0} (bus_after : B → BusPast → Type 0) (asked : B → Li
             let within = slice_get_within new.ports.items j port f in
             let before = some_there old.ports.items j (omega (arith, within, r.ports.size)) in
             port_run s seats late controller before.0 port k (r.ports.at j before.0 port before.1 f)
-                (o.ports.at j controller before.0 e before.1);
+            (o.ports.at j controller before.0 e before.1);
         size = r.ports.size ∙ o.ports.size;
       };
     }
@@ -269,11 +276,11 @@ module _ {B S : Type 0} (bus_after : B → BusPast → Type 0) (asked : B → Li
     lane_run s sites last seats late k route old new r back n t =
         let port = late_at sites last old.source t.from r t.from_is in
         let queue : new.hand.out.queue ≡ old.hand.out.queue = ap (λ (x : RouteHand). x.out.queue) back.hand_is
-            ∙ back.runs.queue_is ∙ ap (λ (x : RouteHand). x.out.queue) back.hand_was in
+        ∙ back.runs.queue_is ∙ ap (λ (x : RouteHand). x.out.queue) back.hand_was in
         let rewrites : new.hand.rewrites ≡ old.hand.rewrites = ap (λ (x : RouteHand). x.rewrites) back.hand_is
-            ∙ back.runs.rewrites_are ∙ ap (λ (x : RouteHand). x.rewrites) back.hand_was in
+        ∙ back.runs.rewrites_are ∙ ap (λ (x : RouteHand). x.rewrites) back.hand_was in
         let plan = back.runs.plan (aborts_of s k)
-            (subst (λ hand. FromPlan (aborts_of s k) (hand_value hand)) (sym back.hand_was) n.lane_is.plan) in
+        (subst (λ hand. FromPlan (aborts_of s k) (hand_value hand)) (sym back.hand_was) n.lane_is.plan) in
         record {
           lane_is = lane_on s k route old new back.lead_is rewrites
               (subst (λ hand. FromPlan (aborts_of s k) (hand_value hand)) (sym back.hand_is) plan) n.lane_is;
@@ -301,22 +308,22 @@ module _ {B S : Type 0} (bus_after : B → BusPast → Type 0) (asked : B → Li
     has_run s sites last seats behind late gates lanes made leads couriers back o p l r w m h =
         let count = o.opens.each_lane.size in
         let kept = subst (λ n. SeatsKept stays n seats late) count
-            (seats_kept route_after stays seats behind late gates lanes made leads couriers back p w m l h) in
+        (seats_kept route_after stays seats behind late gates lanes made leads couriers back p w m l h) in
         record {
           each_site = record {
             at = λ i segment site e f.
                 let within = slice_get_within last i site f in
                 let old = some_there sites i (omega (arith, within, r.size)) in
                 site_run s seats late i old.0 site kept (o.each_site.at i segment old.0 e old.1)
-                    (r.at i old.0 site old.1 f);
+                (r.at i old.0 site old.1 f);
             size = r.size ∙ o.each_site.size;
           };
           each_lane = record {
             at = λ k route lane e f.
                 let old = returned route_after stays seats behind late gates lanes made leads couriers back p w m h k
-                    lane f in
+                lane f in
                 lane_run s sites last seats late k route old.0 lane r old.2 (o.opens.each_lane.at k route old.0 e old.1)
-                    (o.opens.takes k old.0 old.1);
+                (o.opens.takes k old.0 old.1);
             size = omega (arith, m.size, w.size, p.couriers_are.size, count);
           };
           size = kept.size ∙ o.size;

@@ -27,9 +27,9 @@ seen_set [] words i j h = h
 seen_set seen words i j h = dite (ℕ_discrete j i)
     (λ e. dite (dec_le (suc i) (length seen))
     (λ l. subst (λ (k : ℕ). get_or (set seen i (get_or words (word_of i) 0)) k 0 ≤ get_or words (word_of k) 0) (sym e)
-        (let g = get_or-set_same seen i (get_or words (word_of i) 0) 0 (omega arith) in omega arith))
+    (let g = get_or-set_same seen i (get_or words (word_of i) 0) 0 (omega arith) in omega arith))
     (λ n. subst (λ (l : List ℕ). get_or l j 0 ≤ get_or words (word_of j) 0)
-        (sym (set_past seen i (get_or words (word_of i) 0) (omega arith))) h))
+    (sym (set_past seen i (get_or words (word_of i) 0) (omega arith))) h))
     (λ n. let g = get_or-set_other seen i j (get_or words (word_of i) 0) 0 n in omega arith)
 
 -- what another seat knows is not touched
@@ -53,15 +53,18 @@ looks-keep p slots id i v s k long me fits = let w = looked_at v i (get_or s.wor
   tt,
   subst (λ (ws : List ℕ). Kept p (record { words = ws; homes = s.homes; views = set s.views id w }))
       (sym (set-get_or s.words (word_of i) 0)) (record {
-    owner = k.owner;
-    wide = k.wide;
-    pace = k.pace;
-    done = k.done;
-    short = k.short;
-    knows = λ j u e. knows_on p k.owner s.words s.views id j w u (λ j u a n. k.knows j u a)
-        (let g = k.knows id v me in record { seen = λ q l. seen_set v.seen s.words i q (g.seen q l); mine = g.mine;
-              few = g.few }) e;
-  }),
+        owner = k.owner;
+        wide = k.wide;
+        pace = k.pace;
+        done = k.done;
+        short = k.short;
+        knows = λ j u e. knows_on p k.owner s.words s.views id j w u (λ j u a n. k.knows j u a)
+            (let g = k.knows id v me in record {
+              seen = λ q l. seen_set v.seen s.words i q (g.seen q l);
+              mine = g.mine;
+              few = g.few;
+            }) e;
+      }),
   λ j e. ap (λ q. clock_of (looked_at v q (get_or s.words (word_of i) 0))) (same_clock i j e),
 )
 
@@ -74,13 +77,13 @@ watches-keep p slots id i v s k long me fits = (
   tt,
   subst (λ (ws : List ℕ). Kept p (record { words = ws; homes = s.homes; views = set s.views id v }))
       (sym (set-get_or s.words i 0)) (record {
-    owner = k.owner;
-    wide = k.wide;
-    pace = k.pace;
-    done = k.done;
-    short = k.short;
-    knows = λ j u e. knows_on p k.owner s.words s.views id j v u (λ j u a n. k.knows j u a) (k.knows id v me) e;
-  }),
+        owner = k.owner;
+        wide = k.wide;
+        pace = k.pace;
+        done = k.done;
+        short = k.short;
+        knows = λ j u e. knows_on p k.owner s.words s.views id j v u (λ j u a n. k.knows j u a) (k.knows id v me) e;
+      }),
   refl,
 )
 
@@ -91,7 +94,7 @@ pub stops-keep : (p : Pace) (slots id n : ℕ) (v : Pacer) →
 stops-keep p slots id n v s k long me fits =
     let ws = set s.words (word_of p.segments) n in
     let else : (j : ℕ) → j < p.segments → get_or ws (word_of j) 0 ≡ get_or s.words (word_of j) 0 =
-        λ j l. get_or-set_other s.words (word_of p.segments) (word_of j) n 0 (λ e. omega arith) in
+    λ j l. get_or-set_other s.words (word_of p.segments) (word_of j) n 0 (λ e. omega arith) in
     let same : (j : ℕ) (u : Pacer) → Knows p k.owner s.words j u → Knows p k.owner ws j u = λ j u g. record {
       seen = λ q l. let o = g.seen q l in let a = else q l in omega arith;
       mine = λ q a b. let m = g.mine q a b in let few = g.few in (m.0, else q (omega arith) ∙ m.1);
@@ -123,12 +126,12 @@ ticks-keep p slots id v inside may s k long me fits =
     let next : (n + 1) % 2 ^ 64 ≡ n + 1 = mod-eq_of_lt (let a = k.short in let b = may.short in omega arith) in
     let ws = set s.words (word_of i) (n + 1) in
     let at : get_or ws (word_of i) 0 ≡ n + 1 =
-        get_or-set_same s.words (word_of i) (n + 1) 0 (let w = k.wide in omega arith) in
+    get_or-set_same s.words (word_of i) (n + 1) 0 (let w = k.wide in omega arith) in
     let else : (j : ℕ) → ¬ (j ≡ i) → get_or ws (word_of j) 0 ≡ get_or s.words (word_of j) 0 =
-        λ j a. get_or-set_other s.words (word_of i) (word_of j) (n + 1) 0 (λ e. a (same_clock j i e)) in
+    λ j a. get_or-set_other s.words (word_of i) (word_of j) (n + 1) 0 (λ e. a (same_clock j i e)) in
     let rises : (j : ℕ) → get_or s.words (word_of j) 0 ≤ get_or ws (word_of j) 0 =
     λ j. dite (ℕ_discrete j i) (λ e. subst (λ (q : ℕ). get_or s.words (word_of q) 0 ≤ get_or ws (word_of q) 0) (sym e)
-        (omega arith)) (λ a. let g = else j a in omega arith) in
+    (omega arith)) (λ a. let g = else j a in omega arith) in
     let w = ticked v in (
       w,
       keeps,
@@ -136,33 +139,33 @@ ticks-keep p slots id v inside may s k long me fits =
       subst
           (λ (x : ℕ). Kept p (record { words = set s.words (word_of i) x; homes = s.homes; views = set s.views id w }))
           (sym next) (record {
-        owner = k.owner;
-        wide = length-set s.words (word_of i) (n + 1) ∙ k.wide;
-        pace = λ a b la lb. dite (ℕ_discrete a i)
-            (λ e. dite (ℕ_discrete b i) (λ f. let g : get_or ws (word_of a) 0 ≡ get_or ws (word_of b) 0 =
-                  ap (λ q. get_or ws (word_of q) 0) (e ∙ sym f) in omega arith)
-            (λ f. let near = may.near b lb f in let low = (k.knows id v me).seen b lb in let g = else b f in
+            owner = k.owner;
+            wide = length-set s.words (word_of i) (n + 1) ∙ k.wide;
+            pace = λ a b la lb. dite (ℕ_discrete a i)
+                (λ e. dite (ℕ_discrete b i) (λ f. let g : get_or ws (word_of a) 0 ≡ get_or ws (word_of b) 0 =
+                ap (λ q. get_or ws (word_of q) 0) (e ∙ sym f) in omega arith)
+                (λ f. let near = may.near b lb f in let low = (k.knows id v me).seen b lb in let g = else b f in
                 let h : get_or ws (word_of a) 0 ≡ n + 1 = ap (λ q. get_or ws (word_of q) 0) e ∙ at in omega arith))
-            (λ e. let g = else a e in let h = rises b in let o = k.pace a b la lb in omega arith);
-        done = λ a la. dite (ℕ_discrete a i) (λ e. let h : get_or ws (word_of a) 0 ≡ n + 1 =
-            ap (λ q. get_or ws (word_of q) 0) e ∙ at in let b = may.short in omega arith) (λ e. let g = else a e in
-            let o = k.done a la in omega arith);
-        short = k.short;
-        knows = λ j u e. knows_on p k.owner ws s.views id j w u
-            (λ j u a apart. let g = k.knows j u a in record {
-              seen = λ q l. let o = g.seen q l in let h = rises q in omega arith;
-              mine = λ q b c. let m =
-                  g.mine q b c in (m.0, else q (λ f. apart (sym m.0 ∙ ap k.owner f ∙ mine.0)) ∙ m.1);
-              few = g.few;
-            })
-            (let g = k.knows id v me in record {
-              seen = λ q l. let o = g.seen q l in let h = rises q in omega arith;
-              mine = λ q b c. let m = g.mine q b c in let one = may.one in let f : q ≡ i = omega arith in
-                  (m.0, ap (λ q. get_or ws (word_of q) 0) f ∙ at ∙ ap (λ x. x + 1) is);
-              few = g.few;
-            })
-            e;
-      }),
+                (λ e. let g = else a e in let h = rises b in let o = k.pace a b la lb in omega arith);
+            done = λ a la. dite (ℕ_discrete a i) (λ e. let h : get_or ws (word_of a) 0 ≡ n + 1 =
+                ap (λ q. get_or ws (word_of q) 0) e ∙ at in let b = may.short in omega arith) (λ e. let g = else a e in
+                let o = k.done a la in omega arith);
+            short = k.short;
+            knows = λ j u e. knows_on p k.owner ws s.views id j w u
+                (λ j u a apart. let g = k.knows j u a in record {
+                  seen = λ q l. let o = g.seen q l in let h = rises q in omega arith;
+                  mine = λ q b c. let m =
+                      g.mine q b c in (m.0, else q (λ f. apart (sym m.0 ∙ ap k.owner f ∙ mine.0)) ∙ m.1);
+                  few = g.few;
+                })
+                (let g = k.knows id v me in record {
+                  seen = λ q l. let o = g.seen q l in let h = rises q in omega arith;
+                  mine = λ q b c. let m = g.mine q b c in let one = may.one in let f : q ≡ i = omega arith in
+                      (m.0, ap (λ q. get_or ws (word_of q) 0) f ∙ at ∙ ap (λ x. x + 1) is);
+                  few = g.few;
+                })
+                e;
+          }),
       refl,
     )
 
@@ -212,7 +215,7 @@ deals-keep p id v some_left s k me =
           })
           old)
           (λ (t : (j ≡ n) × (one_of v ≡ u)). subst (λ (x : ℕ × Pacer). Knows p owner s.words x.0 x.1)
-              (λ r. (sym t.0 r, t.1 r)) (record {
+          (λ r. (sym t.0 r, t.1 r)) (record {
             seen = g.seen;
             mine = λ q b c. let f : q ≡ v.first =
                 omega arith in (given_here k.owner v.first n q f, ap (λ x. get_or s.words (word_of x) 0) f ∙ first.1);
@@ -231,7 +234,7 @@ lends-keep p id v s k me = let g = k.knows id v me in record {
   knows = λ j u e. ⊎_elim
       (λ old. knows_on p k.owner s.words s.views id j v u (λ j u a apart. k.knows j u a) g old)
       (λ (t : (j ≡ length (set s.views id v)) × (watcher_of v ≡ u)). subst
-          (λ (w : Pacer). Knows p k.owner s.words j w) t.1 (record {
+      (λ (w : Pacer). Knows p k.owner s.words j w) t.1 (record {
         seen = g.seen;
         mine = λ q b c. absurd (omega arith);
         few = omega arith;
@@ -244,7 +247,7 @@ pub begins : (p : Pace) (ws : List ℕ) → ws ≡ replicate (word_of p.segments
     Kept p (opening ws [] (first_pacer p))
 begins p ws e short =
     let zeros : (j : ℕ) → j < p.segments → get_or ws (word_of j) 0 ≡ 0 = λ j l. ap (λ l. get_or l (word_of j) 0) e
-        ∙ get_or-replicate (word_of p.segments + 1) (word_of j) 0 0 (omega arith) in
+    ∙ get_or-replicate (word_of p.segments + 1) (word_of j) 0 0 (omega arith) in
     record {
       owner = λ _. 0;
       wide = ap length e ∙ length-replicate (word_of p.segments + 1) 0;

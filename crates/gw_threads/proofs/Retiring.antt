@@ -19,8 +19,15 @@ one_retired count old mid new seat is one even r = record {
   even = λ h. (
       let put = ap (λ (v : Account). weigh h v.put) is in
       let taken = ap (λ (v : Account). weigh h v.taken) is in
-      omega (arith, put, taken, even h, r.even h, weigh-append h mid.put seat.put,
-          weigh-append h mid.taken seat.taken));
+      omega (
+        arith,
+        put,
+        taken,
+        even h,
+        r.even h,
+        weigh-append h mid.put seat.put,
+        weigh-append h mid.taken seat.taken,
+      ));
 }
 
 -- what each thread kept of its start holds of what it gave
@@ -30,9 +37,11 @@ pub each_kept : {T : Type 0} (Kept : T → PoolPlace → Type 0) (P : PoolPlace 
 each_kept Kept P Q [] [] on each p = tt
 each_kept Kept P Q [] (s ∷ ss) on each p = absurd (omega (arith, p.size))
 each_kept Kept P Q (t ∷ ts) [] on each p = absurd (omega (arith, p.size))
-each_kept Kept P Q (t ∷ ts) (s ∷ ss) on each p =
-    (on t s each.0 (p.at 0 t s refl refl), each_kept Kept P Q ts ss on each.1
-        (record { at = λ k a b e f. p.at (suc k) a b e f; size = omega (arith, p.size) }))
+each_kept Kept P Q (t ∷ ts) (s ∷ ss) on each p = (
+  on t s each.0 (p.at 0 t s refl refl),
+  each_kept Kept P Q ts ss on each.1
+      (record { at = λ k a b e f. p.at (suc k) a b e f; size = omega (arith, p.size) }),
+)
 
 -- what is owed behind all that
 pub owed_back : (n workers : ℕ) (dealt rest back : Account) → dealt ≡ account 1024 (places n) [] →

@@ -15,8 +15,10 @@ may_tick bits made limit c t may left = record {
 
 -- one that may go far may go less far
 pub less_far : (now limit : ℕ) (c : ClockPlace) → now ≤ limit → MayGo limit c → MayGo now c
-less_far now limit c less may = record { near = λ j l n. (let near = may.near j l n in omega (arith, near, less));
-    most = omega (arith, may.most, less) }
+less_far now limit c less may = record {
+  near = λ j l n. (let near = may.near j l n in omega (arith, near, less));
+  most = omega (arith, may.most, less);
+}
 
 -- no clock may go nowhere
 pub may_stay : (c : ClockPlace) → MayGo 0 c

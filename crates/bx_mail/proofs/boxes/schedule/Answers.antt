@@ -9,4 +9,4 @@ pub returns-then-is_pending-clause-ready : goal.returns-then-is_pending-clause-r
 returns-then-is_pending-clause-ready c = starts_set c.args.boxes.now.items c.set_at.new.boxes.items c.in-Some.waiting
     (record c.in-Some.waiting { status = Scheduled }) c.may_start.result
     (sym (c.first.ensures ∙ ap (λ q. slice_get q 0) c.as_slice.ensures.value) ∙ c.in-Some.is) c.set_at.ensures
-        c.may_start.ensures
+    c.may_start.ensures

@@ -20,7 +20,7 @@ pub returns : goal.returns
 returns g c = let v = view c.args.pass.now in let w = view c.loop.pass in let h = c.learn_as-2.ensures.rule in let i =
     c.loop.invariant in let n = i.2 in
     drained v w c.loop.posts.items h.0 i.1 h.1
-        (none_behind v w c.loop.posts.items h.0 c.requires.all i.3 i.1 h.1 (omega (arith, n, c.loop-test.false)))
+    (none_behind v w c.loop.posts.items h.0 c.requires.all i.3 i.1 h.1 (omega (arith, n, c.loop-test.false)))
 
 pub returns-in_default : goal.returns-in_default
 returns-in_default g c = let v = view c.args.pass.now in let w = view c.loop.pass in let h =

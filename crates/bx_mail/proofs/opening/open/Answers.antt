@@ -16,9 +16,18 @@ another-posting-requires-clause-rule c =
 
 pub invariant_of-bus : goal.invariant_of-bus
 invariant_of-bus c = let i = c.loop-route.invariant in let u = view c.loop-route.pass in let few = c.requires in
-    let end = c.loop-route.auto.route-end in let made = ap (λ v. v.made) i.2 in
-    (i.0, log_form u [] c.loop-route.route i.2,
-        (no_bus_past,
-          opened (record { queue = c.loop-route.pass.table_id; routes = u.made; got = u.got;
-              boxes = c.new-2.result.items; aside = None }) (omega (arith, few, end, made))
-          (ap (λ v. v.got) i.2) c.new-2.ensures refl))
+    let end = c.loop-route.auto.route-end in let made = ap (λ v. v.made) i.2 in (
+      i.0,
+      log_form u [] c.loop-route.route i.2,
+      (
+        no_bus_past,
+        opened (record {
+          queue = c.loop-route.pass.table_id;
+          routes = u.made;
+          got = u.got;
+          boxes = c.new-2.result.items;
+          aside = None;
+        }) (omega (arith, few, end, made))
+            (ap (λ v. v.got) i.2) c.new-2.ensures refl,
+      ),
+    )

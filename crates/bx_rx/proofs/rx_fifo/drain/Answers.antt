@@ -19,17 +19,21 @@ learn_as-requires-2-clause-rule g c =
     totals _ _ (ap (λ v. v.offers) c.loop.invariant.1) (ap (λ v. v.releases) c.loop.invariant.1)
 
 pub loop-init : goal.loop-init
-loop-init g c = let e = c.learn_as.ensures in let v = view c.args.pass.now in
-    ((search rules), kept-none_yet v (view c.learn_as.new.pass) c.new-kept.result.items e.queue.1 c.requires.both
-        c.new-kept.ensures, ap length c.new-kept.ensures, stored_within_three v e.rule.0 e.rule.1)
+loop-init g c = let e = c.learn_as.ensures in let v = view c.args.pass.now in (
+  (search rules),
+  kept-none_yet v (view c.learn_as.new.pass) c.new-kept.result.items e.queue.1 c.requires.both
+      c.new-kept.ensures,
+  ap length c.new-kept.ensures,
+  stored_within_three v e.rule.0 e.rule.1,
+)
 
 pub returns-in_default-clause-kept : goal.returns-in_default-clause-kept
 returns-in_default-clause-kept g c = let v = view c.args.pass.now in let h = c.in_default.ensures.rule.1 in
     stored-at_empty (view c.loop.pass) v.stored v.released c.loop.kept.items h.0 c.loop.invariant.1
-        (h.2.3 (ap (λ v. v.offers) c.loop.invariant.1) ∙ h.2.1) (nil_from_length h.0 h.1)
+    (h.2.3 (ap (λ v. v.offers) c.loop.invariant.1) ∙ h.2.1) (nil_from_length h.0 h.1)
 
 pub returns-clause-kept : goal.returns-clause-kept
 returns-clause-kept g c = let v = view c.args.pass.now in let h = c.learn_as-2.ensures.rule in let i =
     c.loop.invariant in let n = i.2 in
     stored-at_empty (view c.loop.pass) v.stored v.released c.loop.kept.items h.0 i.1 h.1.0
-        (none_behind_three (view c.loop.pass) v.stored v.released c.loop.kept.items h.0 i.1 h.1.0 (omega arith) i.3)
+    (none_behind_three (view c.loop.pass) v.stored v.released c.loop.kept.items h.0 i.1 h.1.0 (omega arith) i.3)

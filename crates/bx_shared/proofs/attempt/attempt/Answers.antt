@@ -10,7 +10,7 @@ use Rattle.bx_shared.proofs.attempt.attempt.Goals as goal
 pub returns-in-None-clause-hears : goal.returns-in-None-clause-hears
 returns-in-None-clause-hears g c = let may = g.G.Gate.may_have_heard in
     passes_on may to_claim (Fill ∷ Fill ∷ Look ∷ Request ∷ []) _ _ _ c.in-Ok.ensures.hears
-        (passes_on may (Fill ∷ Fill ∷ []) (Look ∷ Request ∷ []) _ _ _ c.fill.ensures.hears c.in-None.ensures.hears)
+    (passes_on may (Fill ∷ Fill ∷ []) (Look ∷ Request ∷ []) _ _ _ c.fill.ensures.hears c.in-None.ensures.hears)
 
 pub returns-in-Some-clause-hears : goal.returns-in-Some-clause-hears
 returns-in-Some-clause-hears g c = let may = g.G.Gate.may_have_heard in
@@ -21,5 +21,5 @@ returns-in-Some-clause-hears g c = let may = g.G.Gate.may_have_heard in
       omega arith,
       passes_on may to_claim (Fill ∷ Fill ∷ Look ∷ Request ∷ Withdraw ∷ []) _ _ _ c.in-Ok.ensures.hears
           (passes_on may (Fill ∷ Fill ∷ []) (Look ∷ Request ∷ Withdraw ∷ []) _ _ _ c.fill.ensures.hears
-              c.in-Some.ensures.hears_lost),
+          c.in-Some.ensures.hears_lost),
     )

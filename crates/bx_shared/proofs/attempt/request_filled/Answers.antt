@@ -15,12 +15,12 @@ returns-clause-lost g c =
     let lost = c.request-found.ensures.missed c.if-found-seen.false in
     let first : part_of c.look-seen.new.seat.me ≡ looked p seen = ap part_of c.look-seen.ensures.looked in
     let then_ : part_of c.request-found.new.seat.me ≡ missed (looked p seen) found =
-        ap part_of lost.0 ∙ ap (λ (x : RouteView). missed x found) first in
+    ap part_of lost.0 ∙ ap (λ (x : RouteView). missed x found) first in
     let last : part_of c.withdraw.new.seat.me ≡ withdrawn (missed (looked p seen) found) =
-        ap part_of c.withdraw.ensures.withdrawn ∙ ap withdrawn then_ in
+    ap part_of c.withdraw.ensures.withdrawn ∙ ap withdrawn then_ in
     subst (λ (q : RouteView). IsLost p q found) (sym last)
     (gives_back p seen found c.look-seen.ensures.own (subst (λ (x : RouteView). IsOwn x found) first lost.1)
-        c.if-found-seen.false)
+    c.if-found-seen.false)
 
 pub returns-then-found-seen-clause-hears : goal.returns-then-found-seen-clause-hears
 returns-then-found-seen-clause-hears g c =
@@ -29,5 +29,5 @@ returns-then-found-seen-clause-hears g c =
 pub returns-clause-hears_lost : goal.returns-clause-hears_lost
 returns-clause-hears_lost g c = let may = g.G.Gate.may_have_heard in
     passes_on may (Look ∷ Request ∷ []) (Withdraw ∷ []) _ _ _
-        (passes_on may (Look ∷ []) (Request ∷ []) _ _ _ c.pass.ensures.heard c.pass-2.ensures.heard)
-        c.pass-3.ensures.heard
+    (passes_on may (Look ∷ []) (Request ∷ []) _ _ _ c.pass.ensures.heard c.pass-2.ensures.heard)
+    c.pass-3.ensures.heard

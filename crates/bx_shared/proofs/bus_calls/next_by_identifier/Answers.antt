@@ -18,10 +18,10 @@ returns-clause-next c =
     let third = c.read_key-third in
     if_some_more c.least.result _ (λ m. (m < 3) × GoesNext d word m)
     (goes_least d word first.result second.result third.result (ap seen third.ensures.read.is
-          ∙ ap seen second.ensures.read.is ∙ ap seen first.ensures.read.is ∙ c.requires.seen) c.requires.counts
+    ∙ ap seen second.ensures.read.is ∙ ap seen first.ensures.read.is ∙ c.requires.seen) c.requires.counts
     (of_mailboxes (λ j. IsRequested word j → mark_of word j ≡ 3) c.if-is_busy.ensures c.if-is_busy-2.ensures
-        c.if-is_busy-3.ensures)
+    c.if-is_busy-3.ensures)
     (λ r. third.ensures.others 0 first.result (λ e. omega arith)
-        (second.ensures.others 0 first.result (λ e. omega arith) (first.ensures.key r)))
+    (second.ensures.others 0 first.result (λ e. omega arith) (first.ensures.key r)))
     (λ r. third.ensures.others 1 second.result (λ e. omega arith) (second.ensures.key r))
     third.ensures.key) c.least.ensures.some

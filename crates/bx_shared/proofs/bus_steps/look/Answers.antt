@@ -12,9 +12,9 @@ use Rattle.bx_shared.proofs.bus_steps.look.Goals as goal
 pub load-requires : goal.load-requires
 load-requires c = let h = c.args.words.now.shared in let t = h.table_id in let id = c.args.seat.now.id in let seven =
     c.requires.table.seven in let a = c.args in let b = bus_of a.seat.now.me in let rs = a.seat.now.me.0.routes in (
-  c.requires.table.same,
-  omega arith,
-  subst (λ (m : Me Said View). Allows (IsKept h.key) t.slots id m 0 (λ n. n) (BusLooks (step t.slots 0 0 0 none) m))
-      (sym c.requires.bus)
-      (bus_looks-keep h.key t.slots id b rs),
-)
+      c.requires.table.same,
+      omega arith,
+      subst (λ (m : Me Said View). Allows (IsKept h.key) t.slots id m 0 (λ n. n) (BusLooks (step t.slots 0 0 0 none) m))
+          (sym c.requires.bus)
+          (bus_looks-keep h.key t.slots id b rs),
+    )

@@ -14,12 +14,13 @@ load-requires c = let h = c.args.words.now.shared in let t = h.table_id in let i
     let seven = c.requires.table.seven in let a = c.args in let b = bus_of a.seat.now.me in
     let rs = a.seat.now.me.0.routes in let from = c.from.ensures in let i = 2 * c.from.result + 1 in let small =
     c.requires.mailbox in (
-  c.requires.table.same,
-  omega arith,
-  subst (λ (m : Me Said View). Allows (IsKept h.key) t.slots id m i (λ n. n) (ReadsHead (step t.slots i 0 0 none) m))
-      (sym c.requires.bus)
-      (reads_head-keep h.key t.slots id a.mailbox i b rs (omega arith) small),
-)
+      c.requires.table.same,
+      omega arith,
+      subst (λ (m : Me Said View). Allows (IsKept h.key) t.slots id m i (λ n. n)
+          (ReadsHead (step t.slots i 0 0 none) m))
+          (sym c.requires.bus)
+          (reads_head-keep h.key t.slots id a.mailbox i b rs (omega arith) small),
+    )
 
 -- the word read is the head of this mailbox
 

@@ -15,10 +15,11 @@ pub compare_exchange_with-requires : goal.compare_exchange_with-requires
 compare_exchange_with-requires c = let h = c.args.words.now.shared in let t = h.table_id in
     let id = c.args.seat.now.id in let seven = c.requires.table.seven in let a = c.args in let b =
     bus_of a.seat.now.me in let rs = a.seat.now.me.0.routes in (
-  c.requires.table.same,
-  omega arith,
-  subst (λ (m : Me Said View). Allows (IsKept h.key) t.slots id m 0 (λ n. either (n == a.old) a.new n)
-      (Starts (step t.slots 0 a.old a.new (some (Mailbox a.mailbox))) m)) (sym c.requires.bus)
-      (starts-keep h.key t.slots id a.mailbox a.old a.new b rs c.requires.mailbox c.requires.due c.requires.scheduled
+      c.requires.table.same,
+      omega arith,
+      subst (λ (m : Me Said View). Allows (IsKept h.key) t.slots id m 0 (λ n. either (n == a.old) a.new n)
+          (Starts (step t.slots 0 a.old a.new (some (Mailbox a.mailbox))) m)) (sym c.requires.bus)
+          (starts-keep h.key t.slots id a.mailbox a.old a.new b rs c.requires.mailbox c.requires.due
+          c.requires.scheduled
           c.requires.start),
-)
+    )

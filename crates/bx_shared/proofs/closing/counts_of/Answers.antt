@@ -17,8 +17,12 @@ loop-route-preserved c =
     let items = c.in_ok-push.ensures.items in
     let bus = c.bus.inside in
     let side = c.side.inside in
-    let value : RouteCounts = record { requested = side.requested; aborted = side.aborted;
-        done = get_or bus.tally.done route 0; reaped = get_or bus.tally.reaped route 0 } in
+    let value : RouteCounts = record {
+      requested = side.requested;
+      aborted = side.aborted;
+      done = get_or bus.tally.done route 0;
+      reaped = get_or bus.tally.reaped route 0;
+    } in
     let few = c.requires in
     let end = c.loop-route.auto.route-end in
     let on = c.loop-route-test.true in
@@ -27,15 +31,15 @@ loop-route-preserved c =
     let here : IsCounted c.args.bus.now route c.index-sides-route.result value =
     counts_route c.args.bus.now route c.index-sides-route.result value (sym first) (sym second)
     (c.bus.invariant.tally.done_is route (omega arith)
-        ∙ ap (λ (b : BusPlace). length (entries_of route b.bus.done)) c.bus.view_is)
+    ∙ ap (λ (b : BusPlace). length (entries_of route b.bus.done)) c.bus.view_is)
     (c.bus.invariant.tally.reaped_is route (omega arith)
-        ∙ ap (λ (b : BusPlace). length (numbers_of route (map label_of b.bus.reaped))) c.bus.view_is) in (
+    ∙ ap (λ (b : BusPlace). length (numbers_of route (map label_of b.bus.reaped))) c.bus.view_is) in (
       (let h = ap length items in let l = length-snoc c.loop-route.counts.items value in let n = i.0 in omega arith),
       λ r s x at it. ⊎_elim
           (λ (was : slice_get c.loop-route.counts.items r ≡ Some x). i.1 r s x at was)
           (λ (new : (r ≡ length c.loop-route.counts.items) × (value ≡ x)). let e = new.0 ∙ i.0 in
-              counts_there c.args.bus.now route r s c.index-sides-route.result value x e
+          counts_there c.args.bus.now route r s c.index-sides-route.result value x e
           (sym (c.index-sides-route.is ∙ seat_at c.args.sides.now route s c.index-sides-route.result
-                (sym (ap (slice_get c.args.sides.now) e) ∙ at))) new.1 here)
+          (sym (ap (slice_get c.args.sides.now) e) ∙ at))) new.1 here)
           (pushed c.loop-route.counts.items value r x (ap (λ (l : List RouteCounts). slice_get l r) (sym items) ∙ it)),
     )

@@ -19,7 +19,7 @@ seal-word-requires-clause-all c =
     let l = c.args.sides.items in
     let size = c.requires.all ∙ ap (λ (b : BusPlace). 8 - length b.routes) (sym c.bus.view_is) in
     subst (λ (m : Me Said View). AreAllIdle m.0.routes) (sym c.join_all.ensures.joined)
-        (all_idle rs l c.bus.invariant.others size (λ k s e. (c.requires.sides k s e).route_is) c.join_all.ensures.idle)
+    (all_idle rs l c.bus.invariant.others size (λ k s e. (c.requires.sides k s e).route_is) c.join_all.ensures.idle)
 
 pub leave-requires-clause-remains : goal.leave-requires-clause-remains
 leave-requires-clause-remains c =
@@ -29,9 +29,9 @@ leave-requires-clause-remains c =
     let word = c.seal-word.result in
     let size = c.requires.all ∙ ap (λ (b : BusPlace). 8 - length b.routes) (sym c.bus.view_is) in
     let ends = subst (λ (m : Me Said View). Ends (bus_of m) m.0.routes es word) c.join_all.ensures.joined
-        c.seal-word.ensures.ends in
+    c.seal-word.ensures.ends in
     begins_left (bus_of c.bus.inside.seat.me) (rs ++ parts_of l) es word ends
-        (all_idle rs l c.bus.invariant.others size (λ k s e. (c.requires.sides k s e).route_is) c.join_all.ensures.idle)
+    (all_idle rs l c.bus.invariant.others size (λ k s e. (c.requires.sides k s e).route_is) c.join_all.ensures.idle)
 
 pub leave-requires-clause-few : goal.leave-requires-clause-few
 leave-requires-clause-few c = few_wait (bus_of c.join_all.new.seat.me) c.join_all.new.seat.me.0.routes
@@ -44,12 +44,12 @@ returns-clause-tied c =
     let word = c.seal-word.result in
     let b = bus_view c.bus.inside in
     let ends = subst (λ (m : Me Said View). Ends (bus_of m) m.0.routes es word) c.join_all.ensures.joined
-        c.seal-word.ensures.ends in
+    c.seal-word.ensures.ends in
     if_ok_more (λ left. left.items ≡ map as_left es)
-        (λ left. AllTied BusAfter RouteAfter c.args.bus.txfp c.args.bus l left.items) c.leave.result
+    (λ left. AllTied BusAfter RouteAfter c.args.bus.txfp c.args.bus l left.items) c.leave.result
     (λ left told. subst (λ (x : BusPlace). AllTied BusAfter RouteAfter x.txfp x l left.items) c.bus.view_is
     (all_tied b l es word left.items ends told c.bus.invariant.priority (λ k s e. (c.requires.sides k s e).route_is)))
-        c.leave.ensures.told
+    c.leave.ensures.told
 
 pub returns-clause-beyond : goal.returns-clause-beyond
 returns-clause-beyond c =
@@ -58,8 +58,8 @@ returns-clause-beyond c =
     let word = c.seal-word.result in
     let b = bus_view c.bus.inside in
     let ends = subst (λ (m : Me Said View). Ends (bus_of m) m.0.routes es word) c.join_all.ensures.joined
-        c.seal-word.ensures.ends in
+    c.seal-word.ensures.ends in
     if_ok_more (λ left. left.items ≡ map as_left es)
-        (λ left. NothingBeyond BusAfter (routes_of c.args.bus) c.args.bus left.items) c.leave.result
+    (λ left. NothingBeyond BusAfter (routes_of c.args.bus) c.args.bus left.items) c.leave.result
     (λ left told. subst (λ (x : BusPlace). NothingBeyond BusAfter (routes_of x) x left.items) c.bus.view_is
-        (nothing_beyond b l es word left.items ends told c.bus.invariant.others)) c.leave.ensures.told
+    (nothing_beyond b l es word left.items ends told c.bus.invariant.others)) c.leave.ensures.told

@@ -18,7 +18,7 @@ pub told-requires-clause-waits : goal.told-requires-clause-waits
 told-requires-clause-waits c =
     subst (λ (m : Me Said View). IsInMailbox (waiting_in m) c.loop.word c.in-Some.mailbox) (sym c.loop.invariant.1)
     (first_waits (waiting_in c.args.seat.now.me) c.loop.word c.in-Some.mailbox c.loop.left.items c.loop.invariant.2
-        c.in-Some.ensures)
+    c.in-Some.ensures)
 
 pub loop-preserved : goal.loop-preserved
 loop-preserved c =
@@ -33,6 +33,6 @@ loop-preserved c =
           (leaves c.loop.word m next es c.loop.left.items c.told.result i.2 c.in-Some.ensures
           (c.lane_mask-word.ensures c.loop.word (let f = c.loop.auto.word-fits in omega arith))
           (λ w has at owner. c.told.ensures.told w (subst (λ (x : Me Said View). Has (waiting_in x) w) (sym i.1) has) at
-              owner)),
+          owner)),
       (let h = ap length items in let l = length-snoc c.loop.left.items c.told.result in let n = i.3 in omega arith),
     )

@@ -14,11 +14,11 @@ use Rattle.bx_shared.proofs.closing.seal.Goals as goal
 pub load-requires : goal.load-requires
 load-requires c = let h = c.args.words.now.shared in let t = h.table_id in let id = c.args.seat.now.id in let seven =
     c.requires.table.seven in let me = c.args.seat.now.me in (
-  c.requires.table.same,
-  omega arith,
-  subst (λ (m : Me Said View). Allows (IsKept h.key) t.slots id m 0 (λ n. n) (Seals (step t.slots 0 0 0 none) m))
-      (sym c.requires.bus) (seals-keep h.key t.slots id (bus_of me) me.0.routes c.requires.all),
-)
+      c.requires.table.same,
+      omega arith,
+      subst (λ (m : Me Said View). Allows (IsKept h.key) t.slots id m 0 (λ n. n) (Seals (step t.slots 0 0 0 none) m))
+          (sym c.requires.bus) (seals-keep h.key t.slots id (bus_of me) me.0.routes c.requires.all),
+    )
 
 pub returns-clause-sealed : goal.returns-clause-sealed
 returns-clause-sealed c = let e = c.load.ensures.2 in let me = c.args.seat.now.me in let n = c.load.new.seat.me in

@@ -14,7 +14,7 @@ unpack-frame-requires c =
     let a = c.from.ensures in
     let b = c.from-2.ensures in
     let bytes = subst (λ (m : Me Said View). IsLast (waiting_in m) (2 * c.from-2.result + 2) c.read_last-bytes.result)
-        c.read_last-head.ensures.same c.read_last-bytes.ensures.read in (
+    c.read_last-head.ensures.same c.read_last-bytes.ensures.read in (
       r.request.frame,
       (
         r.request.number,
@@ -30,10 +30,10 @@ returns-clause-told c = λ w has at owner.
     let a = c.from.ensures in
     let b = c.from-2.ensures in
     let bytes = subst (λ (m : Me Said View). IsLast (waiting_in m) (2 * c.from-2.result + 2) c.read_last-bytes.result)
-        c.read_last-head.ensures.same c.read_last-bytes.ensures.read in
+    c.read_last-head.ensures.same c.read_last-bytes.ensures.read in
     let packed = last_packed (waiting_in me) w c.args.mailbox c.read_last-head.result c.read_last-bytes.result
-        (2 * c.from.result + 1) (2 * c.from-2.result + 2) has at (omega arith)
-        (omega arith) c.read_last-head.ensures.read bytes in
+    (2 * c.from.result + 1) (2 * c.from-2.result + 2) has at (omega arith)
+    (omega arith) c.read_last-head.ensures.read bytes in
     let back = c.unpack-frame.ensures w.frame w.number packed in
     let route = ap (λ x. x / 32) c.lane.ensures ∙ owner in
     λ k. record { route = route k; number = back.1 k; frame = back.0 k }

@@ -3,9 +3,12 @@ use Rattle.bx_shared.proofs.Parting.{cuts, cut_left, cut_right}
 use Rattle.bx_shared.proofs.dealing.cut.Goals as goal
 
 pub split_seat-requires : goal.split_seat-requires
-split_seat-requires c = let seven = c.requires.table.seven in
-    (c.requires.table.same, omega arith, cuts c.args.words.now.shared.key c.args.words.now.shared.key _
-    c.args.seat.now.me c.args.left c.requires.some c.requires.seat)
+split_seat-requires c = let seven = c.requires.table.seven in (
+  c.requires.table.same,
+  omega arith,
+  cuts c.args.words.now.shared.key c.args.words.now.shared.key _
+      c.args.seat.now.me c.args.left c.requires.some c.requires.seat,
+)
 
 pub returns-clause-rest : goal.returns-clause-rest
 returns-clause-rest c =

@@ -34,7 +34,7 @@ loop-route-preserved c =
           (dealt-push _ c.loop-route.seat.table_id c.loop-route.seats.items c.loop-route.route pushed i.3 i.4 table
           (c.cut-own.ensures.theirs ∙ sym table)
           (ap part_of c.cut-own.ensures.one ∙ ap opening (let few = c.requires in
-                let end = c.loop-route.auto.route-end in let on = c.loop-route-test.true in omega arith))),
+          let end = c.loop-route.auto.route-end in let on = c.loop-route-test.true in omega arith))),
     )
 
 pub invariant_of-bus : goal.invariant_of-bus

@@ -11,9 +11,12 @@ use Rattle.bx_shared.proofs.ending.end.Goals as goal
 pub returns-in_default-clause-answer : goal.returns-in_default-clause-answer
 returns-in_default-clause-answer g c =
     let p = part_of c.args.seat.now.me in
-    subst (λ (q : RouteView). Answered p q c.args.number Gone) (sym (ap part_of c.look-seen.ensures.looked))
-    (refl, refl, is_gone p c.look-seen.result c.args.number c.args.route c.args.tops.now c.requires.tops
-        c.requires.route.1 c.requires.number.0 c.requires.number.1 c.in_default.ensures.none)
+    subst (λ (q : RouteView). Answered p q c.args.number Gone) (sym (ap part_of c.look-seen.ensures.looked)) (
+      refl,
+      refl,
+      is_gone p c.look-seen.result c.args.number c.args.route c.args.tops.now c.requires.tops
+          c.requires.route.1 c.requires.number.0 c.requires.number.1 c.in_default.ensures.none,
+    )
 
 pub returns-then-mark-gt-TRANSMITTING-clause-answer : goal.returns-then-mark-gt-TRANSMITTING-clause-answer
 returns-then-mark-gt-TRANSMITTING-clause-answer g c =
@@ -23,21 +26,26 @@ returns-then-mark-gt-TRANSMITTING-clause-answer g c =
     let l = c.lane-mark.ensures in
     let high = c.if-mark-gt-TRANSMITTING.true in
     let above : 15 < mark_of seen c.in-Some.mailbox = omega arith in
-    subst (λ (q : RouteView). Answered p q c.args.number Asked) (sym (ap part_of c.look-seen.ensures.looked))
-    (refl,
-        inr
-        (refl,
-          (c.in-Some.mailbox, was_asked p seen c.args.number c.args.route c.in-Some.mailbox c.args.tops.now
-            c.requires.tops c.requires.route.1 some.0 c.look-seen.ensures.own some.1 above)))
+    subst (λ (q : RouteView). Answered p q c.args.number Asked) (sym (ap part_of c.look-seen.ensures.looked)) (
+      refl,
+      inr (
+        refl,
+        (
+          c.in-Some.mailbox,
+          was_asked p seen c.args.number c.args.route c.in-Some.mailbox c.args.tops.now
+              c.requires.tops c.requires.route.1 some.0 c.look-seen.ensures.own some.1 above,
+        ),
+      ),
+    )
 
 pub returns-then-mark-eq-TRANSMITTING-clause-hears : goal.returns-then-mark-eq-TRANSMITTING-clause-hears
 returns-then-mark-eq-TRANSMITTING-clause-hears g c =
     hears_ask g.G.Gate.may_have_heard (part_of c.args.seat.now.me) (part_of c.look-seen.new.seat.me)
-        (part_of c.ask_end.new.seat.me) c.in-Some.mailbox c.ask_end.result _ _ _ c.ask_end.ensures.answer
-        c.pass.ensures.heard c.ask_end.ensures.hears
+    (part_of c.ask_end.new.seat.me) c.in-Some.mailbox c.ask_end.result _ _ _ c.ask_end.ensures.answer
+    c.pass.ensures.heard c.ask_end.ensures.hears
 
 pub returns-else-mark-eq-TRANSMITTING-clause-hears : goal.returns-else-mark-eq-TRANSMITTING-clause-hears
 returns-else-mark-eq-TRANSMITTING-clause-hears g c =
     hears_take g.G.Gate.may_have_heard (part_of c.args.seat.now.me) (part_of c.look-seen.new.seat.me)
-        (part_of c.take_out.new.seat.me) c.in-Some.mailbox c.take_out.result _ _ _ c.take_out.ensures.answer
-        c.pass.ensures.heard c.take_out.ensures.hears
+    (part_of c.take_out.new.seat.me) c.in-Some.mailbox c.take_out.result _ _ _ c.take_out.ensures.answer
+    c.pass.ensures.heard c.take_out.ensures.hears

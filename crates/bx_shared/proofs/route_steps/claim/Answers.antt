@@ -13,10 +13,11 @@ use Rattle.bx_shared.proofs.route_steps.claim.Goals as goal
 pub compare_exchange_with-requires : goal.compare_exchange_with-requires
 compare_exchange_with-requires c = let h = c.args.words.now.shared in let t = h.table_id in let id =
     c.args.seat.now.id in let seven = c.requires.table.seven in let a = c.args in (
-  c.requires.table.same,
-  omega arith,
-  subst (λ (m : Me Said View). Allows (IsKept h.key) t.slots id m 0 (λ n. either (n == a.old) a.new n)
-      (Claims (step t.slots 0 a.old a.new (some (Mailbox a.mailbox))) m)) (sym c.requires.route)
-      (claims-keep h.key t.slots id a.mailbox a.old a.new (part_of a.seat.now.me) c.requires.mailbox c.requires.small
+      c.requires.table.same,
+      omega arith,
+      subst (λ (m : Me Said View). Allows (IsKept h.key) t.slots id m 0 (λ n. either (n == a.old) a.new n)
+          (Claims (step t.slots 0 a.old a.new (some (Mailbox a.mailbox))) m)) (sym c.requires.route)
+          (claims-keep h.key t.slots id a.mailbox a.old a.new (part_of a.seat.now.me) c.requires.mailbox
+          c.requires.small
           c.requires.idle c.requires.empty c.requires.claim),
-)
+    )

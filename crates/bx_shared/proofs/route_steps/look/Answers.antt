@@ -11,9 +11,9 @@ use Rattle.bx_shared.proofs.route_steps.look.Goals as goal
 pub load-requires : goal.load-requires
 load-requires c = let h = c.args.words.now.shared in let t = h.table_id in let id = c.args.seat.now.id in let seven =
     c.requires.table.seven in (
-  c.requires.table.same,
-  omega arith,
-  subst (λ (m : Me Said View). Allows (IsKept h.key) t.slots id m 0 (λ n. n) (Looks (step t.slots 0 0 0 none) m))
-      (sym c.requires.route)
-      (looks-keep h.key t.slots id (part_of c.args.seat.now.me)),
-)
+      c.requires.table.same,
+      omega arith,
+      subst (λ (m : Me Said View). Allows (IsKept h.key) t.slots id m 0 (λ n. n) (Looks (step t.slots 0 0 0 none) m))
+          (sym c.requires.route)
+          (looks-keep h.key t.slots id (part_of c.args.seat.now.me)),
+    )

@@ -17,5 +17,5 @@ store-requires c = let h = c.args.words.now.shared in let t = h.table_id in let 
       subst (λ (m : Me Said View). Allows (IsKept h.key) t.slots id m i (λ _. a.head)
           (λ _. StoresHead (step t.slots i a.head 0 none) m a.head)) (sym c.requires.route)
           (stores_head-keep h.key t.slots id a.head i (part_of a.seat.now.me)
-              (omega arith) c.requires.fills.1 c.requires.head),
+          (omega arith) c.requires.fills.1 c.requires.head),
     )

@@ -11,9 +11,9 @@ use Rattle.bx_shared.proofs.route_steps.withdraw.Goals as goal
 pub fetch_and-requires : goal.fetch_and-requires
 fetch_and-requires c = let h = c.args.words.now.shared in let t = h.table_id in let id = c.args.seat.now.id in
     let seven = c.requires.table.seven in let a = c.args in (
-  c.requires.table.same,
-  omega arith,
-  subst (λ (m : Me Said View). Allows (IsKept h.key) t.slots id m 0 (λ n. bit_and n a.mask)
-      (Withdraws (step t.slots 0 a.mask 0 none) m)) (sym c.requires.route)
-      (withdraws-keep h.key t.slots id a.mask (part_of a.seat.now.me) c.requires.claims c.requires.mask),
-)
+      c.requires.table.same,
+      omega arith,
+      subst (λ (m : Me Said View). Allows (IsKept h.key) t.slots id m 0 (λ n. bit_and n a.mask)
+          (Withdraws (step t.slots 0 a.mask 0 none) m)) (sym c.requires.route)
+          (withdraws-keep h.key t.slots id a.mask (part_of a.seat.now.me) c.requires.claims c.requires.mask),
+    )

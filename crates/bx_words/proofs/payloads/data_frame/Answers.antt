@@ -10,5 +10,5 @@ returns c = λ all are long is.
     let few : length all ≤ 8 = omega (arith, c.requires, long) in
     let cells = c.to_le_bytes-cells.ensures ∙ ap (to_le_bytes w64) is in
     let same = ap (λ n. take n c.to_le_bytes-cells.result) (c.from.ensures ∙ long) ∙ ap (take (length all)) cells
-        ∙ first_bytes all are few in
+    ∙ first_bytes all are few in
     made c.with_bytes.result _ c.args.id _ all same few c.with_bytes.ensures

@@ -12,11 +12,11 @@ returns c = λ f n p.
     given c.if-is_remote.frame _ c.unwrap_or_default.result f c.unwrap_or_default.ensures (elim c.if-is_remote.branch [
       | then-is_remote w ↦
           let made = made_remote w.remote-frame.result _ c.id_in-id.result c.code_in-code.result
-              c.code_in-code.ensures.few w.remote-frame.ensures in
+          c.code_in-code.ensures.few w.remote-frame.ensures in
           w.frame-is ∙ made ∙ ap Ok (remote_frame f _ _ (sym remote ∙ w.if-is_remote.true) id_is code)
       | else-is_remote w ↦
           let plain = sym remote ∙ w.if-is_remote.false in
           let made = w.data_frame-frame.ensures (bytes_of f.content) (bytes_are f.content p.head_is.lawful.bytes)
-              (code ∙ code_is f.content plain) p.bytes_are in
+          (code ∙ code_is f.content plain) p.bytes_are in
           w.frame-is ∙ made ∙ ap Ok (data_frame f _ plain id_is)
     ])

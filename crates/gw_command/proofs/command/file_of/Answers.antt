@@ -11,7 +11,7 @@ use Rattle.gw_command.proofs.command.file_of.Goals as goal
 -- the first value of the subcommand's matches is that of its rows
 first_is : (m options : ArgMatches) (name : Text) (rows : List Row) → subcommand_rows_of m ≡ Some (name, rows)
     → Some (rows_of (found_of options)) ≡ option_map (λ p. p.1) (subcommand_rows_of m) →
-        first_value (found_of options) (codes "file") ≡ first_of (codes "file") rows
+    first_value (found_of options) (codes "file") ≡ first_of (codes "file") rows
 first_is m options name rows met are =
     let same : rows_of (found_of options) ≡ rows = ap (λ o. unwrap_or o []) (are ∙ ap (option_map (λ p. p.1)) met) in
     first_value-rows (found_of options) (codes "file") ∙ ap (first_of (codes "file")) same
@@ -20,7 +20,7 @@ pub returns-in_err-name : goal.returns-in_err-name
 returns-in_err-name c name rows met =
     let first = first_is c.args.matches.now c.in_ok-options.options.now name rows met c.in_ok-options.ensures.rows in
     ap (option_map (λ file. file.now)) c.from_residual-in_err-name.ensures
-        ∙ ap file_named (c.in_err-name.ensures ∙ first)
+    ∙ ap file_named (c.in_err-name.ensures ∙ first)
 
 pub returns-then-eq : goal.returns-then-eq
 returns-then-eq c name rows met =

@@ -12,18 +12,18 @@ command_is g c =
     ap app_of_fields c.version.ensures ∙ ap (on_top (λ top. record top { has_version = true })) c.new.ensures.app in
     let with_core : app_of c.in_ok-subcommand.field-0 ≡ with_subcommand versioned_app core_app.top =
     c.in_ok-subcommand.ensures.shape c.in_ok-core.ensures.local
-        ∙ ap₂ with_subcommand versioned (ap (λ (a : App). a.top) c.in_ok-core.ensures.app) in
+    ∙ ap₂ with_subcommand versioned (ap (λ (a : App). a.top) c.in_ok-core.ensures.app) in
     c.in_ok-command.ensures.shape c.in_ok-run.ensures.local
-        ∙ ap₂ with_subcommand with_core (ap (λ (a : App). a.top) c.in_ok-run.ensures.app)
+    ∙ ap₂ with_subcommand with_core (ap (λ (a : App). a.top) c.in_ok-run.ensures.app)
 
 pub returns-clause-matches : goal.returns-clause-matches
 returns-clause-matches g c =
     let P : App → Type 0 =
-        λ a. IfOk c.try_get_matches_from.result (HasMatchesOf a (map g.S.AsStr.text c.args.words.now)) in
+    λ a. IfOk c.try_get_matches_from.result (HasMatchesOf a (map g.S.AsStr.text c.args.words.now)) in
     subst P (command_is g c) c.try_get_matches_from.ensures.matches
 
 pub returns-clause-fails : goal.returns-clause-fails
 returns-clause-fails g c =
     let P : App → Type 0 = λ a. IfErr c.try_get_matches_from.result
-        (λ e. takes a (map g.S.AsStr.text c.args.words.now) ≡ true → kind_of e ≡ OutOfMemory) in
+    (λ e. takes a (map g.S.AsStr.text c.args.words.now) ≡ true → kind_of e ≡ OutOfMemory) in
     subst P (command_is g c) c.try_get_matches_from.ensures.passes

@@ -13,7 +13,7 @@ returns-clause-asked c n turn is none =
     let read = c.get_one-turn.ensures.value (decimal n) text_is in
     c.run_of.ensures.asked n
     (reads_decimal (λ bs r. ParsesUnsigned 32 10 bs r × ExplainsUnsignedError 10 bs r × HasUnsignedDigitsIfOk bs r) n
-        c.get_one-turn.result turn.1 (λ r given. given.0) read) turn
+    c.get_one-turn.result turn.1 (λ r given. given.0) read) turn
     (c.get_one-threads.ensures.none (one_text-rows (found_of c.args.options.now) (codes "threads") ∙ none))
 
 pub returns-clause-threads : goal.returns-clause-threads
@@ -24,6 +24,6 @@ returns-clause-threads c n m some there slack is =
     let slack_read = c.get_one-slack.ensures.value (decimal m) slack_is in
     c.run_of.ensures.threads n m
     (reads_decimal (λ bs r. ParsesUnsigned 32 10 bs r × ExplainsUnsignedError 10 bs r × HasUnsignedDigitsIfOk bs r) n
-        c.get_one-threads.result (omega (arith, some.1)) (λ r given. given.0) threads_read) some
+    c.get_one-threads.result (omega (arith, some.1)) (λ r given. given.0) threads_read) some
     (reads_decimal (λ bs r. ParsesUnsigned 32 10 bs r × ExplainsUnsignedError 10 bs r × HasUnsignedDigitsIfOk bs r) m
-        c.get_one-slack.result slack.1 (λ r given. given.0) slack_read) slack
+    c.get_one-slack.result slack.1 (λ r given. given.0) slack_read) slack

@@ -8,4 +8,4 @@ pub returns-in-Some-clause-threads : goal.returns-in-Some-clause-threads
 returns-in-Some-clause-threads c n m is some there slack =
     let same : c.in-Some.threads ≡ n = cc in
     subst (λ t. c.threaded_of.result ≡ Some (RunThreads t m)) same
-        (c.threaded_of.ensures.asked m there slack (subst IsThreads (sym same) some))
+    (c.threaded_of.ensures.asked m there slack (subst IsThreads (sym same) some))

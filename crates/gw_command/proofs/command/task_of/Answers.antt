@@ -25,7 +25,7 @@ returns-in-Ok-clause-run g c name words_are =
     let met = (c.in-Ok.ensures.matches is_simple_app).1 ∙ ap (subcommand_of bxgate_app) words_are in
     let turn : IsTurn 1 = (omega arith, omega arith) in
     c.order_of.ensures.run _ 1 (met ∙ run_is_met name) turn (sym (ap Some (decimal_digit 1 (omega arith))))
-        alone_at_first
+    alone_at_first
 
 pub returns-in-Err-clause-run : goal.returns-in-Err-clause-run
 returns-in-Err-clause-run g c name words_are =
@@ -56,7 +56,7 @@ pub returns-in-Ok-clause-nothing : goal.returns-in-Ok-clause-nothing
 returns-in-Ok-clause-nothing g c name words_are =
     let met = (c.in-Ok.ensures.matches is_simple_app).1 ∙ ap (subcommand_of bxgate_app) words_are in
     let none = c.order_of.ensures.nothing (name_from_rows c.in-Ok.matches ∙ ap (option_map (λ p. p.0)) met
-        ∙ nothing_is_met name) in rw none refl
+    ∙ nothing_is_met name) in rw none refl
 
 pub returns-in-Err-clause-nothing : goal.returns-in-Err-clause-nothing
 returns-in-Err-clause-nothing g c name words_are =
@@ -76,7 +76,7 @@ returns-in-Ok-clause-run_hyphen g c name words_are =
     let met = (c.in-Ok.ensures.matches is_simple_app).1 ∙ ap (subcommand_of bxgate_app) words_are in
     let turn : IsTurn 1 = (omega arith, omega arith) in
     c.order_of.ensures.run _ 1 (met ∙ (run_hyphen_is_met name).met) turn (sym (ap Some (decimal_digit 1 (omega arith))))
-        (alone_with_file (codes "-"))
+    (alone_with_file (codes "-"))
 
 pub returns-in-Err-clause-run_hyphen : goal.returns-in-Err-clause-run_hyphen
 returns-in-Err-clause-run_hyphen g c name words_are =
@@ -98,7 +98,7 @@ returns-in-Ok-clause-run_file g c name file is words_are =
     let turn : IsTurn 1 = (omega arith, omega arith) in
     let given = run_file_is_met name file is in
     c.order_of.ensures.run _ 1 (met ∙ given.met) turn (sym (ap Some (decimal_digit 1 (omega arith))))
-        (alone_with_file file) ∙ ap (λ f. Some (Run 1, f)) (is_named file is)
+    (alone_with_file file) ∙ ap (λ f. Some (Run 1, f)) (is_named file is)
 
 pub returns-in-Err-clause-run_file : goal.returns-in-Err-clause-run_file
 returns-in-Err-clause-run_file g c name file is words_are =

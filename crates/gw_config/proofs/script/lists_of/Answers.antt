@@ -24,7 +24,7 @@ returns-clause-sound c =
     } in
     let orderly = script_orderly c.args.version s c.args.bits from c.in_ok-segments.ensures.value
     (ap (λ ss. controllers_of c.args.version c.args.bits ss from) (sym c.as_slice.ensures.value)
-        ∙ c.in_ok-controllers.ensures.value)
+    ∙ c.in_ok-controllers.ensures.value)
     (ap (λ cs. routes_of c.args.version cs from) (sym c.as_slice-2.ensures.value) ∙ c.in_ok-routes.ensures.value)
     (ap (λ ss. planned_faults_of c.args.bits ss s.controllers from) (sym c.as_slice-3.ensures.value)
     ∙ ap (λ cs. planned_faults_of c.args.bits c.as_slice-3.result.now cs from) (sym c.as_slice-4.ensures.value)

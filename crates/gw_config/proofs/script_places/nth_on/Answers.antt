@@ -11,9 +11,9 @@ returns-then-left-eq0-clause-controller c =
     let controllers = c.args.controllers.now in
     let controller = c.index-controllers-place.result in
     slice_get_read controllers (length controllers) c.loop-place.place controller refl c.loop-place-test.true
-        c.index-controllers-place.is
+    c.index-controllers-place.is
     ∙ sym (filter-first (λ (one : ControllerValue). one.segment == c.args.segment) controllers c.loop-place.place
-        controller c.loop-place.left
+    controller c.loop-place.left
     c.loop-place-test.true c.index-controllers-place.is
-        (eq-eqb controller.segment c.args.segment (sym c.segment.ensures ∙ c.if-segment.false)) c.if-left-eq0.true)
+    (eq-eqb controller.segment c.args.segment (sym c.segment.ensures ∙ c.if-segment.false)) c.if-left-eq0.true)
     ∙ c.loop-place.invariant.controller

@@ -27,9 +27,9 @@ returns-clause-ends g c =
     IfOk-weaker c.report_of.result _ _ (λ r ends to to_is.
     ends (left_of c.args.number to.mail.left.items)
     (sym (c.as_slice.ensures.value ∙ c.in_ok-waiting.ensures
-          ∙ ap (λ xs. numbers (left_of c.args.number xs)) (c.left_at.ensures to to_is)))) c.report_of.ensures.ends
+    ∙ ap (λ xs. numbers (left_of c.args.number xs)) (c.left_at.ensures to to_is)))) c.report_of.ensures.ends
 
 pub returns-clause-completed : goal.returns-clause-completed
 returns-clause-completed g c =
     IfOk-weaker c.report_of.result _ _ (λ r same to to_is. same ∙ c.in_ok-completed.ensures to to_is)
-        c.report_of.ensures.completed
+    c.report_of.ensures.completed

@@ -16,7 +16,7 @@ use Rattle.gw_ending.proofs.closing.end_lane.Goals as goal
 pub end_hand-requires-clause-there : goal.end_hand-requires-clause-there
 end_hand-requires-clause-there g c =
     let late = mail_after c.args.lane.fifo _ c.args.sites.now c.take-intake.new.sites c.args.lane.source
-        c.take-intake.ensures.sets c.args.lane.target c.requires.there.0 c.requires.there.1 in
+    c.take-intake.ensures.sets c.args.lane.target c.requires.there.0 c.requires.there.1 in
     (late.0, late.1)
 
 pub end_hand-requires-clause-talkers : goal.end_hand-requires-clause-talkers
@@ -37,7 +37,7 @@ returns-clause-ends g c =
     let target = c.args.lane.target in
     let sets = c.take-intake.ensures.sets in
     let intake = same_some c.take-intake.result takes.takes.intake
-        (sym (c.take-intake.ensures.was takes.from takes.from_is) ∙ takes.takes.slot_is) in
+    (sym (c.take-intake.ensures.was takes.from takes.from_is) ∙ takes.takes.slot_is) in
     if_ok_both c.end_hand.result _ _ (EndsLane sites c.args.lane) (λ r ends completed. record {
       from = takes.from;
       from_is = takes.from_is;
@@ -46,11 +46,11 @@ returns-clause-ends g c =
           let late = mail_after c.args.lane.fifo _ sites new c.args.lane.source sets target to to_is in
           subst (λ i. IsEndOf r i h (left_of number to.mail.left.items)) intake
           (subst (λ (m : Closed). IsEndOf r c.take-intake.result h (left_of number m.left.items)) late.2
-              (ends late.0 late.1));
+          (ends late.0 late.1));
       completed_is = λ to to_is.
           let late = mail_after c.args.lane.fifo _ sites new c.args.lane.source sets target to to_is in
           completed late.0 late.1
           ∙ ap (λ (v : SegmentValue). entries_of number
-              (all_in sent_in (told_of (length v.plan.talkers.items + target.port) v.events)))
+          (all_in sent_in (told_of (length v.plan.talkers.items + target.port) v.events)))
           (segment_after c.args.lane.fifo sites new c.args.lane.source sets target to late.0 to_is late.1);
     }) c.end_hand.ensures.ends c.end_hand.ensures.completed

@@ -12,78 +12,78 @@ loop-lane-init g c =
     let s = c.args.script.now in
     let sites = c.args.sites.now in
     subst (λ reports. ClosesBelow s sites sites (into_iter_items c.into_iter-lane-iterator.result) reports)
-        (sym c.in_ok-reports.ensures.items)
+    (sym c.in_ok-reports.ensures.items)
     (subst (λ lanes. ClosesBelow s sites sites lanes []) (sym c.into_iter-lane-iterator.ensures.into_iter_gives.0)
-        (closes_start s sites c.args.lanes.items c.requires.over))
+    (closes_start s sites c.args.lanes.items c.requires.over))
 
 pub talkers_at-talkers-requires : goal.talkers_at-talkers-requires
 talkers_at-talkers-requires g c =
     let rest = into_iter_items c.next.new.self in
     let left = subst (λ lanes. ClosesBelow c.args.script.now c.args.sites.now c.loop-lane.sites lanes
-        c.loop-lane.reports.items) c.in-Some.ensures.steps.0 c.loop-lane.invariant in
+    c.loop-lane.reports.items) c.in-Some.ensures.steps.0 c.loop-lane.invariant in
     let here = first_of c.args.script.now c.args.sites.now c.loop-lane.sites c.in-Some.lane rest
-        c.loop-lane.reports.items left in
+    c.loop-lane.reports.items left in
     segment_there c.args.script.now here.0.target c.in-Some.lane.target c.requires.sound here.2.lane_is.target_is
 
 pub end_lane-requires-clause-takes : goal.end_lane-requires-clause-takes
 end_lane-requires-clause-takes g c =
     let rest = into_iter_items c.next.new.self in
     let left = subst (λ lanes. ClosesBelow c.args.script.now c.args.sites.now c.loop-lane.sites lanes
-        c.loop-lane.reports.items) c.in-Some.ensures.steps.0 c.loop-lane.invariant in
+    c.loop-lane.reports.items) c.in-Some.ensures.steps.0 c.loop-lane.invariant in
     (first_of c.args.script.now c.args.sites.now c.loop-lane.sites c.in-Some.lane rest c.loop-lane.reports.items
-        left).2.takes
+    left).2.takes
 
 pub end_lane-requires-clause-log : goal.end_lane-requires-clause-log
 end_lane-requires-clause-log g c =
     let rest = into_iter_items c.next.new.self in
     let left = subst (λ lanes. ClosesBelow c.args.script.now c.args.sites.now c.loop-lane.sites lanes
-        c.loop-lane.reports.items) c.in-Some.ensures.steps.0 c.loop-lane.invariant in
+    c.loop-lane.reports.items) c.in-Some.ensures.steps.0 c.loop-lane.invariant in
     (first_of c.args.script.now c.args.sites.now c.loop-lane.sites c.in-Some.lane rest c.loop-lane.reports.items
-        left).2.log
+    left).2.log
 
 pub end_lane-requires-clause-there : goal.end_lane-requires-clause-there
 end_lane-requires-clause-there g c =
     let rest = into_iter_items c.next.new.self in
     let left = subst (λ lanes. ClosesBelow c.args.script.now c.args.sites.now c.loop-lane.sites lanes
-        c.loop-lane.reports.items) c.in-Some.ensures.steps.0 c.loop-lane.invariant in
+    c.loop-lane.reports.items) c.in-Some.ensures.steps.0 c.loop-lane.invariant in
     let closes = (first_of c.args.script.now c.args.sites.now c.loop-lane.sites c.in-Some.lane rest
-        c.loop-lane.reports.items left).2.closes in
+    c.loop-lane.reports.items left).2.closes in
     (closes.to, closes.to_is)
 
 pub end_lane-requires-clause-talkers : goal.end_lane-requires-clause-talkers
 end_lane-requires-clause-talkers g c =
     let rest = into_iter_items c.next.new.self in
     let left = subst (λ lanes. ClosesBelow c.args.script.now c.args.sites.now c.loop-lane.sites lanes
-        c.loop-lane.reports.items) c.in-Some.ensures.steps.0 c.loop-lane.invariant in
+    c.loop-lane.reports.items) c.in-Some.ensures.steps.0 c.loop-lane.invariant in
     subst (HasTalkers c.loop-lane.sites c.in-Some.lane.target) (sym c.talkers_at-talkers.ensures)
-        (has_talkers c.args.script.now c.loop-lane.sites c.in-Some.lane.target left.each_site)
+    (has_talkers c.args.script.now c.loop-lane.sites c.in-Some.lane.target left.each_site)
 
 pub end_lane-requires-clause-few : goal.end_lane-requires-clause-few
 end_lane-requires-clause-few g c =
     let rest = into_iter_items c.next.new.self in
     let left = subst (λ lanes. ClosesBelow c.args.script.now c.args.sites.now c.loop-lane.sites lanes
-        c.loop-lane.reports.items) c.in-Some.ensures.steps.0 c.loop-lane.invariant in
+    c.loop-lane.reports.items) c.in-Some.ensures.steps.0 c.loop-lane.invariant in
     let here = first_of c.args.script.now c.args.sites.now c.loop-lane.sites c.in-Some.lane rest
-        c.loop-lane.reports.items left in
+    c.loop-lane.reports.items left in
     let few = few_nodes c.args.script.now c.loop-lane.sites here.0.target c.in-Some.lane.target here.2.closes.to
-        c.requires.sound left.each_site here.2.lane_is.target_is here.2.closes.to_is in
+    c.requires.sound left.each_site here.2.lane_is.target_is here.2.closes.to_is in
     omega (arith, few, c.talkers_at-talkers.ensures)
 
 pub end_lane-requires-clause-room : goal.end_lane-requires-clause-room
 end_lane-requires-clause-room g c =
     let left = subst (λ lanes. ClosesBelow c.args.script.now c.args.sites.now c.loop-lane.sites lanes
-        c.loop-lane.reports.items) c.in-Some.ensures.steps.0 c.loop-lane.invariant in
+    c.loop-lane.reports.items) c.in-Some.ensures.steps.0 c.loop-lane.invariant in
     left.few 12 c.requires.room
 
 pub end_lane-requires-clause-offered : goal.end_lane-requires-clause-offered
 end_lane-requires-clause-offered g c =
     let rest = into_iter_items c.next.new.self in
     let left = subst (λ lanes. ClosesBelow c.args.script.now c.args.sites.now c.loop-lane.sites lanes
-        c.loop-lane.reports.items) c.in-Some.ensures.steps.0 c.loop-lane.invariant in
+    c.loop-lane.reports.items) c.in-Some.ensures.steps.0 c.loop-lane.invariant in
     let here = first_of c.args.script.now c.args.sites.now c.loop-lane.sites c.in-Some.lane rest
-        c.loop-lane.reports.items left in
+    c.loop-lane.reports.items left in
     was_offered c.args.script.now c.loop-lane.sites _ here.0 c.in-Some.lane c.requires.sound left.each_site here.1
-        here.2.lane_is
+    here.2.lane_is
 
 pub loop-lane-preserved : goal.loop-lane-preserved
 loop-lane-preserved g c =
@@ -91,7 +91,7 @@ loop-lane-preserved g c =
     let first = c.args.sites.now in
     let rest = into_iter_items c.next.new.self in
     let left = subst (λ lanes. ClosesBelow s first c.loop-lane.sites lanes c.loop-lane.reports.items)
-        c.in-Some.ensures.steps.0 c.loop-lane.invariant in
+    c.in-Some.ensures.steps.0 c.loop-lane.invariant in
     subst (ClosesBelow s first c.end_lane.new.sites rest) (sym c.in_ok-push_one.ensures)
     (closes_step s first c.loop-lane.sites c.end_lane.new.sites c.in-Some.lane rest c.loop-lane.reports.items
-        c.in_ok-report.report c.requires.sound left c.in_ok-report.ensures.sets c.in_ok-report.ensures.ends)
+    c.in_ok-report.report c.requires.sound left c.in_ok-report.ensures.sets c.in_ok-report.ensures.ends)

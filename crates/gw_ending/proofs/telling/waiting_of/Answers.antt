@@ -9,4 +9,4 @@ loop-one-preserved c =
     let l = c.loop-one in
     let here = c.left_in.ensures ∙ ap (λ one. numbers (left_of c.args.route (one ∷ []))) c.one-item.is in
     c.in_ok-push_some.ensures ∙ ap₂ (λ xs ys. xs ++ ys) l.invariant here
-        ∙ sym (left_grows c.args.route c.args.left.now l.one-index c.one-item.result c.loop-one-test.true)
+    ∙ sym (left_grows c.args.route c.args.left.now l.one-index c.one-item.result c.loop-one-test.true)

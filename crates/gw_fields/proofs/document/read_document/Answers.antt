@@ -12,7 +12,7 @@ pub returns-in-Ok-clause-err : goal.returns-in-Ok-clause-err
 returns-in-Ok-clause-err c =
     none_is_no_document c.read_text.result c.args.bytes.now (omega arith)
     (subst (λ (text : List ℕ). IfErr c.read_text.result (SaysNone (text_value text))) c.in-Ok.ensures.cases.0
-        c.read_text.ensures.err)
+    c.read_text.ensures.err)
 
 pub returns-in-Err-clause-err : goal.returns-in-Err-clause-err
 returns-in-Err-clause-err c = no_text (omega arith) (λ utf8. absurd (c.in-Err.ensures.cases.0 utf8))

@@ -14,4 +14,4 @@ pub returns-else-is_empty-clause-value : goal.returns-else-is_empty-clause-value
 unfolding filled_list
 returns-else-is_empty-clause-value c =
     ap (λ r. r >>= filled c.args.name.now) c.in_ok-items.ensures.value
-        ∙ one-or-more c.args.name.now c.in_ok-items.items.now (c.if-is_empty.ensures)
+    ∙ one-or-more c.args.name.now c.in_ok-items.items.now (c.if-is_empty.ensures)

@@ -21,9 +21,9 @@ read_items-returns-in_err-item-clause-err t c =
     let n = l.invariant.0 in
     let going : (after_end_array l.reader ≡ None) × (c.take_end_array.new.self ≡ l.reader) = grind arith in
     none_handed_on c.from_residual.result c.in_err-item.field-0.0 (finite_value c.args.depth c.take_end_array.new.self)
-        (finite_items c.args.depth c.args.reader.now) c.from_residual.ensures.1
+    (finite_items c.args.depth c.args.reader.now) c.from_residual.ensures.1
     (λ none. l.invariant.2 ∙ ap (parse_map (items_before l.found.items))
-        (item_refused p n l.reader going.0 (rw (← going.1) none)))
+    (item_refused p n l.reader going.0 (rw (← going.1) none)))
     c.in_err-item.ensures.err
 
 pub read_items-items-preserved : goal.read_items-items-preserved
@@ -38,7 +38,7 @@ read_items-items-preserved t c =
     let less : length r < length l.reader = rw (← going.1) done.shorter in
     let added : c.add.new.elements.items ≡ l.found.items ++ v ∷ [] = search rules in
     let turn =
-        item_read p n l.reader r (value_view v) (omega (arith, l.invariant.1)) going.0 (rw (← going.1) done.ok) in (
+    item_read p n l.reader r (value_view v) (omega (arith, l.invariant.1)) going.0 (rw (← going.1) done.ok) in (
       n - 1,
       omega (arith, l.invariant.1),
       l.invariant.2 ∙ ap (parse_map (items_before l.found.items)) turn ∙ one_more_item l.found.items v _
@@ -53,7 +53,7 @@ read_items-returns-clause-ok t c =
     let n = l.invariant.0 in
     let r = c.take_end_array.new.self in
     l.invariant.2 ∙ ap (parse_map (items_before l.found.items)) (items_over p n l.reader r l.invariant.1 (grind arith))
-        ∙ ap (λ js. Some (js, r)) (items_before-no_items l.found.items)
+    ∙ ap (λ js. Some (js, r)) (items_before-no_items l.found.items)
 
 pub read_members-returns-in_err-name-clause-err : goal.read_members-returns-in_err-name-clause-err
 read_members-returns-in_err-name-clause-err t c =
@@ -61,7 +61,7 @@ read_members-returns-in_err-name-clause-err t c =
     let l = c.members in
     let n = l.invariant.0 in
     let none : finite_members c.args.depth c.args.reader.now ≡ None = l.invariant.2
-        ∙ ap (parse_map (members_before l.found.items)) (key_refused p n l.reader c.in_err-name.ensures.value) in
+    ∙ ap (parse_map (members_before l.found.items)) (key_refused p n l.reader c.in_err-name.ensures.value) in
     grind (arith, none)
 
 pub read_members-returns-in_err-value-clause-err : goal.read_members-returns-in_err-value-clause-err
@@ -73,7 +73,7 @@ read_members-returns-in_err-value-clause-err t c =
     let s = c.next_key.new.self in
     let key : read_key l.reader ≡ Some (Some k, s) = grind arith in
     none_handed_on c.from_residual-in_err-value.result c.in_err-value.field-0.0 (finite_value c.args.depth s)
-        (finite_members c.args.depth c.args.reader.now) c.from_residual-in_err-value.ensures.1
+    (finite_members c.args.depth c.args.reader.now) c.from_residual-in_err-value.ensures.1
     (λ none. l.invariant.2 ∙ ap (parse_map (members_before l.found.items)) (member_refused p n k l.reader s key none))
     c.in_err-value.ensures.err
 
@@ -107,14 +107,14 @@ read_members-returns-clause-ok t c =
     let n = l.invariant.0 in
     let r = c.next_key.new.self in
     l.invariant.2 ∙ ap (parse_map (members_before l.found.items))
-        (members_over p n l.reader r l.invariant.1 (grind arith))
-        ∙ ap (λ ms. Some (ms, r)) (members_before-no_members l.found.items)
+    (members_over p n l.reader r l.invariant.1 (grind arith))
+    ∙ ap (λ ms. Some (ms, r)) (members_before-no_members l.found.items)
 
 pub read_value-returns-in_err-token-clause-err : goal.read_value-returns-in_err-token-clause-err
 read_value-returns-in_err-token-clause-err t c =
     let empty : c.args.reader.now ≡ [] = grind arith in
     let none : finite_value c.args.depth c.args.reader.now ≡ None =
-        ap (tested is_finite) (ap (value c.args.depth) empty ∙ value_is c.args.depth []) in
+    ap (tested is_finite) (ap (value c.args.depth) empty ∙ value_is c.args.depth []) in
     grind (arith, none)
 
 pub read_value-returns-then-depth-eq0-clause-err : goal.read_value-returns-then-depth-eq0-clause-err
@@ -136,13 +136,13 @@ pub read_value-returns-in_err-read_items-in-BeginArray-clause-err :
 read_value-returns-in_err-read_items-in-BeginArray-clause-err t c =
     let first : c.args.reader.now ≡ token_of c.in_ok-token.token ∷ c.next.new.self = grind arith in
     let opened = ap (value c.args.depth) (first ∙ ap (λ k. token_of k ∷ c.next.new.self) c.in-BeginArray.is)
-        ∙ value-begin_array c.args.depth c.next.new.self (omega arith) in
+    ∙ value-begin_array c.args.depth c.next.new.self (omega arith) in
     none_handed_on c.from_residual-in_err-read_items-in-BeginArray.result c.in_err-read_items-in-BeginArray.field-0.0
-        (finite_items (c.args.depth - 1) c.next.new.self)
+    (finite_items (c.args.depth - 1) c.next.new.self)
     (finite_value c.args.depth c.args.reader.now) c.from_residual-in_err-read_items-in-BeginArray.ensures.1
     (λ none. ap (tested is_finite) opened
-        ∙ tested-array (items (value (c.args.depth - 1)) (length c.next.new.self) c.next.new.self)
-        ∙ ap (parse_map array) none)
+    ∙ tested-array (items (value (c.args.depth - 1)) (length c.next.new.self) c.next.new.self)
+    ∙ ap (parse_map array) none)
     c.in_err-read_items-in-BeginArray.ensures.err
 
 pub read_value-returns-in_err-read_members-in-BeginObject-clause-err :
@@ -150,13 +150,13 @@ pub read_value-returns-in_err-read_members-in-BeginObject-clause-err :
 read_value-returns-in_err-read_members-in-BeginObject-clause-err t c =
     let first : c.args.reader.now ≡ token_of c.in_ok-token.token ∷ c.next.new.self = grind arith in
     let opened = ap (value c.args.depth) (first ∙ ap (λ k. token_of k ∷ c.next.new.self) c.in-BeginObject.is)
-        ∙ value-begin_object c.args.depth c.next.new.self (omega arith) in
+    ∙ value-begin_object c.args.depth c.next.new.self (omega arith) in
     none_handed_on c.from_residual-in_err-read_members-in-BeginObject.result
-        c.in_err-read_members-in-BeginObject.field-0.0 (finite_members (c.args.depth - 1) c.next.new.self)
+    c.in_err-read_members-in-BeginObject.field-0.0 (finite_members (c.args.depth - 1) c.next.new.self)
     (finite_value c.args.depth c.args.reader.now) c.from_residual-in_err-read_members-in-BeginObject.ensures.1
     (λ none. ap (tested is_finite) opened
-        ∙ tested-object (members (value (c.args.depth - 1)) (length c.next.new.self) c.next.new.self)
-        ∙ ap (parse_map object) none)
+    ∙ tested-object (members (value (c.args.depth - 1)) (length c.next.new.self) c.next.new.self)
+    ∙ ap (parse_map object) none)
     c.in_err-read_members-in-BeginObject.ensures.err
 
 pub read_value-returns-in-String-clause-ok : goal.read_value-returns-in-String-clause-ok
@@ -165,7 +165,7 @@ read_value-returns-in-String-clause-ok t c =
     let is : c.args.reader.now ≡ Token.string c.in-String.text.now ∷ c.next.new.self = grind (arith, first) in
     let seen : value_view (String c.in-String.text) ≡ Json.string c.in-String.text.now = search (rules, the_lemmas) in
     ap (tested is_finite) (ap (value c.args.depth) is ∙ value_is c.args.depth _)
-        ∙ ap (λ j. Some (j, c.next.new.self)) (sym seen)
+    ∙ ap (λ j. Some (j, c.next.new.self)) (sym seen)
 
 pub read_value-returns-in-Bool-clause-ok : goal.read_value-returns-in-Bool-clause-ok
 read_value-returns-in-Bool-clause-ok t c =
@@ -173,7 +173,7 @@ read_value-returns-in-Bool-clause-ok t c =
     let is : c.args.reader.now ≡ Token.boolean c.in-Bool.truth ∷ c.next.new.self = grind (arith, first) in
     let seen : value_view (Bool c.in-Bool.truth) ≡ Json.boolean c.in-Bool.truth = search (rules, the_lemmas) in
     ap (tested is_finite) (ap (value c.args.depth) is ∙ value_is c.args.depth _)
-        ∙ ap (λ j. Some (j, c.next.new.self)) (sym seen)
+    ∙ ap (λ j. Some (j, c.next.new.self)) (sym seen)
 
 pub read_value-returns-in-Null-clause-ok : goal.read_value-returns-in-Null-clause-ok
 read_value-returns-in-Null-clause-ok t c =
@@ -181,13 +181,13 @@ read_value-returns-in-Null-clause-ok t c =
     let is : c.args.reader.now ≡ Token.null ∷ c.next.new.self = grind (arith, first) in
     let seen : value_view Null ≡ Json.null = search (rules, the_lemmas) in
     ap (tested is_finite) (ap (value c.args.depth) is ∙ value_is c.args.depth _)
-        ∙ ap (λ j. Some (j, c.next.new.self)) (sym seen)
+    ∙ ap (λ j. Some (j, c.next.new.self)) (sym seen)
 
 pub read_value-returns-in-EndObject-clause-err : goal.read_value-returns-in-EndObject-clause-err
 read_value-returns-in-EndObject-clause-err t c =
     let first : c.args.reader.now ≡ token_of c.in_ok-token.token ∷ c.next.new.self = grind arith in
     let none : value c.args.depth c.args.reader.now ≡ None =
-        rw (value_is c.args.depth c.args.reader.now, first) (grind arith) in
+    rw (value_is c.args.depth c.args.reader.now, first) (grind arith) in
     (refl, ap (tested is_finite) none)
 
 pub read_value-returns-in_ok-read_items-in-BeginArray-clause-ok :
@@ -195,24 +195,24 @@ pub read_value-returns-in_ok-read_items-in-BeginArray-clause-ok :
 read_value-returns-in_ok-read_items-in-BeginArray-clause-ok t c =
     let first : c.args.reader.now ≡ token_of c.in_ok-token.token ∷ c.next.new.self = grind arith in
     let opened = ap (value c.args.depth) (first ∙ ap (λ k. token_of k ∷ c.next.new.self) c.in-BeginArray.is)
-        ∙ value-begin_array c.args.depth c.next.new.self (omega arith) in
+    ∙ value-begin_array c.args.depth c.next.new.self (omega arith) in
     let found = c.in_ok-read_items-in-BeginArray in
     ap (tested is_finite) opened
-        ∙ tested-array (items (value (c.args.depth - 1)) (length c.next.new.self) c.next.new.self)
-        ∙ ap (parse_map array) found.ensures.ok ∙ ap (λ j. Some (j, c.read_items.new.reader))
-        (sym (view-Array found.field-0))
+    ∙ tested-array (items (value (c.args.depth - 1)) (length c.next.new.self) c.next.new.self)
+    ∙ ap (parse_map array) found.ensures.ok ∙ ap (λ j. Some (j, c.read_items.new.reader))
+    (sym (view-Array found.field-0))
 
 pub read_value-returns-in_ok-read_members-in-BeginObject-clause-ok :
     goal.read_value-returns-in_ok-read_members-in-BeginObject-clause-ok
 read_value-returns-in_ok-read_members-in-BeginObject-clause-ok t c =
     let first : c.args.reader.now ≡ token_of c.in_ok-token.token ∷ c.next.new.self = grind arith in
     let opened = ap (value c.args.depth) (first ∙ ap (λ k. token_of k ∷ c.next.new.self) c.in-BeginObject.is)
-        ∙ value-begin_object c.args.depth c.next.new.self (omega arith) in
+    ∙ value-begin_object c.args.depth c.next.new.self (omega arith) in
     let found = c.in_ok-read_members-in-BeginObject in
     ap (tested is_finite) opened
-        ∙ tested-object (members (value (c.args.depth - 1)) (length c.next.new.self) c.next.new.self)
-        ∙ ap (parse_map object) found.ensures.ok ∙ ap (λ j. Some (j, c.read_members.new.reader))
-        (sym (view-Object found.field-0))
+    ∙ tested-object (members (value (c.args.depth - 1)) (length c.next.new.self) c.next.new.self)
+    ∙ ap (parse_map object) found.ensures.ok ∙ ap (λ j. Some (j, c.read_members.new.reader))
+    (sym (view-Object found.field-0))
 
 pub read_value-returns-in_err-finite_number-in-Number-clause-err :
     goal.read_value-returns-in_err-finite_number-in-Number-clause-err
@@ -221,7 +221,7 @@ read_value-returns-in_err-finite_number-in-Number-clause-err t c =
     let is : c.args.reader.now ≡ Token.number c.in-Number.text.now ∷ c.next.new.self = grind (arith, first) in
     let refused = c.in_err-finite_number-in-Number.ensures.err in
     let none : finite_value c.args.depth c.args.reader.now ≡ None =
-        ap (tested is_finite) (ap (value c.args.depth) is ∙ value_is c.args.depth _) ∙ rw refused.1 refl in
+    ap (tested is_finite) (ap (value c.args.depth) is ∙ value_is c.args.depth _) ∙ rw refused.1 refl in
     grind (arith, none)
 
 pub read_value-returns-in_ok-finite_number-in-Number-clause-ok :
@@ -231,4 +231,4 @@ read_value-returns-in_ok-finite_number-in-Number-clause-ok t c =
     let is : c.args.reader.now ≡ Token.number c.in-Number.text.now ∷ c.next.new.self = grind (arith, first) in
     let found = c.in_ok-finite_number-in-Number.ensures.ok in
     ap (tested is_finite) (ap (value c.args.depth) is ∙ value_is c.args.depth _)
-        ∙ rw found.1 (ap (λ j. Some (j, c.next.new.self)) (sym found.0))
+    ∙ rw found.1 (ap (λ j. Some (j, c.next.new.self)) (sym found.0))

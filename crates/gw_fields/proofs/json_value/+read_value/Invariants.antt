@@ -16,8 +16,8 @@ decreases-read_members l = 2 * l.depth + 1
 abbrev pub invariant-read_items-items : goal.invariant-read_items-items
 invariant-read_items-items l =
     (n : ℕ) × (length l.reader ≤ n)
-        × (finite_items l.depth l.initial.reader ≡ parse_map (items_before l.found.items)
-        (tested are_finite_items (items (value l.depth) n l.reader)))
+    × (finite_items l.depth l.initial.reader ≡ parse_map (items_before l.found.items)
+    (tested are_finite_items (items (value l.depth) n l.reader)))
     × (length l.reader ≤ length l.initial.reader)
 
 abbrev pub decreases-read_items-items : goal.decreases-read_items-items
@@ -26,8 +26,8 @@ decreases-read_items-items l = length l.reader
 abbrev pub invariant-read_members-members : goal.invariant-read_members-members
 invariant-read_members-members l =
     (n : ℕ) × (length l.reader ≤ n)
-        × (finite_members l.depth l.initial.reader ≡ parse_map (members_before l.found.items)
-        (tested are_finite_members (members (value l.depth) n l.reader)))
+    × (finite_members l.depth l.initial.reader ≡ parse_map (members_before l.found.items)
+    (tested are_finite_members (members (value l.depth) n l.reader)))
     × (length l.reader ≤ length l.initial.reader)
 
 abbrev pub decreases-read_members-members : goal.decreases-read_members-members

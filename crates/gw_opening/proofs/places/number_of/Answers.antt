@@ -13,6 +13,6 @@ returns c =
     let test = λ (x : RouteValue). x.target == target in
     let one = c.requires.there.0 in
     ap (slice_get (route_places c.args.script.now target)) (c.among_routes.ensures
-        ∙ ap (λ xs. count_by test (take k xs)) c.routes.ensures)
+    ∙ ap (λ xs. count_by test (take k xs)) c.routes.ensures)
     ∙ place-found test 0 said k one c.requires.there.1 (eq-eqb one.target target c.requires.there.2)
     ∙ ap Some (let same : 0 + k ≡ k = omega arith in same)

@@ -8,6 +8,6 @@ pub returns : goal.returns
 returns c =
     let faults = c.args.script.now.faults in
     let all = take_all c.loop-fault.fault-index faults
-        (omega (arith, c.loop-fault-test.false, ap length c.faults-fault-items.ensures)) in
+    (omega (arith, c.loop-fault-test.false, ap length c.faults-fault-items.ensures)) in
     c.loop-fault.invariant ∙ ap (kept_of (line_fault_in c.args.segment) []) all
-        ∙ kept-all (line_fault_in c.args.segment) faults
+    ∙ kept-all (line_fault_in c.args.segment) faults

@@ -8,5 +8,5 @@ pub returns : goal.returns
 returns c =
     let aborts = c.args.script.now.aborts in
     let all = take_all c.loop-abort.abort-index aborts
-        (omega (arith, c.loop-abort-test.false, ap length c.aborts-abort-items.ensures)) in
+    (omega (arith, c.loop-abort-test.false, ap length c.aborts-abort-items.ensures)) in
     c.loop-abort.invariant ∙ ap (kept_of (abort_in c.args.route) []) all ∙ kept-all (abort_in c.args.route) aborts

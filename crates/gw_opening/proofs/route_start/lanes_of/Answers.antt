@@ -16,8 +16,8 @@ loop-route-preserved g c =
     let made = c.in_ok-lane.ensures in (
       subst (λ lanes. OpensBelow s c.start_lane.new.sites lanes (k + 1)) (sym c.in_ok-push_one.ensures)
           (opens_step s c.loop-route.sites c.start_lane.new.sites c.loop-route.lanes.items k c.in_ok-lane.lane
-              c.requires.sound
+          c.requires.sound
           (omega (arith, c.loop-route-test.true, ap length c.routes-route-end.ensures)) made.sites made.lane made.takes
-              made.others c.loop-route.invariant.0),
+          made.others c.loop-route.invariant.0),
       same_mails-on c.args.sites.now c.loop-route.sites c.start_lane.new.sites c.loop-route.invariant.1 made.mails,
     )

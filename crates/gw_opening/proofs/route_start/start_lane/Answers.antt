@@ -8,13 +8,13 @@ put-requires g c =
     let value = some_there c.args.script.now.routes c.args.route c.requires.there in
     let lane = c.in_ok-lane.ensures.lane value.0 value.1 in
     let there = place_there c.args.script.now c.args.sites.now value.0.source c.in_ok-lane.lane.source c.requires.sound
-        c.requires.sites lane.lane_is.source_is in
+    c.requires.sites lane.lane_is.source_is in
     (there.port, there.at)
 
 pub returns-clause-sites : goal.returns-clause-sites
 returns-clause-sites g c =
     sites_set c.args.script.now c.in_ok-lane.lane.fifo _ c.args.sites.now c.put.new.sites c.in_ok-lane.lane.source
-        c.in-Ok.ensures.stands c.put.ensures c.requires.sites
+    c.in-Ok.ensures.stands c.put.ensures c.requires.sites
 
 pub returns-clause-takes : goal.returns-clause-takes
 returns-clause-takes g c =

@@ -16,7 +16,7 @@ returns-clause-sets g c =
     let found : slice_get sites t ≡ Some site = slice_get-get_or sites t c.index-sites-place.result within in
     let same : at.site ≡ site = same_some at.site site (sym at.site_is ∙ found) in
     let inside : q < length site.ports.items =
-        subst (λ s. q < length s.ports.items) same (slice_get_within at.site.ports.items q c.requires.0 at.port_is) in
+    subst (λ s. q < length s.ports.items) same (slice_get_within at.site.ports.items q c.requires.0 at.port_is) in
     record {
       site = site;
       late_site = _;
@@ -43,11 +43,11 @@ returns-clause-was g c = λ port at.
     let within : t < length sites = slice_get_within sites t at.site at.site_is in
     let site = get_or sites t c.index-sites-place.result in
     let same : at.site ≡ site =
-        same_some at.site site (sym at.site_is ∙ slice_get-get_or sites t c.index-sites-place.result within) in
+    same_some at.site site (sym at.site_is ∙ slice_get-get_or sites t c.index-sites-place.result within) in
     let inside : q < length site.ports.items =
-        subst (λ s. q < length s.ports.items) same (slice_get_within at.site.ports.items q port at.port_is) in
+    subst (λ s. q < length s.ports.items) same (slice_get_within at.site.ports.items q port at.port_is) in
     let found : slice_get site.ports.items q ≡ Some c.index_mut.result.now =
-        slice_get-get_or site.ports.items q c.index_mut.result.now inside ∙ ap Some (sym c.index_mut.ensures.value) in
+    slice_get-get_or site.ports.items q c.index_mut.result.now inside ∙ ap Some (sym c.index_mut.ensures.value) in
     let here : c.index_mut.result.now ≡ port = same_some c.index_mut.result.now port
-        (sym found ∙ ap (λ s. slice_get s.ports.items q) (sym same) ∙ at.port_is) in
+    (sym found ∙ ap (λ s. slice_get s.ports.items q) (sym same) ∙ at.port_is) in
     c.exchange.ensures.was ∙ ap (λ p. slot_of p c.args.fifo) here

@@ -13,8 +13,8 @@ in_order-requires-clause-full g c =
     let Back = CourierRuns {G = g.row.G.Denot} g.S.RouteTx.route_after g.S.RouteTx.stays in
     let b = c.take_all.ensures in
     let back = put_back c.args.slots.len c.take_all.new.slots c.args.slots.items
-        (omega (arith, c.as_mut_slice.ensures.len, b.size, c.requires.size, ap length c.as_mut_slice.ensures.value))
-        (omega (arith, b.size, c.requires.size)) in
+    (omega (arith, c.as_mut_slice.ensures.len, b.size, c.requires.size, ap length c.as_mut_slice.ensures.value))
+    (omega (arith, b.size, c.requires.size)) in
     subst (λ slots. AreFull slots) (sym back) (are_full Back g.J.Dealing.dealt c.take_all.new.slots b)
 
 pub returns : goal.returns
@@ -22,8 +22,8 @@ returns g c =
     let Back = CourierRuns {G = g.row.G.Denot} g.S.RouteTx.route_after g.S.RouteTx.stays in
     let b = c.take_all.ensures in
     let back = put_back c.args.slots.len c.take_all.new.slots c.args.slots.items
-        (omega (arith, c.as_mut_slice.ensures.len, b.size, c.requires.size, ap length c.as_mut_slice.ensures.value))
-        (omega (arith, b.size, c.requires.size)) in
+    (omega (arith, c.as_mut_slice.ensures.len, b.size, c.requires.size, ap length c.as_mut_slice.ensures.value))
+    (omega (arith, b.size, c.requires.size)) in
     in_order_back Back g.J.Dealing.dealt c.take_all.new.slots c.in_order.result.items b
     (subst (λ slots. Pairs (λ k (slot : Option (Courier g.row.S.Denot g.row.G.Denot)) one. slot ≡ Some one) slots
-          c.in_order.result.items) back c.in_order.ensures)
+    c.in_order.result.items) back c.in_order.ensures)

@@ -29,12 +29,12 @@ loop-slot-preserved g c =
       subst (Pairs (λ k (slot : Option g.row.T.Denot) one. slot ≡ Some one) (l.yielded ++ c.in-Some.slot ∷ []))
           (sym pushed.items)
           (pairs_more (λ k (slot : Option g.row.T.Denot) one. slot ≡ Some one) l.yielded l.all.items c.in-Some.slot
-              c.in-Some-slot.one c.in-Some-slot.is l.invariant.3),
+          c.in-Some-slot.one c.in-Some-slot.is l.invariant.3),
     )
 
 pub unreachable-requires : goal.unreachable-requires
 unreachable-requires g c =
     let l = c.loop-slot in
     full_there l.yielded (into_iter_items c.next.new.self) (into_iter_items l.slot-iterator)
-        (into_iter_items c.into_iter-slot-iterator.result) c.in-Some.slot l.invariant.0 c.in-Some.ensures.steps.0
-        l.invariant.2 c.in-None-slot.is
+    (into_iter_items c.into_iter-slot-iterator.result) c.in-Some.slot l.invariant.0 c.in-Some.ensures.steps.0
+    l.invariant.2 c.in-None-slot.is

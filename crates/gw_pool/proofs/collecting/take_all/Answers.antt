@@ -11,8 +11,14 @@ use Rattle.gw_pool.proofs.Fair.{weigh-append}
 use Rattle.gw_pool.proofs.collecting.take_all.Goals as goal
 
 pub loop-baton-init : goal.loop-baton-init
-loop-baton-init g c = (tt, tt, c.requires.parts, refl, c.requires.size,
-    ([], (λ h. omega arith), (λ k x there some. absurd (omega (arith, some)))))
+loop-baton-init g c = (
+  tt,
+  tt,
+  c.requires.parts,
+  refl,
+  c.requires.size,
+  ([], (λ h. omega arith), (λ k x there some. absurd (omega (arith, some)))),
+)
 
 pub loop-baton-preserved : goal.loop-baton-preserved
 loop-baton-preserved g c =
@@ -31,12 +37,18 @@ loop-baton-preserved g c =
         got.0 ++ place ∷ [],
         (λ h. let more = ap (λ (v : Account). weigh h v.taken) taken in
             let same = ap h c.place-place.ensures.place in
-            omega (arith, more, same, got.1 h, weigh-append h l.seat.account.taken (c.in-Some-collect.baton ∷ []),
-                weigh-append h got.0 (place ∷ []))),
+            omega (
+              arith,
+              more,
+              same,
+              got.1 h,
+              weigh-append h l.seat.account.taken (c.in-Some-collect.baton ∷ []),
+              weigh-append h got.0 (place ∷ []),
+            )),
         subst (λ slots. AreBackBy Back g.J.Dealing.dealt slots (got.0 ++ place ∷ [])) (sym c.set_slot.ensures)
             (one_back Back g.J.Dealing.dealt l.slots got.0 place c.end.result within
-                (λ start there. c.end.ensures start (ap (slice_get g.J.Dealing.dealt) (sym c.place-place.ensures.place)
-                    ∙ there)) got.2),
+            (λ start there. c.end.ensures start (ap (slice_get g.J.Dealing.dealt) (sym c.place-place.ensures.place)
+            ∙ there)) got.2),
       ),
     )
 
@@ -45,7 +57,7 @@ returns-in_default g c =
     let l = c.loop-baton in
     let got = l.invariant.5 in
     all_back (CourierRuns {G = g.row.G.Denot} g.S.RouteTx.route_after g.S.RouteTx.stays) g.J.Dealing.dealt l.slots got.0
-        l.invariant.4
+    l.invariant.4
     (λ h. let all = c.in_default.ensures.all h in
     let put = ap (weigh h) l.invariant.3 in
     omega (arith, all, put, got.1 h, c.requires.left h)) got.2

@@ -12,5 +12,5 @@ invariant-loop-baton g l =
     × (l.seat.account.put ≡ l.initial.seat.account.put)
     × (length l.slots ≡ length g.J.Dealing.dealt)
     × ((got : List ℕ)
-        × ((h : ℕ → ℕ) → weigh h l.seat.account.taken ≡ weigh h l.initial.seat.account.taken + weigh h got)
+    × ((h : ℕ → ℕ) → weigh h l.seat.account.taken ≡ weigh h l.initial.seat.account.taken + weigh h got)
     × AreBackBy (CourierRuns g.S.RouteTx.route_after g.S.RouteTx.stays) g.J.Dealing.dealt l.slots got)

@@ -15,4 +15,4 @@ invariant-loop-courier g l =
     × (0 < l.initial.seat.account.parts)
     × (l.seat.queue ≡ l.initial.seat.queue)
     × (l.seat.account ≡ account l.initial.seat.account.parts (l.initial.seat.account.put ++ places l.place)
-        l.initial.seat.account.taken)
+    l.initial.seat.account.taken)

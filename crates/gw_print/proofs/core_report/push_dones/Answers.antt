@@ -11,7 +11,7 @@ loop-entry-preserved c =
     let i = c.loop-entry.entry-index in
     let front = take i c.args.done.now in
     let P : List Entry → Type 0 =
-        AppendsDones c.args.route (string_bytes c.args.text.now) (string_bytes c.push_done.new.text) in
+    AppendsDones c.args.route (string_bytes c.args.text.now) (string_bytes c.push_done.new.text) in
     let more = take_more c.args.done.now i c.entry-item.result c.loop-entry-test.true in
     subst P (ap (λ e. front ++ e ∷ []) c.entry-item.is ∙ sym more)
-        (dones-snoc _ _ _ _ front c.entry-item.result c.loop-entry.invariant c.in_ok-push_done.ensures)
+    (dones-snoc _ _ _ _ front c.entry-item.result c.loop-entry.invariant c.in_ok-push_done.ensures)

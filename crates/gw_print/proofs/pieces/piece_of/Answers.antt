@@ -9,13 +9,13 @@ pub print_segment-requires-clause-nodes : goal.print_segment-requires-clause-nod
 print_segment-requires-clause-nodes c =
     let records = c.args.report.now.segments.items in
     c.requires.names.records c.args.segment _
-        (slice_get_read records (length records) c.args.segment _ refl c.requires.segment c.index.ensures)
+    (slice_get_read records (length records) c.args.segment _ refl c.requires.segment c.index.ensures)
 
 pub returns : goal.returns
 returns c = λ of is.
     let records = c.args.report.now.segments.items in
     let at : slice_get records c.args.segment ≡ Some c.index.result.now =
-        slice_get_read records (length records) c.args.segment _ refl c.requires.segment c.index.ensures in
+    slice_get_read records (length records) c.args.segment _ refl c.requires.segment c.index.ensures in
     let same : c.index.result.now ≡ of = cc in
     subst (λ (kept : Record). IsPiece c.args.script.now c.args.segment kept c.print_segment.result) same
-        c.print_segment.ensures.text
+    c.print_segment.ensures.text

@@ -15,4 +15,4 @@ returns g c =
     whole-said (segment_text script) 0 records texts (simp length-map at are.count) (λ i x d is.
     let here : i ≡ 0 + i = sym (zero-add i) in
     subst (λ n. IfOk (slice_index_or (map Ok texts) i d) (λ text. text.items ≡ segment_text script n x)) here
-        (are.each i x d is))
+    (are.each i x d is))

@@ -12,5 +12,5 @@ loop-port-preserved c =
           ∙ ap (λ rest. l.yielded ++ rest) (sym c.in-Some.ensures.steps.0) ∙ l.invariant.0,
       subst (Pairs (λ k. ClosesPort) (l.yielded ++ c.in-Some.port ∷ [])) (sym c.in_ok-push_one.ensures)
           (pairs_more (λ k. ClosesPort) l.yielded l.closed.items c.in-Some.port c.in_ok-close_port.field-0
-              c.in_ok-close_port.ensures l.invariant.1),
+          c.in_ok-close_port.ensures l.invariant.1),
     )

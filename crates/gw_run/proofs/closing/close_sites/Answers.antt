@@ -12,5 +12,5 @@ loop-site-preserved c =
           ∙ ap (λ rest. l.yielded ++ rest) (sym c.in-Some.ensures.steps.0) ∙ l.invariant.0,
       subst (Pairs (λ k. ClosesSite) (l.yielded ++ c.in-Some.site ∷ [])) (sym c.in_ok-push_one.ensures)
           (pairs_more (λ k. ClosesSite) l.yielded l.closed.items c.in-Some.site c.in_ok-close_site.field-0
-              c.in_ok-close_site.ensures l.invariant.1),
+          c.in_ok-close_site.ensures l.invariant.1),
     )

@@ -12,14 +12,14 @@ make_all-requires-clause-world g c =
 pub make_all-requires-clause-made : goal.make_all-requires-clause-made
 make_all-requires-clause-made g c =
     subst (λ bits. HaveMade bits 0 c.args.sites.now) (sym (c.from.ensures ∙ c.bits.ensures))
-        (none_made c.args.script.now c.args.sites.now c.args.lanes.now c.requires.opens)
+    (none_made c.args.script.now c.args.sites.now c.args.lanes.now c.requires.opens)
 
 pub returns-clause-run : goal.returns-clause-run
 returns-clause-run g c =
     let ends = c.in_ok-make_all.ensures in
     let made = subst (λ bits. HaveMade bits bits c.make_all.new.sites) (c.from.ensures ∙ c.bits.ensures) ends.made in
     has_run c.args.script.now c.args.sites.now c.make_all.new.sites c.args.lanes.now c.make_all.new.lanes
-        c.requires.opens ends.keeps ends.lanes ends.world made
+    c.requires.opens ends.keeps ends.lanes ends.world made
 
 pub make_all-requires-clause-turned : goal.make_all-requires-clause-turned
 make_all-requires-clause-turned g c = none_turned c.args.script.now c.args.sites.now c.args.lanes.now _ c.requires.opens

@@ -12,10 +12,10 @@ pub end_run-requires-clause-over : goal.end_run-requires-clause-over
 end_run-requires-clause-over g c =
     let run = c.in_ok-lanes.ensures in
     let back = put_back c.in_ok-sites.sites.len c.run_routes.new.sites c.in_ok-sites.sites.items
-        (omega (arith, c.as_mut_slice.ensures.len, run.each_site.size, c.in_ok-sites.ensures.new.size))
-        (omega (arith, run.each_site.size, c.in_ok-sites.ensures.new.size)) in
+    (omega (arith, c.as_mut_slice.ensures.len, run.each_site.size, c.in_ok-sites.ensures.new.size))
+    (omega (arith, run.each_site.size, c.in_ok-sites.ensures.new.size)) in
     has_closed c.args.script.now c.run_routes.new.sites c.in_ok-lanes.lanes.items c.in_ok-closed.closed.items
-        (subst (λ sites. Pairs (λ i. ClosesSite) sites c.in_ok-closed.closed.items) back c.in_ok-closed.ensures) run
+    (subst (λ sites. Pairs (λ i. ClosesSite) sites c.in_ok-closed.closed.items) back c.in_ok-closed.ensures) run
 
 pub end_run-requires-clause-few : goal.end_run-requires-clause-few
 end_run-requires-clause-few g c place port at =

@@ -10,4 +10,4 @@ loop-nth-preserved c =
     let places = controller_places s c.args.segment in
     subst (λ ports. PairsBelow (λ k. StartsPort s) places ports (c.loop-nth.nth + 1)) (sym c.in_ok-push_one.ensures)
     (pairs_step (λ k. StartsPort s) places c.loop-nth.ports.items c.loop-nth.nth c.controller_there-controller.result
-        c.plain_port.result c.controller_there-controller.ensures.place c.plain_port.ensures c.loop-nth.invariant)
+    c.plain_port.result c.controller_there-controller.ensures.place c.plain_port.ensures c.loop-nth.invariant)

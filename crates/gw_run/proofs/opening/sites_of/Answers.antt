@@ -19,10 +19,14 @@ loop-segment-preserved c =
 pub returns-clause-new : goal.returns-clause-new
 returns-clause-new c =
     new_sites c.args.script.now c.loop-segment.sites.items c.loop-segment.segment
-        (omega (arith, c.loop-segment-test.false, ap length c.segments-segment-end.ensures,
-          c.loop-segment.invariant.size)) c.loop-segment.invariant
+    (omega (
+      arith,
+      c.loop-segment-test.false,
+      ap length c.segments-segment-end.ensures,
+      c.loop-segment.invariant.size,
+    )) c.loop-segment.invariant
 
 pub returns-clause-mails : goal.returns-clause-mails
 returns-clause-mails c =
     have_mails c.args.script.now c.loop-segment.sites.items c.loop-segment.segment
-        (omega (arith, c.loop-segment-test.false, ap length c.segments-segment-end.ensures)) c.loop-segment.invariant
+    (omega (arith, c.loop-segment-test.false, ap length c.segments-segment-end.ensures)) c.loop-segment.invariant

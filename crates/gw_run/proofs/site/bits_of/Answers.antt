@@ -12,9 +12,12 @@ use Rattle.gw_run.proofs.site.bits_of.Goals as goal
 
 pub loop-site-init : goal.loop-site-init
 loop-site-init g c = (
-  record { holds = c.requires.holds; plan_is = refl;
-      ports = leave-self PortLeaves c.args.site.now.ports.items
-      (λ x. port_of_bus BusKeeps x x (bus_leaves-self BusKeeps bus_keeps-self x)) },
+  record {
+    holds = c.requires.holds;
+    plan_is = refl;
+    ports = leave-self PortLeaves c.args.site.now.ports.items
+        (λ x. port_of_bus BusKeeps x x (bus_leaves-self BusKeeps bus_keeps-self x));
+  },
   c.requires.at_most,
   c.requires.ahead,
 )
@@ -31,19 +34,22 @@ loop-site-preserved g c =
     let ports = c.loop-site.site.ports in
     let left = subst (λ from. PortsLeave from c.make_bit.new.ports) c.as_mut_slice.ensures.value made.ports in
     let back = put_back ports.len c.make_bit.new.ports ports.items
-        (omega (arith, c.as_mut_slice.ensures.len, ap length c.as_mut_slice.ensures.value, left.size))
-        (sym left.size) in
+    (omega (arith, c.as_mut_slice.ensures.len, ap length c.as_mut_slice.ensures.value, left.size))
+    (sym left.size) in
     let holds = subst (λ all. SiteHolds c.make_bit.new.segment all) (sym back) made.holds in (
       record {
         holds = site_quietly BusDid on_bus SinkStands c.make_bit.new.segment c.quiet_bits.new.self _ passed holds;
         plan_is = passed.plan_is ∙ made.plan ∙ c.loop-site.invariant.0.plan_is;
         ports = subst (λ all. PortsLeave c.args.site.now.ports.items all) (sym back)
             (leave-on PortLeaves c.args.site.now.ports.items ports.items c.make_bit.new.ports
-                (port_leaves-on BusKeeps bus_keeps-on) c.loop-site.invariant.0.ports left);
+            (port_leaves-on BusKeeps bus_keeps-on) c.loop-site.invariant.0.ports left);
       },
       search rules,
-      (length c.make_bit.new.segment.levels, search rules,
-          record { before = c.make_bit.new.segment; made_is = refl; quiet = quiet.bits }),
+      (
+        length c.make_bit.new.segment.levels,
+        search rules,
+        record { before = c.make_bit.new.segment; made_is = refl; quiet = quiet.bits },
+      ),
     )
 
 pub loop-site-smaller : goal.loop-site-smaller
@@ -56,5 +62,8 @@ pub returns : goal.returns
 returns g c =
     let held = c.loop-site.invariant in
     let far : c.args.until ≤ length c.loop-site.site.segment.levels = search rules in
-    record { moves = held.0; ahead = ahead_on held.2.0 c.args.until c.loop-site.site.segment held.2.1 far held.2.2;
-        at_most = held.1 }
+    record {
+      moves = held.0;
+      ahead = ahead_on held.2.0 c.args.until c.loop-site.site.segment held.2.1 far held.2.2;
+      at_most = held.1;
+    }

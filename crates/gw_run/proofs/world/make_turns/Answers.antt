@@ -8,13 +8,19 @@ use Rattle.gw_run.proofs.Keeps.{sites-self, sites-on, sites_of_first, sites_turn
 use Rattle.gw_run.proofs.world.make_turns.Goals as goal
 
 pub loop-place-init : goal.loop-place-init
-loop-place-init g c = (c.requires, segments_start c.args.sites.now, lanes_start c.args.lanes.now,
-    sites-self c.args.lanes.now c.args.sites.now, places_start (λ k. CountsTurn) c.args.lanes.now, λ h. h)
+loop-place-init g c = (
+  c.requires,
+  segments_start c.args.sites.now,
+  lanes_start c.args.lanes.now,
+  sites-self c.args.lanes.now c.args.sites.now,
+  places_start (λ k. CountsTurn) c.args.lanes.now,
+  λ h. h,
+)
 
 pub loop-place-preserved : goal.loop-place-preserved
 loop-place-preserved g c =
     let found = slice_get-get_or c.loop-place.lanes c.loop-place.place c.index-lanes-place.result
-        (omega (arith, c.loop-place-test.true)) in (
+    (omega (arith, c.loop-place-test.true)) in (
       world_turn c.loop-place.sites c.turn_of.new.sites c.loop-place.lanes c.loop-place.place _ c.turn_of.new.lane found
           c.turn_of.ensures.turns c.loop-place.invariant.0,
       segments_turn c.args.sites.now c.loop-place.sites c.turn_of.new.sites _ c.turn_of.new.lane c.turn_of.ensures.turns
@@ -23,9 +29,9 @@ loop-place-preserved g c =
           c.turn_of.ensures.turns.keeps c.loop-place.invariant.2,
       sites-on c.args.lanes.now c.args.sites.now c.loop-place.sites c.turn_of.new.sites c.loop-place.invariant.3
           (sites_of_first c.args.lanes.now c.loop-place.lanes c.loop-place.sites c.turn_of.new.sites
-              c.loop-place.invariant.2
+          c.loop-place.invariant.2
           (sites_turn c.loop-place.lanes c.loop-place.place _ c.turn_of.new.lane c.loop-place.sites c.turn_of.new.sites
-              found c.turn_of.ensures.turns)),
+          found c.turn_of.ensures.turns)),
       places_step (λ k. CountsTurn) c.args.lanes.now c.loop-place.lanes c.loop-place.place _ c.turn_of.new.lane
           (omega (arith, c.loop-place-test.true, c.loop-place.invariant.4.size)) found c.in_ok-turn_of.ensures.counted
           c.loop-place.invariant.4,

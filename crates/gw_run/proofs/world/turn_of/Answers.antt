@@ -16,9 +16,9 @@ returns-clause-turns g c =
     let site : Site = get_or sites t c.index-sites-place.result in
     let found : slice_get sites t ≡ Some site = slice_get-get_or sites t c.index-sites-place.result within in
     let same : c.requires.to_is.site ≡ site =
-        same_some c.requires.to_is.site site (sym c.requires.to_is.site_is ∙ found) in
+    same_some c.requires.to_is.site site (sym c.requires.to_is.site_is ∙ found) in
     let inside : q < length site.ports.items = subst (λ (s : Site). q < length s.ports.items) same
-        (slice_get_within c.requires.to_is.site.ports.items q c.requires.to c.requires.to_is.port_is) in
+    (slice_get_within c.requires.to_is.site.ports.items q c.requires.to c.requires.to_is.port_is) in
     record {
       at = record {
         site = site;
@@ -39,8 +39,15 @@ returns-clause-turns g c =
       };
       linked = c.turn_on.ensures.linked;
       log = c.turn_on.ensures.log;
-      keeps = record { source_is = refl; fifo_is = refl; target_is = refl; number_is = refl;
-          queue_is = c.turn_on.ensures.queue; rewrites_is = c.turn_on.ensures.rewrites; plan = c.turn_on.ensures.plan };
+      keeps = record {
+        source_is = refl;
+        fifo_is = refl;
+        target_is = refl;
+        number_is = refl;
+        queue_is = c.turn_on.ensures.queue;
+        rewrites_is = c.turn_on.ensures.rewrites;
+        plan = c.turn_on.ensures.plan;
+      };
     }
 
 pub returns-clause-short : goal.returns-clause-short

@@ -18,8 +18,11 @@ pub returns-then-number-lt10-clause-written : goal.returns-then-number-lt10-clau
 returns-then-number-lt10-clause-written c =
     let one = length_one c.args.number c.if-number-lt10.true in
     let e : c.args.end - 1 + 1 ≡ c.args.end = omega arith in
-    rw (drop-set c.args.digits.now (c.args.end - 1) _ (omega arith), e,
-        decimal_digit c.args.number c.if-number-lt10.true)
+    rw (
+      drop-set c.args.digits.now (c.args.end - 1) _ (omega arith),
+      e,
+      decimal_digit c.args.number c.if-number-lt10.true,
+    )
 
 pub overflow_sub-end : goal.overflow_sub-end
 overflow_sub-end c = omega (arith, length_two c.args.number c.if-number-lt10.false c.requires.few)

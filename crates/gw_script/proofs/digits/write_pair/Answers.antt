@@ -10,6 +10,11 @@ returns c =
     let ones = 48 + c.args.pair % 10 in
     let e : at + 1 + 1 ≡ at + 2 = omega arith in
     let p = PAIRS_at c.args.pair c.requires.pair in
-    rw (p.0, p.1, set_comm digits at (at + 1) _ _ (λ x. omega arith),
-        drop-set (set digits (at + 1) ones) at _ (omega (arith, length-set digits (at + 1) ones)),
-        drop-set digits (at + 1) _ (omega arith), e)
+    rw (
+      p.0,
+      p.1,
+      set_comm digits at (at + 1) _ _ (λ x. omega arith),
+      drop-set (set digits (at + 1) ones) at _ (omega (arith, length-set digits (at + 1) ones)),
+      drop-set digits (at + 1) _ (omega arith),
+      e,
+    )

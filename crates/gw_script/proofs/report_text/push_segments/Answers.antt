@@ -9,4 +9,4 @@ push_segment-requires-clause-nodes c =
     c.requires.records c.loop-segment.segment c.kept-item.result
     (ap (λ rs. slice_get rs c.loop-segment.segment) (sym c.deref-kept-items.ensures.value)
     ∙ slice_get_read records (length records) c.loop-segment.segment c.kept-item.result refl c.loop-segment-test.true
-        c.kept-item.is)
+    c.kept-item.is)

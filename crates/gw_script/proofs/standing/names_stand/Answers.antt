@@ -8,9 +8,9 @@ returns c =
     let report = c.args.report.now in
     let records = c.as_slice-records.ensures.value in
     let segments : length report.segments.items ≡ length s.segments =
-        ap length (sym records) ∙ c.if-records-segments.false ∙ ap length c.segments.ensures in
+    ap length (sym records) ∙ c.if-records-segments.false ∙ ap length c.segments.ensures in
     let routes : length report.routes.items ≡ length s.routes =
-        ap length (sym c.as_slice-routes.ensures.value) ∙ c.if-routes.false ∙ ap length c.routes.ensures in (
+    ap length (sym c.as_slice-routes.ensures.value) ∙ c.if-routes.false ∙ ap length c.routes.ensures in (
       λ stand. record {
         segments = segments;
         records = λ place of is. c.records_stand.ensures.0 stand place of (ap (λ rs. slice_get rs place) records ∙ is);

@@ -13,9 +13,9 @@ loop-segment-preserved c =
     let script = c.args.script.now in
     let item = c.index-records-segment.result in
     let at : slice_get records i ≡ Some item =
-        slice_get_read records (length records) i item refl c.loop-segment-test.true c.index-records-segment.is in
+    slice_get_read records (length records) i item refl c.loop-segment-test.true c.index-records-segment.is in
     below_more (λ place. (of : Record) → slice_get records place ≡ Some of → NamesNodes script place of) i
-        c.loop-segment.invariant (λ of is.
+    c.loop-segment.invariant (λ of is.
     let same : item ≡ of = cc in
     let P : Record → Type 0 = NamesNodes script i in
     subst P same (c.if-not-record_stands.ensures.0 refl))
@@ -24,6 +24,6 @@ pub returns : goal.returns
 returns c = (
   λ always place of is.
       c.loop-segment.invariant place (let lt : place < c.loop-segment.segment =
-          omega (arith, slice_get_within c.args.records.now place of is) in lt) of is,
+      omega (arith, slice_get_within c.args.records.now place of is) in lt) of is,
   λ stand. refl,
 )

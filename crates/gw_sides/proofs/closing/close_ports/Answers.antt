@@ -24,8 +24,15 @@ controller_there-controller-requires g c =
     let l = c.loop-port in
     let whole = ap length l.invariant.0 in
     let rest = ap length c.in-Some.ensures.steps.0 in
-    omega (arith, whole, rest, length-append l.yielded (into_iter_items l.port-iterator), l.invariant.1,
-        ap length c.into_iter-port-iterator.ensures.into_iter_gives.0, c.requires.may_close.size)
+    omega (
+      arith,
+      whole,
+      rest,
+      length-append l.yielded (into_iter_items l.port-iterator),
+      l.invariant.1,
+      ap length c.into_iter-port-iterator.ensures.into_iter_gives.0,
+      c.requires.may_close.size,
+    )
 
 pub close_port-requires-clause-may_close : goal.close_port-requires-clause-may_close
 close_port-requires-clause-may_close g c =
@@ -33,12 +40,12 @@ close_port-requires-clause-may_close g c =
     let s = c.args.script.now in
     let there = c.controller_there-controller.ensures.place in
     let port = next_there l.yielded c.in-Some.port (into_iter_items c.next.new.self)
-        (into_iter_items l.port-iterator) c.args.ports.items (l.invariant.0
-        ∙ c.into_iter-port-iterator.ensures.into_iter_gives.0) c.in-Some.ensures.steps.0 in
+    (into_iter_items l.port-iterator) c.args.ports.items (l.invariant.0
+    ∙ c.into_iter-port-iterator.ensures.into_iter_gives.0) c.in-Some.ensures.steps.0 in
     may_close_on g.M.Mailboxes.routes_of g.M.Mailboxes.side_of s c.controller_there-controller.result c.in-Some.port
-        c.args.seats.now l.seats (l.invariant.4 l.nth c.controller_there-controller.result (omega arith) there)
+    c.args.seats.now l.seats (l.invariant.4 l.nth c.controller_there-controller.result (omega arith) there)
     (c.requires.may_close.at (length l.yielded) c.controller_there-controller.result c.in-Some.port
-        (ap (slice_get (controller_places s c.args.segment)) (sym l.invariant.1) ∙ there) port)
+    (ap (slice_get (controller_places s c.args.segment)) (sym l.invariant.1) ∙ there) port)
 
 pub loop-port-preserved : goal.loop-port-preserved
 loop-port-preserved g c =
@@ -53,18 +60,19 @@ loop-port-preserved g c =
     let Txfp = g.M.Mailboxes.txfp_of in
     let Room = g.M.Mailboxes.room in
     let here = closes_on After RouteAfter Txfp Room s d c.in-Some.port c.in_ok-late.late c.args.seats.now l.seats
-        (l.invariant.4 l.nth d (omega arith) there) made.closes in (
+    (l.invariant.4 l.nth d (omega arith) there) made.closes in (
       append_assoc l.yielded (c.in-Some.port ∷ []) (into_iter_items c.next.new.self)
           ∙ ap (λ rest. l.yielded ++ rest) (sym c.in-Some.ensures.steps.0) ∙ l.invariant.0,
       omega (arith, l.invariant.1, length-append l.yielded (c.in-Some.port ∷ [])),
       subst (Pairs (ClosesNth After RouteAfter Txfp Room s c.args.seats.now i) (l.yielded ++ c.in-Some.port ∷ []))
           (sym c.in_ok-push_one.ensures)
           (pairs_more (ClosesNth After RouteAfter Txfp Room s c.args.seats.now i) l.yielded l.closed.items
-              c.in-Some.port c.in_ok-late.late
-          (record
-              { at = λ controller e. subst
+          c.in-Some.port c.in_ok-late.late
+          (record {
+            at = λ controller e. subst
                 (λ x. ClosesPort After RouteAfter Txfp Room s c.args.seats.now x c.in-Some.port c.in_ok-late.late)
-                (same_some d controller (sym there ∙ ap (slice_get (controller_places s i)) l.invariant.1 ∙ e)) here })
+                (same_some d controller (sym there ∙ ap (slice_get (controller_places s i)) l.invariant.1 ∙ e)) here;
+          })
           l.invariant.2),
       below-more s i l.nth d c.args.seats.now l.seats c.close_port.new.seats there made.leaves l.invariant.3,
       same_more s i l.nth d c.args.seats.now l.seats c.close_port.new.seats there made.leaves l.invariant.4,

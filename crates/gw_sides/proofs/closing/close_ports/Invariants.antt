@@ -11,6 +11,6 @@ invariant-loop-port g l =
     (l.yielded ++ into_iter_items l.port-iterator ≡ into_iter_items l.initial.port-iterator)
     × (l.nth ≡ length l.yielded)
     × Pairs (ClosesNth g.B.TxBus.bus_after g.S.RouteTx.route_after g.M.Mailboxes.txfp_of g.M.Mailboxes.room l.script
-        l.initial.seats l.segment) l.yielded l.closed.items
+    l.initial.seats l.segment) l.yielded l.closed.items
     × LeavesBelow l.script l.segment l.nth l.initial.seats l.seats
     × SameFrom l.script l.segment l.nth l.initial.seats l.seats

@@ -10,6 +10,6 @@ invariant-loop-site g l =
     (l.yielded ++ into_iter_items l.site-iterator ≡ into_iter_items l.initial.site-iterator)
     × (l.place ≡ length l.yielded)
     × Pairs (ClosesSite g.B.TxBus.bus_after g.S.RouteTx.route_after g.M.Mailboxes.txfp_of g.M.Mailboxes.room l.script
-        l.initial.seats) l.yielded l.closed.items
+    l.initial.seats) l.yielded l.closed.items
     × SameBehind l.script l.place l.initial.seats l.seats
     × (length l.seats ≡ length l.initial.seats)

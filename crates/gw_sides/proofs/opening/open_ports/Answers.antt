@@ -12,12 +12,12 @@ loop-nth-preserved g c =
     let there = c.controller_there-controller.ensures.place in
     let made = c.in_ok-port.ensures in
     let Set = IsNewSet g.B.TxBus.bus_after g.B.TxBus.bus_asked g.B.TxBus.transmitting g.M.Mailboxes.routes_of
-        g.M.Mailboxes.txfp_of in
+    g.M.Mailboxes.txfp_of in
     let Side = IsNewSide g.M.Mailboxes.side_of g.S.RouteTx.route_after in (
       subst (λ ports. PairsBelow (λ k. OpensPort Set Side s c.open_port.new.seats)
           (controller_places s c.args.segment) ports (l.nth + 1)) (sym c.in_ok-push_one.ensures)
           (ports_more Set Side s c.args.segment l.nth c.controller_there-controller.result l.ports.items
-              c.in_ok-port.port l.seats c.open_port.new.seats there made.leaves made.opens l.invariant.0),
+          c.in_ok-port.port l.seats c.open_port.new.seats there made.leaves made.opens l.invariant.0),
       below-more s c.args.segment l.nth c.controller_there-controller.result c.args.seats.now l.seats
           c.open_port.new.seats there made.leaves l.invariant.1,
     )

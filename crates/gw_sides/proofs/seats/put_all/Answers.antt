@@ -23,11 +23,11 @@ loop-side-preserved g c =
     let whole = ap length l.invariant.0 in
     let rest = ap length c.in-Some.ensures.steps.0 in
     let less : length l.yielded < routes_at s d =
-        omega (arith, whole, rest, length-append l.yielded (into_iter_items l.side-iterator), l.invariant.2) in
+    omega (arith, whole, rest, length-append l.yielded (into_iter_items l.side-iterator), l.invariant.2) in
     let place : c.seat_of.result ≡ seat_of s d (length l.yielded) =
-        c.seat_of.ensures.value ∙ ap (seat_of s d) l.invariant.1 in
+    c.seat_of.ensures.value ∙ ap (seat_of s d) l.invariant.1 in
     let there : slice_get c.put.new.seats (seat_of s d (length l.yielded)) ≡ Some (Some c.in-Some.side) =
-        ap (slice_get c.put.new.seats) (sym place) ∙ c.put.ensures.there in (
+    ap (slice_get c.put.new.seats) (sym place) ∙ c.put.ensures.there in (
       append_assoc l.yielded (c.in-Some.side ∷ []) (into_iter_items c.next.new.self)
           ∙ ap (λ rest. l.yielded ++ rest) (sym c.in-Some.ensures.steps.0) ∙ l.invariant.0,
       omega (arith, l.invariant.1, length-append l.yielded (c.in-Some.side ∷ [])),

@@ -18,9 +18,11 @@ pub take-side-requires-clause-full : goal.take-side-requires-clause-full
 take-side-requires-clause-full g c =
     let l = c.loop-number in
     let s = c.args.script.now in
-    let full = c.requires.full l.number (omega (arith, c.loop-number-test.true)) in
-    (full.0, ap (slice_get l.seats) c.seat_of.ensures.value
-        ∙ l.invariant.3 l.number (omega arith) (omega (arith, c.loop-number-test.true, c.requires.few)) ∙ full.1)
+    let full = c.requires.full l.number (omega (arith, c.loop-number-test.true)) in (
+      full.0,
+      ap (slice_get l.seats) c.seat_of.ensures.value
+          ∙ l.invariant.3 l.number (omega arith) (omega (arith, c.loop-number-test.true, c.requires.few)) ∙ full.1,
+    )
 
 pub loop-number-preserved : goal.loop-number-preserved
 loop-number-preserved g c =
@@ -32,8 +34,12 @@ loop-number-preserved g c =
     let was : slice_get c.args.seats.now (seat_of s d l.number) ≡ Some (Some c.take-side.result) =
     sym (l.invariant.3 l.number (omega arith) less) ∙ ap (slice_get l.seats) (sym place) ∙ c.take-side.ensures.was in
     let there = ap (λ n. slice_get c.args.seats.now (seat_of s d n)) l.invariant.0 ∙ was in (
-      omega (arith, ap length c.in_ok-push_one.ensures, length-append l.sides.items (c.take-side.result ∷ []),
-          l.invariant.0),
+      omega (
+        arith,
+        ap length c.in_ok-push_one.ensures,
+        length-append l.sides.items (c.take-side.result ∷ []),
+        l.invariant.0,
+      ),
       subst (λ sides. HoldsAll s d sides c.args.seats.now) (sym c.in_ok-push_one.ensures)
           (holds_pushed s d l.sides.items c.take-side.result c.args.seats.now there l.invariant.1),
       leaves_more s d l.number c.args.seats.now l.seats c.take-side.new.seats less

@@ -24,5 +24,8 @@ returns-clause-within g c =
     omega (arith, here, behind, c.requires.still, c.in_ok-make_bit.ensures.longer, c.quiet_bits.ensures.still)
 
 pub returns-clause-quiet : goal.returns-clause-quiet
-returns-clause-quiet g c = record { behind_one = c.make_bit.new.segment; one = c.in_ok-make_bit.ensures.longer;
-    quiet = c.quiet_bits.ensures.bits }
+returns-clause-quiet g c = record {
+  behind_one = c.make_bit.new.segment;
+  one = c.in_ok-make_bit.ensures.longer;
+  quiet = c.quiet_bits.ensures.bits;
+}

@@ -24,5 +24,5 @@ returns-in_err-write_output-clause-front g c =
       subst (Appends old new) (front_more (λ one. one.items) pieces i piece begun.0 c.loop-piece-test.true
           c.piece-item.is)
           (appends_on old before new (whole_of (take i pieces)) (take begun.0 piece.items) c.loop-piece.invariant
-              begun.1),
+          begun.1),
     )

@@ -27,7 +27,7 @@ loop-courier-preserved g c =
       subst (Pairs (IsLaneFrom c.args.leads.now) (l.yielded ++ c.in-Some.courier ∷ [])) (sym c.in_ok-push_one.ensures)
           (pairs_more (IsLaneFrom c.args.leads.now) l.yielded l.lanes.items c.in-Some.courier _
           (record { hand_is = refl; lead_is = ap (slice_get c.args.leads.now) (sym here) ∙ c.lead_at-lead.ensures })
-              l.invariant.2),
+          l.invariant.2),
       come_more l.yielded c.in-Some.courier c.args.seats.now l.seats c.put.new.seats
           (ap (slice_get c.put.new.seats) (sym here) ∙ c.put.ensures.there)
           (λ j ne. c.put.ensures.others j (λ e. ne (e ∙ here))) c.put.ensures.size l.invariant.3,

@@ -28,38 +28,38 @@ pub take-side-requires-clause-full : goal.take-side-requires-clause-full
 take-side-requires-clause-full g c =
     let l = c.loop-lane in
     let room = walked_room l.yielded c.in-Some.lane (into_iter_items c.next.new.self)
-        (into_iter_items l.lane-iterator) c.args.lanes.items (l.invariant.0
-        ∙ c.into_iter-lane-iterator.ensures.into_iter_gives.0) c.in-Some.ensures.steps.0 in
+    (into_iter_items l.lane-iterator) c.args.lanes.items (l.invariant.0
+    ∙ c.into_iter-lane-iterator.ensures.into_iter_gives.0) c.in-Some.ensures.steps.0 in
     still_there (length c.args.lanes.items) l.place c.args.seats.now l.seats c.requires.sides
-        (omega (arith, room, l.invariant.1)) l.invariant.4
+    (omega (arith, room, l.invariant.1)) l.invariant.4
 
 pub take-side-requires-clause-within : goal.take-side-requires-clause-within
 take-side-requires-clause-within g c =
     let l = c.loop-lane in
     let room = walked_room l.yielded c.in-Some.lane (into_iter_items c.next.new.self)
-        (into_iter_items l.lane-iterator) c.args.lanes.items (l.invariant.0
-        ∙ c.into_iter-lane-iterator.ensures.into_iter_gives.0) c.in-Some.ensures.steps.0 in
+    (into_iter_items l.lane-iterator) c.args.lanes.items (l.invariant.0
+    ∙ c.into_iter-lane-iterator.ensures.into_iter_gives.0) c.in-Some.ensures.steps.0 in
     let side = still_there (length c.args.lanes.items) l.place c.args.seats.now l.seats c.requires.sides
-        (omega (arith, room, l.invariant.1)) l.invariant.4 in
+    (omega (arith, room, l.invariant.1)) l.invariant.4 in
     slice_get_within l.seats l.place _ side.1
 
 pub take-gate-requires-clause-full : goal.take-gate-requires-clause-full
 take-gate-requires-clause-full g c =
     let l = c.loop-lane in
     let room = walked_room l.yielded c.in-Some.lane (into_iter_items c.next.new.self)
-        (into_iter_items l.lane-iterator) c.args.lanes.items (l.invariant.0
-        ∙ c.into_iter-lane-iterator.ensures.into_iter_gives.0) c.in-Some.ensures.steps.0 in
+    (into_iter_items l.lane-iterator) c.args.lanes.items (l.invariant.0
+    ∙ c.into_iter-lane-iterator.ensures.into_iter_gives.0) c.in-Some.ensures.steps.0 in
     still_there (length c.args.lanes.items) l.place c.args.gates.now l.gates c.requires.gates
-        (omega (arith, room, l.invariant.1)) l.invariant.5
+    (omega (arith, room, l.invariant.1)) l.invariant.5
 
 pub take-gate-requires-clause-within : goal.take-gate-requires-clause-within
 take-gate-requires-clause-within g c =
     let l = c.loop-lane in
     let room = walked_room l.yielded c.in-Some.lane (into_iter_items c.next.new.self)
-        (into_iter_items l.lane-iterator) c.args.lanes.items (l.invariant.0
-        ∙ c.into_iter-lane-iterator.ensures.into_iter_gives.0) c.in-Some.ensures.steps.0 in
+    (into_iter_items l.lane-iterator) c.args.lanes.items (l.invariant.0
+    ∙ c.into_iter-lane-iterator.ensures.into_iter_gives.0) c.in-Some.ensures.steps.0 in
     let gate = still_there (length c.args.lanes.items) l.place c.args.gates.now l.gates c.requires.gates
-        (omega (arith, room, l.invariant.1)) l.invariant.5 in
+    (omega (arith, room, l.invariant.1)) l.invariant.5 in
     slice_get_within l.gates l.place _ gate.1
 
 pub loop-lane-preserved : goal.loop-lane-preserved
@@ -93,21 +93,21 @@ pub returns-clause-parted : goal.returns-clause-parted
 returns-clause-parted g c =
     let l = c.loop-lane in
     let whole = walked_all l.yielded (into_iter_items l.lane-iterator) c.args.lanes.items
-        (l.invariant.0 ∙ c.into_iter-lane-iterator.ensures.into_iter_gives.0)
-        (YieldsList-end (YieldsList-from_vec {s = c.into_iter-lane-iterator.result} c.args.lanes.items (search rules)
-          (search rules)) l.yielded l.lane-iterator l.yielded_by c.next.result c.next.new.self c.in-None.is
-        c.next.ensures.steps).1 in
+    (l.invariant.0 ∙ c.into_iter-lane-iterator.ensures.into_iter_gives.0)
+    (YieldsList-end (YieldsList-from_vec {s = c.into_iter-lane-iterator.result} c.args.lanes.items (search rules)
+    (search rules)) l.yielded l.lane-iterator l.yielded_by c.next.result c.next.new.self c.in-None.is
+    c.next.ensures.steps).1 in
     subst (λ lanes. HaveParted c.args.seats.now c.args.gates.now lanes l.leads.items l.couriers.items) whole
-        (record { leads_are = l.invariant.2; couriers_are = l.invariant.3 })
+    (record { leads_are = l.invariant.2; couriers_are = l.invariant.3 })
 
 pub returns-clause-leaves : goal.returns-clause-leaves
 returns-clause-leaves g c =
     let l = c.loop-lane in
     let whole = walked_all l.yielded (into_iter_items l.lane-iterator) c.args.lanes.items
-        (l.invariant.0 ∙ c.into_iter-lane-iterator.ensures.into_iter_gives.0)
-        (YieldsList-end (YieldsList-from_vec {s = c.into_iter-lane-iterator.result} c.args.lanes.items (search rules)
-          (search rules)) l.yielded l.lane-iterator l.yielded_by c.next.result c.next.new.self c.in-None.is
-        c.next.ensures.steps).1 in
+    (l.invariant.0 ∙ c.into_iter-lane-iterator.ensures.into_iter_gives.0)
+    (YieldsList-end (YieldsList-from_vec {s = c.into_iter-lane-iterator.result} c.args.lanes.items (search rules)
+    (search rules)) l.yielded l.lane-iterator l.yielded_by c.next.result c.next.new.self c.in-None.is
+    c.next.ensures.steps).1 in
     subst (λ lanes. LeavesBehind (length lanes) c.args.seats.now l.seats) whole
-        (subst (λ n. LeavesBehind n c.args.seats.now l.seats) l.invariant.1
-        (record { others = l.invariant.4; size = l.invariant.6 }))
+    (subst (λ n. LeavesBehind n c.args.seats.now l.seats) l.invariant.1
+    (record { others = l.invariant.4; size = l.invariant.6 }))

@@ -4,6 +4,9 @@ use Rattle.gw_threads.proofs.Pacing.{lends-keep}
 use Rattle.gw_threads.proofs.clock_steps.lend.Goals as goal
 
 pub split_seat-requires : goal.split_seat-requires
-split_seat-requires c = let words = c.requires.table.words in
-    (c.requires.table.same, omega arith, lends-keep c.args.clocks.now.shared.key c.args.seat.now.id
-    (pacer_of c.args.seat.now.me))
+split_seat-requires c = let words = c.requires.table.words in (
+  c.requires.table.same,
+  omega arith,
+  lends-keep c.args.clocks.now.shared.key c.args.seat.now.id
+      (pacer_of c.args.seat.now.me),
+)

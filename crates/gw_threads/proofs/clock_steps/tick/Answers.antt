@@ -10,11 +10,11 @@ pub fetch_add-requires : goal.fetch_add-requires
 fetch_add-requires c = let h = c.args.clocks.now.shared in let t = h.table_id in let id = c.args.seat.now.id in
     let i = c.word_of.result in let v = pacer_of c.args.seat.now.me in let words = c.requires.table.words in let own =
     c.requires.own in let word = c.word_of.ensures in (
-  c.requires.table.same,
-  omega arith,
-  subst (λ (m : Me (Unit {0}) Pacer). Allows (Kept h.key) t.slots id m i (λ n. (n + 1) % 2 ^ 64)
-      (Ticks (step t.slots i 1 0 none) m)) (sym c.requires.table.alone)
-      (subst (λ (w : ℕ). Allows (Kept h.key) t.slots id (clock_of v) w (λ n. (n + 1) % 2 ^ 64)
-            (Ticks (step t.slots w 1 0 none) (clock_of v))) (ap word_of c.requires.own ∙ sym c.word_of.ensures)
-      (ticks-keep h.key t.slots id v (omega arith) c.requires.pace)),
-)
+      c.requires.table.same,
+      omega arith,
+      subst (λ (m : Me (Unit {0}) Pacer). Allows (Kept h.key) t.slots id m i (λ n. (n + 1) % 2 ^ 64)
+          (Ticks (step t.slots i 1 0 none) m)) (sym c.requires.table.alone)
+          (subst (λ (w : ℕ). Allows (Kept h.key) t.slots id (clock_of v) w (λ n. (n + 1) % 2 ^ 64)
+          (Ticks (step t.slots w 1 0 none) (clock_of v))) (ap word_of c.requires.own ∙ sym c.word_of.ensures)
+          (ticks-keep h.key t.slots id v (omega arith) c.requires.pace)),
+    )

@@ -9,8 +9,10 @@ use Rattle.gw_threads.proofs.clock_steps.watch.Goals as goal
 pub load-requires : goal.load-requires
 load-requires c = let h = c.args.clocks.now.shared in let t = h.table_id in let id = c.args.seat.now.id in
     let i = c.word_of.result in let words = c.requires.table.words in let behind = c.requires.behind in let word =
-    c.word_of.ensures in
-    (c.requires.table.same, omega arith,
-        subst (λ (m : Me (Unit {0}) Pacer). Allows (Kept h.key) t.slots id m i (λ n. n)
+    c.word_of.ensures in (
+      c.requires.table.same,
+      omega arith,
+      subst (λ (m : Me (Unit {0}) Pacer). Allows (Kept h.key) t.slots id m i (λ n. n)
           (Stays (step t.slots i 0 0 none) m)) (sym c.requires.table.alone)
-        (watches-keep h.key t.slots id i (pacer_of c.args.seat.now.me)))
+          (watches-keep h.key t.slots id i (pacer_of c.args.seat.now.me)),
+    )

@@ -14,7 +14,7 @@ loop-thread-preserved-in-Ok g c =
       omega (arith, pushed.len, l.invariant.1, length-append l.yielded (c.in-Some.thread ∷ [])),
       omega (arith, pushed.capacity, l.invariant.2),
       (λ fine. subst (Pairs (λ k thread one. g.P.Promise.kept_by thread.promise (Ok one))
-            (l.yielded ++ c.in-Some.thread ∷ [])) (sym pushed.items)
+          (l.yielded ++ c.in-Some.thread ∷ [])) (sym pushed.items)
           (pairs_more (λ k thread one. g.P.Promise.kept_by thread.promise (Ok one)) l.yielded l.made.items
-              c.in-Some.thread c.in-Ok.one c.in-Ok.ensures (l.invariant.3 fine))),
+          c.in-Some.thread c.in-Ok.one c.in-Ok.ensures (l.invariant.3 fine))),
     )

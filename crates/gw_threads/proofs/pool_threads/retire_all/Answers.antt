@@ -13,7 +13,7 @@ loop-seat-preserved g c =
     let whole = into_iter_items c.into_iter-seat-iterator.result in
     let start = c.args.pool.now in
     let seat = each_walked (IsWorkerSeat start.queue) l.yielded c.in-Some.seat (into_iter_items c.next.new.self)
-        (into_iter_items l.seat-iterator) whole l.invariant.0 c.in-Some.ensures.steps.0 l.invariant.1 in (
+    (into_iter_items l.seat-iterator) whole l.invariant.0 c.in-Some.ensures.steps.0 l.invariant.1 in (
       walked l.yielded c.in-Some.seat (into_iter_items c.next.new.self)
           (into_iter_items l.seat-iterator) whole l.invariant.0 c.in-Some.ensures.steps.0,
       l.invariant.1,
@@ -22,5 +22,5 @@ loop-seat-preserved g c =
       subst (λ n. AreRetired n start.account c.retire.new.self.account)
           (sym (length-append l.yielded (c.in-Some.seat ∷ [])))
           (one_retired (length l.yielded) start.account l.pool.account c.retire.new.self.account c.in-Some.seat.account
-              c.retire.ensures.both seat.part seat.even l.invariant.4),
+          c.retire.ensures.both seat.part seat.even l.invariant.4),
     )

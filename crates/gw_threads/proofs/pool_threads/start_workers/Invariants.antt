@@ -9,5 +9,5 @@ invariant-loop-worker g l =
     × (l.count ≤ vec_capacity l.threads)
     × (l.pool.queue ≡ l.initial.pool.queue)
     × (l.pool.account ≡ account (l.initial.pool.account.parts - l._worker) l.initial.pool.account.put
-        l.initial.pool.account.taken)
+    l.initial.pool.account.taken)
     × Each (λ thread. IsWorkerSeat l.initial.pool.queue thread.promise.start.value) l.threads.items

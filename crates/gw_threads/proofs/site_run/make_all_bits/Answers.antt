@@ -20,7 +20,7 @@ pub tick_up-requires-clause-ticks : goal.tick_up-requires-clause-ticks
 tick_up-requires-clause-ticks g c =
     let l = c.loop-made in
     let looked = same-on l.clock c.is_stopped.new.self c.wait_for_others.new.clock
-        (same-self l.clock c.is_stopped.new.self c.is_stopped.ensures) c.in_ok-limit.ensures.same in
+    (same-self l.clock c.is_stopped.new.self c.is_stopped.ensures) c.in_ok-limit.ensures.same in
     let at = looked_on c.args.bits l.made l.clock c.wait_for_others.new.clock looked l.invariant.4 in
     subst (λ bits. TicksAt bits l.made c.wait_for_others.new.clock) (sym at.bits_is) at
 
@@ -33,7 +33,7 @@ loop-made-preserved g c =
     let l = c.loop-made in
     let was = l.invariant in
     let looked = same-on l.clock c.is_stopped.new.self c.wait_for_others.new.clock
-        (same-self l.clock c.is_stopped.new.self c.is_stopped.ensures) c.in_ok-limit.ensures.same in
+    (same-self l.clock c.is_stopped.new.self c.is_stopped.ensures) c.in_ok-limit.ensures.same in
     let at = looked_on c.args.bits l.made l.clock c.wait_for_others.new.clock looked was.4 in (
       c.in-Ok.ensures.holds,
       c.in-Ok.ensures.plan ∙ was.1,

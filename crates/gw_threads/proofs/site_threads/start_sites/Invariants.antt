@@ -11,6 +11,6 @@ invariant-loop-site g l =
     (l.yielded ++ into_iter_items l.site-iterator ≡ into_iter_items l.initial.site-iterator)
     × (length (into_iter_items l.initial.site-iterator) ≤ vec_capacity l.threads)
     × Each (IsNewSite g.P.TxBus.bus_after g.P.TxBus.transmitting g.P.RxSink.sink_after l.bits)
-        (into_iter_items l.initial.site-iterator)
+    (into_iter_items l.initial.site-iterator)
     × Deals l.bits (length l.yielded) (length (into_iter_items l.initial.site-iterator)) l.clock
     × Pairs (λ k site thread. thread.promise.start.value ≡ site) l.yielded l.threads.items

@@ -26,7 +26,7 @@ pub returns-in-Err : goal.returns-in-Err
 returns-in-Err g c =
     let input = g.R.Read.remaining c.args.input.now in
     let whole =
-        shown_whole input c.in-Ok.bytes.items c.as_slice.result.now c.in-Ok.ensures.whole c.as_slice.ensures.value in
+    shown_whole input c.in-Ok.bytes.items c.as_slice.result.now c.in-Ok.ensures.whole c.as_slice.ensures.value in
     let known = g.W.Write.contents c.args.output.now in
     fails_on c.args.task c.as_slice.result.now input known c.in-Err.failure whole c.in-Err.ensures.err
 
@@ -34,22 +34,22 @@ pub returns-in-Ok-write_pieces : goal.returns-in-Ok-write_pieces
 returns-in-Ok-write_pieces g c =
     let input = g.R.Read.remaining c.args.input.now in
     let whole =
-        shown_whole input c.in-Ok.bytes.items c.as_slice.result.now c.in-Ok.ensures.whole c.as_slice.ensures.value in
+    shown_whole input c.in-Ok.bytes.items c.as_slice.result.now c.in-Ok.ensures.whole c.as_slice.ensures.value in
     let old = g.W.Write.contents c.args.output.now in
     let new = g.W.Write.contents c.write_pieces.new.output in
     let text = whole_of c.in-Ok-text_of.text.items in
     let grows = subst (λ pieces. Appends old new (whole_of pieces)) c.as_slice-2.ensures.value
-        c.in-Ok-write_pieces.ensures.whole in
+    c.in-Ok-write_pieces.ensures.whole in
     answered c.args.task c.as_slice.result.now text input old new whole c.in-Ok-text_of.ensures.ok grows
 
 pub returns : goal.returns
 returns g c =
     let input = g.R.Read.remaining c.args.input.now in
     let whole =
-        shown_whole input c.in-Ok.bytes.items c.as_slice.result.now c.in-Ok.ensures.whole c.as_slice.ensures.value in
+    shown_whole input c.in-Ok.bytes.items c.as_slice.result.now c.in-Ok.ensures.whole c.as_slice.ensures.value in
     let old = g.W.Write.contents c.args.output.now in
     let new = g.W.Write.contents c.write_pieces.new.output in
     let text = whole_of c.in-Ok-text_of.text.items in
     let grows = subst (λ pieces. (n : ℕ) × Appends old new (take n (whole_of pieces))) c.as_slice-2.ensures.value
-        c.in-Err-write_pieces.ensures.front in
+    c.in-Err-write_pieces.ensures.front in
     begun c.args.task c.as_slice.result.now text input old new whole c.in-Ok-text_of.ensures.ok grows

@@ -7,49 +7,49 @@ use Rattle.gw_tool.proofs.program.tool_with_files.Goals as goal
 pub returns-in-Ok-Some-clause-core : goal.returns-in-Ok-Some-clause-core
 returns-in-Ok-Some-clause-core g c name words_are =
     as_asked (g.F.Files.contents c.args.files.now) (g.R.Read.remaining c.args.input.now) _ _ c.in-Ok-Some.field-0
-        c.in-Ok-Some.order (Core, None) _
+    c.in-Ok-Some.order (Core, None) _
     c.in-Ok-Some.field-0-is (c.in-Ok-Some.ensures.core name words_are) c.status_after.ensures
 
 pub returns-in-Ok-Some-clause-run : goal.returns-in-Ok-Some-clause-run
 returns-in-Ok-Some-clause-run g c name words_are =
     as_asked (g.F.Files.contents c.args.files.now) (g.R.Read.remaining c.args.input.now) _ _ c.in-Ok-Some.field-0
-        c.in-Ok-Some.order (Run 1, None) _
+    c.in-Ok-Some.order (Run 1, None) _
     c.in-Ok-Some.field-0-is (c.in-Ok-Some.ensures.run name words_are) c.status_after.ensures
 
 pub returns-in-Ok-Some-clause-turns : goal.returns-in-Ok-Some-clause-turns
 returns-in-Ok-Some-clause-turns g c name n turn words_are =
     as_asked (g.F.Files.contents c.args.files.now) (g.R.Read.remaining c.args.input.now) _ _ c.in-Ok-Some.field-0
-        c.in-Ok-Some.order (Run n, None) _
+    c.in-Ok-Some.order (Run n, None) _
     c.in-Ok-Some.field-0-is (c.in-Ok-Some.ensures.turns name n turn words_are) c.status_after.ensures
 
 pub returns-in-Ok-Some-clause-threads : goal.returns-in-Ok-Some-clause-threads
 returns-in-Ok-Some-clause-threads g c name n some words_are =
     as_asked (g.F.Files.contents c.args.files.now) (g.R.Read.remaining c.args.input.now) _ _ c.in-Ok-Some.field-0
-        c.in-Ok-Some.order (RunThreads n 64, None) _
+    c.in-Ok-Some.order (RunThreads n 64, None) _
     c.in-Ok-Some.field-0-is (c.in-Ok-Some.ensures.threads name n some words_are) c.status_after.ensures
 
 pub returns-in-Ok-Some-clause-core_hyphen : goal.returns-in-Ok-Some-clause-core_hyphen
 returns-in-Ok-Some-clause-core_hyphen g c name words_are =
     as_asked (g.F.Files.contents c.args.files.now) (g.R.Read.remaining c.args.input.now) _ _ c.in-Ok-Some.field-0
-        c.in-Ok-Some.order (Core, None) _
+    c.in-Ok-Some.order (Core, None) _
     c.in-Ok-Some.field-0-is (c.in-Ok-Some.ensures.core_hyphen name words_are) c.status_after.ensures
 
 pub returns-in-Ok-Some-clause-run_hyphen : goal.returns-in-Ok-Some-clause-run_hyphen
 returns-in-Ok-Some-clause-run_hyphen g c name words_are =
     as_asked (g.F.Files.contents c.args.files.now) (g.R.Read.remaining c.args.input.now) _ _ c.in-Ok-Some.field-0
-        c.in-Ok-Some.order (Run 1, None) _
+    c.in-Ok-Some.order (Run 1, None) _
     c.in-Ok-Some.field-0-is (c.in-Ok-Some.ensures.run_hyphen name words_are) c.status_after.ensures
 
 pub returns-in-Ok-Some-clause-core_file : goal.returns-in-Ok-Some-clause-core_file
 returns-in-Ok-Some-clause-core_file g c name file is words_are =
     as_asked (g.F.Files.contents c.args.files.now) (g.R.Read.remaining c.args.input.now) _ _ c.in-Ok-Some.field-0
-        c.in-Ok-Some.order (Core, Some file) _
+    c.in-Ok-Some.order (Core, Some file) _
     c.in-Ok-Some.field-0-is (c.in-Ok-Some.ensures.core_file name file is words_are) c.status_after.ensures
 
 pub returns-in-Ok-Some-clause-run_file : goal.returns-in-Ok-Some-clause-run_file
 returns-in-Ok-Some-clause-run_file g c name file is words_are =
     as_asked (g.F.Files.contents c.args.files.now) (g.R.Read.remaining c.args.input.now) _ _ c.in-Ok-Some.field-0
-        c.in-Ok-Some.order (Run 1, Some file) _
+    c.in-Ok-Some.order (Run 1, Some file) _
     c.in-Ok-Some.field-0-is (c.in-Ok-Some.ensures.run_file name file is words_are) c.status_after.ensures
 
 pub returns-in-Err-clause-turns : goal.returns-in-Err-clause-turns

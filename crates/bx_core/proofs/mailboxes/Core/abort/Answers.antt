@@ -8,15 +8,15 @@ pub set_waiting-requires-clause-route : goal.set_waiting-requires-clause-route
 set_waiting-requires-clause-route c =
     let found = c.in-Some.ensures in
     λ w. ap (λ (x : Waiting). x.route)
-        (found_at c.args.mailbox c.args.self.now.queue c.in-Some.waiting w c.in-Some.place found.waiting found.place)
+    (found_at c.args.mailbox c.args.self.now.queue c.in-Some.waiting w c.in-Some.place found.waiting found.place)
 
 pub set_waiting-requires-clause-leads : goal.set_waiting-requires-clause-leads
 set_waiting-requires-clause-leads c =
     let found = c.in-Some.ensures in
     let own : c.in-Some.waiting.route ≡ c.args.route = omega arith in
     leads-ask c.args.self.now c.args.route c.args.mailbox c.in-Some.waiting c.in-Some.place c.requires.in_range
-        c.requires.in_mailboxes found.waiting found.place own c.if-waiting.false
-        (sym c.is_transmitting.ensures ∙ c.if-is_transmitting.true)
+    c.requires.in_mailboxes found.waiting found.place own c.if-waiting.false
+    (sym c.is_transmitting.ensures ∙ c.if-is_transmitting.true)
 
 pub end-requires-clause-waiting : goal.end-requires-clause-waiting
 end-requires-clause-waiting c =
@@ -28,5 +28,5 @@ end-requires-clause-leads c =
     let found = c.in-Some.ensures in
     let own : c.in-Some.waiting.route ≡ c.args.route = omega arith in
     leads-abort c.args.self.now c.args.route c.args.mailbox c.in-Some.waiting c.in-Some.place c.requires.in_range
-        c.requires.in_mailboxes found.waiting found.place own c.if-waiting.false
-        (sym c.is_transmitting.ensures ∙ c.if-is_transmitting.false)
+    c.requires.in_mailboxes found.waiting found.place own c.if-waiting.false
+    (sym c.is_transmitting.ensures ∙ c.if-is_transmitting.false)

@@ -8,4 +8,4 @@ set_claim-requires-clause-leads c =
     leads-claim c.args.self.now c.args.route c.args.mailbox c.requires.in_range c.requires.in_mailboxes
     (ap is_some (sym c.claim_at.ensures) ∙ sym c.is_some.ensures ∙ c.if-is_some.false)
     (ap is_some (sym c.find.ensures.waiting) ∙ is_some-map _ c.find.result ∙ sym c.is_some-2.ensures
-        ∙ c.if-is_some-2.false)
+    ∙ c.if-is_some-2.false)

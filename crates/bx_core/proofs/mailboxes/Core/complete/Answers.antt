@@ -12,4 +12,4 @@ pub end-requires-clause-leads : goal.end-requires-clause-leads
 end-requires-clause-leads c =
     let found = c.in-Some.ensures in
     leads-complete c.args.self.now c.args.mailbox c.in-Some.waiting c.in-Some.place c.requires.in_mailboxes
-        found.waiting found.place (sym c.is_transmitting.ensures ∙ c.if-not-is_transmitting.false)
+    found.waiting found.place (sym c.is_transmitting.ensures ∙ c.if-not-is_transmitting.false)

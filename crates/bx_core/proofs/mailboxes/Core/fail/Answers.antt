@@ -8,10 +8,10 @@ pub set_status-requires-clause-route : goal.set_status-requires-clause-route
 set_status-requires-clause-route c =
     let found = c.in-Some.ensures in
     λ w. ap (λ (x : Waiting). x.route)
-        (found_at c.args.mailbox c.args.self.now.queue c.in-Some.waiting w c.in-Some.place found.waiting found.place)
+    (found_at c.args.mailbox c.args.self.now.queue c.in-Some.waiting w c.in-Some.place found.waiting found.place)
 
 pub set_status-requires-clause-leads : goal.set_status-requires-clause-leads
 set_status-requires-clause-leads c =
     let found = c.in-Some.ensures in
     leads-fail c.args.self.now c.args.mailbox c.in-Some.waiting c.in-Some.place c.requires.in_mailboxes found.waiting
-        found.place (sym c.is_transmitting.ensures ∙ c.if-not-is_transmitting.false)
+    found.place (sym c.is_transmitting.ensures ∙ c.if-not-is_transmitting.false)

@@ -12,4 +12,4 @@ pub end-requires-clause-leads : goal.end-requires-clause-leads
 end-requires-clause-leads c =
     let found = c.in-Some.ensures in
     leads-reap c.args.self.now c.args.mailbox c.in-Some.waiting c.in-Some.place c.requires.in_mailboxes found.waiting
-        found.place (sym c.may_reap.ensures ∙ c.if-not-may_reap.false)
+    found.place (sym c.may_reap.ensures ∙ c.if-not-may_reap.false)

@@ -7,7 +7,7 @@ use Rattle.bx_core.proofs.mailboxes.Core.request.Goals as goal
 pub add_request-requires-clause-leads : goal.add_request-requires-clause-leads
 add_request-requires-clause-leads c =
     leads-request c.args.self.now c.args.route c.args.mailbox c.args.number c.args.frame c.requires.in_range
-        c.requires.in_mailboxes
+    c.requires.in_mailboxes
     (sym c.is_claimed_by.ensures ∙ c.if-not-is_claimed_by.false) (sym c.may_follow.ensures ∙ c.if-not-may_follow.false)
 
 pub returns-in-Err : goal.returns-in-Err

@@ -16,5 +16,5 @@ invariant_of-self c =
       reached = leads-reached old c.args.self.now (with_claim c.args.self.now c.args.mailbox c.args.claim)
           (with_claim old c.from.result c.args.claim) c.self.view_is c.requires.leads
           (ap (λ (s : State). with_claim s c.args.mailbox c.args.claim) (sym c.self.view_is)
-              ∙ ap (λ (k : ℕ). with_claim old k c.args.claim) (sym c.from.ensures)) c.self.invariant.reached;
+          ∙ ap (λ (k : ℕ). with_claim old k c.args.claim) (sym c.from.ensures)) c.self.invariant.reached;
     }

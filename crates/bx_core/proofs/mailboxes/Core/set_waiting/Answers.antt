@@ -13,9 +13,9 @@ invariant_of-self c =
     let old = core_view c.self.inside in
     let q = c.self.inside.queue.items in
     let within : c.args.place < length q =
-        subst (λ (s : State). c.args.place < length s.queue) (sym c.self.view_is) c.requires.place in
+    subst (λ (s : State). c.args.place < length s.queue) (sym c.self.view_is) c.requires.place in
     let route = ap (λ (s : State). (get_or s.queue c.args.place any_waiting).route) c.self.view_is
-        ∙ c.requires.route any_waiting in
+    ∙ c.requires.route any_waiting in
     record {
       few = c.self.invariant.few;
       eight = c.self.invariant.eight;
@@ -24,6 +24,6 @@ invariant_of-self c =
       reached = leads-reached old c.args.self.now (with_waiting c.args.self.now c.args.place c.args.waiting) _
           c.self.view_is c.requires.leads
           (ap (λ (s : State). with_waiting s c.args.place c.args.waiting) (sym c.self.view_is)
-              ∙ ap (λ (items : List Waiting). record old { queue = items }) (sym c.set_waiting.ensures))
-              c.self.invariant.reached;
+          ∙ ap (λ (items : List Waiting). record old { queue = items }) (sym c.set_waiting.ensures))
+          c.self.invariant.reached;
     }

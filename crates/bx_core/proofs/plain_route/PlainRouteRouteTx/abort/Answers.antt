@@ -15,10 +15,14 @@ returns-clause-past g c =
     λ past k. aborts-own _ _ _ _ _ past c.keep_law.ensures c.args.self.now.in_range c.abort_of.ensures.core k
 
 pub returns-clause-stays : goal.returns-clause-stays
-returns-clause-stays g c =
-    (refl,
-    (refl, aborts-keeps _ _ _ _ _ c.keep_law.ensures c.args.self.now.in_range c.abort_of.ensures.core
-      c.abort_of.ensures.short))
+returns-clause-stays g c = (
+  refl,
+  (
+    refl,
+    aborts-keeps _ _ _ _ _ c.keep_law.ensures c.args.self.now.in_range c.abort_of.ensures.core
+        c.abort_of.ensures.short,
+  ),
+)
 
 pub returns-clause-heard : goal.returns-clause-heard
 returns-clause-heard g c = hears_nothing _ _ _ refl

@@ -1,5 +1,6 @@
 use Rattle.std.proofs.Common.{refl}
-use Rattle.bx_core.proofs.RouteSide.{requests-own, requests-keeps, there-keeps}
+use Rattle.bx_core.proofs.RouteSide.{there-keeps}
+use Rattle.bx_core.proofs.Requesting.{requests-own, requests-keeps}
 use Rattle.bx_core.proofs.Hears.{hears_answer}
 use Rattle.bx_core.proofs.plain_route.PlainRouteRouteTx.request.Goals as goal
 

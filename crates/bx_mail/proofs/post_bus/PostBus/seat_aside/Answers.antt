@@ -8,10 +8,15 @@ pub seat-requires : goal.seat-requires
 seat-requires c = let i = c.self.invariant in λ m lt none. room (bus_view c.self.inside) i.2.0 i.2.1 m lt none
 
 pub invariant_of-self : goal.invariant_of-self
-invariant_of-self c = let i = c.self.invariant in let v = bus_view c.self.inside in
-    (i.0, i.1,
-        (i.2.0, seated-past v v c.in-Some.posting c.seat.new.boxes.items c.seat.result refl c.in-Some.is c.seat.ensures
-          c.if-seat.true i.2.0 i.2.1))
+invariant_of-self c = let i = c.self.invariant in let v = bus_view c.self.inside in (
+  i.0,
+  i.1,
+  (
+    i.2.0,
+    seated-past v v c.in-Some.posting c.seat.new.boxes.items c.seat.result refl c.in-Some.is c.seat.ensures
+        c.if-seat.true i.2.0 i.2.1,
+  ),
+)
 
 pub returns-then-seat-clause-past : goal.returns-then-seat-clause-past
 returns-then-seat-clause-past c = λ past h. seated-past c.args.self.now

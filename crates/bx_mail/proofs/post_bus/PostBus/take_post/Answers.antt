@@ -14,12 +14,15 @@ pop_as-requires-clause-rule g c = let may = ap (λ v. v.gets) c.self.invariant.1
 pub invariant_of-self-in-Transmit : goal.invariant_of-self-in-Transmit
 invariant_of-self-in-Transmit g c = let i = c.self.invariant in let q = c.in-Some.ensures.queue in let t =
     c.in-Some.ensures.rule in (
-  (q.0 ∙ i.0.0, q.2 ∙ i.0.1),
-  taken_form (view c.self.inside.pass) (view c.pop_as.new.pass) c.in-Some.posting t i.1,
-  (i.2.0, took-request (bus_view c.self.inside) _ _ (view c.self.inside.pass)
-      (view c.pop_as.new.pass) c.self.inside.boxes.items c.self.inside.aside c.in-Some.posting _ refl q.0 t
-      (ap (λ (v : BusSide). v.aside) c.self.view_is ∙ c.requires) c.in-Transmit.is i.2.0 i.2.1),
-)
+      (q.0 ∙ i.0.0, q.2 ∙ i.0.1),
+      taken_form (view c.self.inside.pass) (view c.pop_as.new.pass) c.in-Some.posting t i.1,
+      (
+        i.2.0,
+        took-request (bus_view c.self.inside) _ _ (view c.self.inside.pass)
+            (view c.pop_as.new.pass) c.self.inside.boxes.items c.self.inside.aside c.in-Some.posting _ refl q.0 t
+            (ap (λ (v : BusSide). v.aside) c.self.view_is ∙ c.requires) c.in-Transmit.is i.2.0 i.2.1,
+      ),
+    )
 
 pub returns-in-Transmit-clause-past : goal.returns-in-Transmit-clause-past
 returns-in-Transmit-clause-past g c = λ past h. took-request c.args.self.now _ _ (view c.self.inside.pass)
@@ -29,12 +32,16 @@ returns-in-Transmit-clause-past g c = λ past h. took-request c.args.self.now _ 
 pub invariant_of-self-in-Abort : goal.invariant_of-self-in-Abort
 invariant_of-self-in-Abort g c = let i = c.self.invariant in let q = c.in-Some.ensures.queue in let t =
     c.in-Some.ensures.rule in (
-  (q.0 ∙ i.0.0, q.2 ∙ i.0.1),
-  taken_form (view c.self.inside.pass) (view c.pop_as.new.pass) c.in-Some.posting t i.1,
-  (i.2.0, took-abort (bus_view c.self.inside) _ _ (view c.self.inside.pass)
-      (view c.pop_as.new.pass) c.self.inside.boxes.items c.abort.new.boxes.items c.self.inside.aside c.in-Some.posting
-      refl q.0 t c.in-Abort.is c.abort.ensures i.2.0 i.2.1),
-)
+      (q.0 ∙ i.0.0, q.2 ∙ i.0.1),
+      taken_form (view c.self.inside.pass) (view c.pop_as.new.pass) c.in-Some.posting t i.1,
+      (
+        i.2.0,
+        took-abort (bus_view c.self.inside) _ _ (view c.self.inside.pass)
+            (view c.pop_as.new.pass) c.self.inside.boxes.items c.abort.new.boxes.items c.self.inside.aside
+            c.in-Some.posting
+            refl q.0 t c.in-Abort.is c.abort.ensures i.2.0 i.2.1,
+      ),
+    )
 
 pub returns-in-Abort-clause-past : goal.returns-in-Abort-clause-past
 returns-in-Abort-clause-past g c = λ past h. took-abort c.args.self.now _ _ (view c.self.inside.pass)

@@ -5,10 +5,15 @@ use Rattle.bx_mail.proofs.BusSides.{started-past, started-new}
 use Rattle.bx_mail.proofs.post_bus.PostBusTxBus.start.Goals as goal
 
 pub invariant_of-self : goal.invariant_of-self
-invariant_of-self g c = let i = c.self.invariant in let v = bus_view c.self.inside in
-    (i.0, i.1,
-        (_, started-past v v c.start.new.boxes.items c.start.result refl c.start.ensures.boxes c.start.ensures.result
-          i.2.0 i.2.1))
+invariant_of-self g c = let i = c.self.invariant in let v = bus_view c.self.inside in (
+  i.0,
+  i.1,
+  (
+    _,
+    started-past v v c.start.new.boxes.items c.start.result refl c.start.ensures.boxes c.start.ensures.result
+        i.2.0 i.2.1,
+  ),
+)
 
 pub returns-clause-past : goal.returns-clause-past
 returns-clause-past g c = λ past h. started-past c.args.self.now (bus_view c.self.inside) c.start.new.boxes.items

@@ -8,8 +8,7 @@ use Rattle.bx_mail.proofs.RouteSides.{was_posted, was_full, newest_posted, poste
 use Rattle.bx_mail.proofs.post_route.PostRoute.post.Goals as goal
 
 pub push_as-requires-clause-rule : goal.push_as-requires-clause-rule
-push_as-requires-clause-rule g c = let v = view c.self.inside.pass in let may = ap (λ v. v.sends) c.self.invariant.2 in
-    (
+push_as-requires-clause-rule g c = let v = view c.self.inside.pass in let may = ap (λ v. v.sends) c.self.invariant.2 in (
   posts_one _ _ v _ (ap ruled_capacity c.deref.ensures ∙ c.self.invariant.1) may
       (sym (ap (λ v. v.from) c.self.invariant.2))
       (subst (λ (s : RouteSide). MayFollow s.sent c.args.number c.args.what) (sym c.self.view_is) c.requires),
@@ -24,15 +23,15 @@ returns g c = was_posted c.args.self.now _ _ (view c.self.inside.pass)
 pub returns-in_default : goal.returns-in_default
 returns-in_default g c = let r = c.in_default.ensures.rule in
     was_full c.args.self.now _ _ (view c.self.inside.pass) (view c.push_as.new.pass) c.self.inside.route c.args.number _
-        c.args.what c.self.view_is c.in_default.ensures.queue.0 r.1 (ap (λ v. v.from) c.self.invariant.2)
+    c.args.what c.self.view_is c.in_default.ensures.queue.0 r.1 (ap (λ v. v.from) c.self.invariant.2)
     (ap ruled_capacity c.deref.ensures ∙ c.self.invariant.1) r.2
 
 pub invariant_of-self-2 : goal.invariant_of-self-2
 invariant_of-self-2 g c = let i = c.self.invariant in let q = c.in-Ok.ensures.queue in let u =
     view c.self.inside.pass in let n = view c.push_as.new.pass in (
-  (q.0 ∙ i.0.0, q.2 ∙ i.0.1),
-  i.1,
-  posted_form u n _ c.self.inside.route (ap (λ v. v.from) i.2) c.in-Ok.ensures.rule,
-  newest_posted u n c.self.inside.route c.args.number c.self.inside.last c.newest-self-inside.result c.args.what i.3
-      c.newest-self-inside.ensures c.in-Ok.ensures.rule,
-)
+      (q.0 ∙ i.0.0, q.2 ∙ i.0.1),
+      i.1,
+      posted_form u n _ c.self.inside.route (ap (λ v. v.from) i.2) c.in-Ok.ensures.rule,
+      newest_posted u n c.self.inside.route c.args.number c.self.inside.last c.newest-self-inside.result c.args.what i.3
+          c.newest-self-inside.ensures c.in-Ok.ensures.rule,
+    )

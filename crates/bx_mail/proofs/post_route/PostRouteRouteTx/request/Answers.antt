@@ -15,5 +15,5 @@ pub returns-clause-heard : goal.returns-clause-heard
 returns-clause-heard g c = let heard = g.G.Gate.may_have_heard in let old = c.args.gate.now in let new =
     c.request.new.gate in
     if_ok-more (λ sent. Passes heard (Post ∷ Answered (heard_as sent) ∷ []) old new)
-        (λ sent. HearsAnswer heard sent old new) c.request.result (λ sent h. hears_post heard sent old new h)
-        c.request.ensures.hears
+    (λ sent. HearsAnswer heard sent old new) c.request.result (λ sent h. hears_post heard sent old new h)
+    c.request.ensures.hears

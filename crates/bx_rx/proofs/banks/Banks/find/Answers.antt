@@ -19,6 +19,6 @@ returns c =
     let all = c.self.invariant in
     let within : n < length banks = omega arith in
     found-best _ _ n c.in_ok-number.place c.fifo-fifo.result _ (get_or banks n d)
-        (ap length (sym c.self.view_is) ∙ all) c.in_ok-number.ensures
+    (ap length (sym c.self.view_is) ∙ all) c.in_ok-number.ensures
     (subst (λ bs. slice_get bs n ≡ Some (get_or banks n d)) c.self.view_is (slice_get-get_or banks n d within))
-        c.fifo-fifo.ensures.value c.count_below.ensures.value
+    c.fifo-fifo.ensures.value c.count_below.ensures.value

@@ -20,13 +20,13 @@ invariant_of-self-2 c =
     let word = c.fail-word.result in
     let me = c.reap.new.seat.me in
     let last = c.reap.ensures.reaped ∙ ap (λ (m : Me Said View). bus_seat (bus_reaped (bus_of m)) m.0.routes)
-        c.fail-word.ensures.failed in
+    c.fail-word.ensures.failed in
     let t = is_still me (bus_reaped (bus_failed b word)) old.0.routes last in
     let after = c.take.ensures.after in
     let item : Item = (c.in_ok-route.route, c.in_ok-route.number, c.in_ok-route.field-0-2) in
     let sends : b.sends ≡ Some item = v.sends ∙ sym c.take.ensures.value ∙ c.in_ok-route.was in
     let other : ¬ (mark_of word b.mailbox ≡ 15) =
-        λ e. c.if-lane-eq15.false (ap (λ x. x % 32) c.lane.ensures ∙ ap (mark_of word) (sym v.mailbox) ∙ e) in
+    λ e. c.if-lane-eq15.false (ap (λ x. x % 32) c.lane.ensures ∙ ap (mark_of word) (sym v.mailbox) ∙ e) in
     record {
       at = record { same = c.reap.ensures.table ∙ c.fail-word.ensures.table ∙ v.at.same; seven = v.at.seven };
       alone = t.alone;

@@ -10,4 +10,4 @@ pub returns-clause-routes : goal.returns-clause-routes
 returns-clause-routes g c = if_ok_more (λ made. IsNewBus c.args.txfp c.args.routes made.0)
     (λ made. routes_of made.0 ≡ c.args.routes) c.with_txfp.result
     (λ made n. let few = c.requires.few in let l = ap length n.others ∙ length-openings (8 - c.args.routes) in
-        omega arith) c.with_txfp.ensures.bus
+    omega arith) c.with_txfp.ensures.bus

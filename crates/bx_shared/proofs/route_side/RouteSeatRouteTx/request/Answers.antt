@@ -14,26 +14,26 @@ returns-in-Taken-clause-heard g c = let may = g.G.Gate.may_have_heard in
     let is = c.in-Taken.is in
     heard_taken may p q c.args.gate.now c.request.new.gate c.pass.new.self c.in-Taken.mailbox
     (subst (λ (r : RequestAnswer). Answers p q c.args.number c.args.frame r) is
-        c.in_ok-mailbox.ensures.answer).1.lowest.small
+    c.in_ok-mailbox.ensures.answer).1.lowest.small
     (subst (λ (r : RequestAnswer). Hears may p q r c.args.gate.now c.request.new.gate) is c.in_ok-mailbox.ensures.hears)
-        c.pass.ensures.heard
+    c.pass.ensures.heard
 
 pub returns-in-NoRoom-clause-heard : goal.returns-in-NoRoom-clause-heard
 returns-in-NoRoom-clause-heard g c = let may = g.G.Gate.may_have_heard in
     let p = c.args.self.now.part in
     let q = c.request.new.self.part in
     subst (λ (x : Sent). HearsAnswer may x c.args.gate.now c.not_now.new.gate) (sym c.not_now.ensures.answer)
-        (heard_no_room may p q c.args.gate.now c.request.new.gate c.not_now.new.gate
+    (heard_no_room may p q c.args.gate.now c.request.new.gate c.not_now.new.gate
     (subst (λ (r : RequestAnswer). Hears may p q r c.args.gate.now c.request.new.gate) c.in-NoRoom.is
-        c.in_ok-mailbox.ensures.hears) c.not_now.ensures.heard)
+    c.in_ok-mailbox.ensures.hears) c.not_now.ensures.heard)
 
 pub returns-in-Contended-clause-heard : goal.returns-in-Contended-clause-heard
 returns-in-Contended-clause-heard g c = let may = g.G.Gate.may_have_heard in
     let p = c.args.self.now.part in
     let q = c.request.new.self.part in
     subst (λ (x : Sent). HearsAnswer may x c.args.gate.now c.not_now-in-Contended.new.gate)
-        (sym c.not_now-in-Contended.ensures.answer)
-        (heard_contended may p q c.args.gate.now c.request.new.gate c.not_now-in-Contended.new.gate
-        c.in-Contended.field-0
+    (sym c.not_now-in-Contended.ensures.answer)
+    (heard_contended may p q c.args.gate.now c.request.new.gate c.not_now-in-Contended.new.gate
+    c.in-Contended.field-0
     (subst (λ (r : RequestAnswer). Hears may p q r c.args.gate.now c.request.new.gate) c.in-Contended.is
-        c.in_ok-mailbox.ensures.hears) c.not_now-in-Contended.ensures.heard)
+    c.in_ok-mailbox.ensures.hears) c.not_now-in-Contended.ensures.heard)

@@ -20,10 +20,10 @@ behind ts all on node found same beyond is =
     let names = talker_names ts in
     let size : length names ≡ length ts = length-map ts (λ (t : TalkerValue). t.name) in
     ap (option_map (λ (one : ControllerValue). one.name)) is
-        ∙ sym (slice_get-map (λ (one : ControllerValue). one.name) on (node - length ts))
+    ∙ sym (slice_get-map (λ (one : ControllerValue). one.name) on (node - length ts))
     ∙ ap (λ n. slice_get (controller_names on) (node - n)) (sym size)
     ∙ sym (get-append-second names (controller_names on) node
-        (let least : length names ≤ node = omega (arith, size, beyond) in least))
+    (let least : length names ≤ node = omega (arith, size, beyond) in least))
     ∙ ap (λ (us : List TalkerValue). slice_get (talker_names us ++ controller_names on) node) same
 
 pub returns-in-Some : goal.returns-in-Some
@@ -32,15 +32,15 @@ returns-in-Some c =
     let here : slice_get s.controllers c.in-Some.place ≡ Some c.index.result.now =
     slice_get_read s.controllers (length s.controllers) c.in-Some.place c.index.result.now refl c.in-Some.ensures.range
     (c.index.ensures ∙ ap (λ (v : ScriptValue). get_or v.controllers c.in-Some.place c.index.result.now)
-        c.self.view_is) in
+    c.self.view_is) in
     ap Some c.name-in-Some.ensures
     ∙ behind c.talkers_on-talkers.result.now (talkers_on (slice_get s.segments c.args.segment))
-        (controllers_on c.args.segment s.controllers) c.args.node (Some c.index.result.now)
+    (controllers_on c.args.segment s.controllers) c.args.node (Some c.index.result.now)
     c.talkers_on-talkers.ensures c.if-node-talkers.false (sym here ∙ c.in-Some.ensures.controller)
 
 pub returns-in-None : goal.returns-in-None
 returns-in-None c =
     let s = c.args.self.now in
     behind c.talkers_on-talkers.result.now (talkers_on (slice_get s.segments c.args.segment))
-        (controllers_on c.args.segment s.controllers) c.args.node None
+    (controllers_on c.args.segment s.controllers) c.args.node None
     c.talkers_on-talkers.ensures c.if-node-talkers.false c.in-None.ensures.controller

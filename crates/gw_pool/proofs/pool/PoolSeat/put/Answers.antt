@@ -10,4 +10,4 @@ pub try_push_as-requires-clause-rule : goal.try_push_as-requires-clause-rule
 try_push_as-requires-clause-rule g c =
     let some = subst (λ (s : PoolPlace). 0 < s.account.parts) (sym c.self.view_is) c.requires in
     puts g.X.Placed.place _ _ (view c.loop-try.self-inside.pass) _
-        (omega (arith, some, ap (λ (v : Account). v.parts) c.loop-try.invariant.3))
+    (omega (arith, some, ap (λ (v : Account). v.parts) c.loop-try.invariant.3))

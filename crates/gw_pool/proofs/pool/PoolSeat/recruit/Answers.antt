@@ -8,4 +8,4 @@ use Rattle.gw_pool.proofs.pool.PoolSeat.recruit.Goals as goal
 pub another-pass-requires-clause-rule : goal.another-pass-requires-clause-rule
 another-pass-requires-clause-rule g c =
     forks g.X.Placed.place _ (view c.self.inside.pass)
-        (subst (λ (s : PoolPlace). 1 < s.account.parts) (sym c.self.view_is) c.requires)
+    (subst (λ (s : PoolPlace). 1 < s.account.parts) (sym c.self.view_is) c.requires)

@@ -8,4 +8,4 @@ use Rattle.gw_pool.proofs.pool.PoolSeat.retire.Goals as goal
 pub absorb-requires-clause-rule : goal.absorb-requires-clause-rule
 absorb-requires-clause-rule g c =
     merges g.X.Placed.place _ (view c.self.inside.pass) _ (view c.seat.inside.pass)
-        (subst (λ (s : PoolPlace). 0 < s.account.parts) (sym c.self.view_is) c.requires.part)
+    (subst (λ (s : PoolPlace). 0 < s.account.parts) (sym c.self.view_is) c.requires.part)

@@ -8,4 +8,4 @@ use Rattle.gw_pool.proofs.pool.PoolSeat.take.Goals as goal
 pub try_pop_as-requires-clause-rule : goal.try_pop_as-requires-clause-rule
 try_pop_as-requires-clause-rule g c =
     takes g.X.Placed.place _ (view c.self.inside.pass)
-        (subst (λ (s : PoolPlace). 0 < s.account.parts) (sym c.self.view_is) c.requires)
+    (subst (λ (s : PoolPlace). 0 < s.account.parts) (sym c.self.view_is) c.requires)

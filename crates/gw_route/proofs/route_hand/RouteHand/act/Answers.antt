@@ -21,25 +21,29 @@ pub ask-requires-clause-above : goal.ask-requires-clause-above
 ask-requires-clause-above g c =
     let t = c.requires.linked in
     let last = g.met.T.RouteTx.last_is c.args.tx.now t.0 t.1 in
-    omega (arith, last, above-last (hand_value c.args.self.now) (hand_value c.fill.new.self) t.0 c.in-Some-fill.entry
-        c.in-Some-fill.ensures.1 t.2)
+    omega (
+      arith,
+      last,
+      above-last (hand_value c.args.self.now) (hand_value c.fill.new.self) t.0 c.in-Some-fill.entry
+          c.in-Some-fill.ensures.1 t.2,
+    )
 
 pub returns-in-Some-clause-turned : goal.returns-in-Some-clause-turned
 returns-in-Some-clause-turned g c =
     let e = c.abort_first.ensures.aborted in
     let d = c.in-Some.ensures.some in
     acted-abort _ _ (hand_value c.args.self.now) (hand_value c.abort_first.new.self) c.in-Some.abort e.0
-        c.abort_first.result d.0 d.1 e.1 e.2 e.3
+    c.abort_first.result d.0 d.1 e.1 e.2 e.3
 
 pub returns-in-Some-fill-clause-turned : goal.returns-in-Some-fill-clause-turned
 returns-in-Some-fill-clause-turned g c =
     let e = c.ask.ensures.asked in
     acted-request _ _ (hand_value c.args.self.now) (hand_value c.fill.new.self)
-        (hand_value c.ask.new.self) c.in-Some-fill.entry e.0 c.ask.result
+    (hand_value c.ask.new.self) c.in-Some-fill.entry e.0 c.ask.result
     c.in-None.ensures.none c.in-Some-fill.ensures.1 e.3 e.1 e.2 e.4
 
 pub returns-in-None-fill-clause-turned : goal.returns-in-None-fill-clause-turned
 returns-in-None-fill-clause-turned g c =
     let f = c.in-None-fill.ensures in
     acted-idle _ (hand_value c.args.self.now) (hand_value c.fill.new.self) c.in-None.ensures.none f.0
-        (ap option_to_list f.1) f.2.1
+    (ap option_to_list f.1) f.2.1

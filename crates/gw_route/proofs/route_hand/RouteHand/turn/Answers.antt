@@ -19,7 +19,7 @@ returns-clause-log g c logs =
     let value = c.count.ensures.value in
     let same : hand_value c.count.new.self ≡ counted old = cc in
     let made = c.act.ensures.turned t.0 t.1
-        (subst (λ (v : HandValue). LogMatches v t.0) (sym same) (matches-counted old t.0 t.2)) in
+    (subst (λ (v : HandValue). LogMatches v t.0) (sym same) (matches-counted old t.0 t.2)) in
     turned-logs _ _ _ _ _ made.2 (subst LogsReleased (sym same) logs)
 
 pub returns-clause-linked : goal.returns-clause-linked
@@ -42,9 +42,9 @@ returns-clause-counted g c =
     let value = c.count.ensures.value in
     let same : hand_value c.count.new.self ≡ counted old = cc in
     turn_counts (g.T.RouteTx.route_after c.args.tx.now) (g.T.RouteTx.route_after c.act.new.tx) old
-        (hand_value c.act.new.self) c.act.result c.requires.linked
+    (hand_value c.act.new.self) c.act.result c.requires.linked
     (subst (λ v. Acted (g.T.RouteTx.route_after c.args.tx.now) (g.T.RouteTx.route_after c.act.new.tx) v
-          (hand_value c.act.new.self) c.act.result) same c.act.ensures.turned)
+    (hand_value c.act.new.self) c.act.result) same c.act.ensures.turned)
 
 pub returns-clause-plan : goal.returns-clause-plan
 returns-clause-plan g c planned p =
@@ -54,6 +54,6 @@ returns-clause-plan g c planned p =
     let value = c.count.ensures.value in
     let same : hand_value c.count.new.self ≡ counted old = cc in
     turn_keeps planned (g.T.RouteTx.route_after c.args.tx.now) (g.T.RouteTx.route_after c.act.new.tx) old
-        (hand_value c.act.new.self) c.act.result c.requires.linked
+    (hand_value c.act.new.self) c.act.result c.requires.linked
     (subst (λ v. Acted (g.T.RouteTx.route_after c.args.tx.now) (g.T.RouteTx.route_after c.act.new.tx) v
-          (hand_value c.act.new.self) c.act.result) same c.act.ensures.turned) p
+    (hand_value c.act.new.self) c.act.result) same c.act.ensures.turned) p

@@ -6,7 +6,7 @@ use Rattle.gw_threads.proofs.clock_seat.ClockSeat.all_done.Given as goal
 abbrev pub invariant-loop-segment : goal.invariant-loop-segment
 invariant-loop-segment l =
     IsAtTable (arc_value l.self-inside.clocks).shared.table_id l.self-inside.pace l.self-inside.seat.table_id
-        l.self-inside.seat.me
+    l.self-inside.seat.me
     × ((arc_value l.self-inside.clocks).shared.key ≡ l.self-inside.pace)
     × (l.self-inside.pace ≡ l.initial.self-inside.pace)
     × (l.self-inside.first ≡ (pacer_of l.self-inside.seat.me).first)
