@@ -3,6 +3,7 @@
 
 use can_frame::{Frame, Reader, Step};
 use can_node::{Counters, ErrorKind, KnownCounts, Listener, Node, Outcome};
+use std::test::Fail;
 
 /// A data frame of identifier 0 without bytes as all sample it, its ACK slot, the level at place 41, dominant.
 const FRAME: &str = "00000100000100000100000100000100000100001011111111";
@@ -202,6 +203,28 @@ fn a_receiver_goes_on_in_the_stuffed_region(rt: HostRuntime) {
         assert_eq!(rt; sample(&mut receiver, level), Some(outcome));
     }
     assert_eq!(rt; receiver.bit(), 61);
+}
+
+#[test]
+fn a_sender_makes_many_bits_at_once(rt: HostRuntime) -> Result<(), Fail> {
+    let mut sender = sender();
+    let mut receiver = synchronized();
+    for _ in 0..2u8 {
+        sample(&mut sender, false);
+        sample(&mut receiver, false);
+    }
+    let mut listener = receiver.listener();
+    let mut levels = Vec::new(rt.alloc());
+    levels.reserve(64)?;
+    if sender.bit() < 100 {
+        sender.send_run(&mut listener, &mut levels, 64);
+    }
+    // up to the last bit of the CRC, at which the frame is read
+    assert_eq!(rt; (sender.bit(), levels.len()), (50, 37));
+    for (level, byte) in levels.iter().zip(FRAME.as_bytes().iter().skip(2)) {
+        assert_eq!(rt; *level, *byte == b'1');
+    }
+    Ok(())
 }
 
 #[test]

@@ -112,12 +112,8 @@ pub count_anew : (text : List Bool) (run : LevelRun) (x : Bool) → EndsIn text 
 count_anew text run x h e = omega (arith, new_run text x (unlike_newest text run x true h e))
 
 pub count_longer : (text : List Bool) (run : LevelRun) (x : Bool) → EndsIn text run → not (beq x run.level) ≡ false →
-    run.count < 5 → run.count + 1 ≡ min (run_of (x ∷ text)) 5
-count_longer text run x h e few = omega (arith, longer_run text x (unlike_newest text run x false h e), h.count_is, few)
-
-pub count_full : (text : List Bool) (run : LevelRun) (x : Bool) → EndsIn text run → not (beq x run.level) ≡ false →
-    5 ≤ run.count → run.count ≡ min (run_of (x ∷ text)) 5
-count_full text run x h e full = omega (arith, longer_run text x (unlike_newest text run x false h e), h.count_is, full)
+    min run.count 4 + 1 ≡ min (run_of (x ∷ text)) 5
+count_longer text run x h e = omega (arith, longer_run text x (unlike_newest text run x false h e), h.count_is)
 
 pub ends_none : EndsIn [] (record { count = 0; level = true })
 unfolding run_of

@@ -23,8 +23,15 @@ use Rattle.can_frame.proofs.Steps.{still_inside, complete_next, Kept}
 
 ended : (step : Step) (text : List Bool) (level : Bool) → IsUndecided text → Answers step text level → IsLast step →
     HasEnded step (text ++ level ∷ [])
-ended step text level u h l = record { before = text; level = level; more = [];
-    whole = sym (append-nil (text ++ level ∷ [])); undecided = u; answer = h; last = l }
+ended step text level u h l = record {
+  before = text;
+  level = level;
+  more = [];
+  whole = sym (append-nil (text ++ level ∷ []));
+  undecided = u;
+  answer = h;
+  last = l;
+}
 
 -- `Leaves` by the place alone
 abbrev LeavesAt : Step → Place → Type 0
@@ -58,7 +65,7 @@ pub tail_goes_on : (step : Step) (f : FrameValue) (right : Bool) (seen : ℕ) (t
 tail_goes_on step f right seen text level new e place h =
     let t = subst (λ s. TailNext s f right seen text level) e h in
     subst (λ s. Next s new text level) (sym e)
-        (next_by Tail new (AfterBody f right (seen + 1)) text level place t.answer t.goes tt)
+    (next_by Tail new (AfterBody f right (seen + 1)) text level place t.answer t.goes tt)
 
 pub tail_few : (step : Step) (f : FrameValue) (right : Bool) (seen : ℕ) (text : List Bool) (level : Bool) →
     step ≡ Tail → TailNext step f right seen text level → seen + 1 ≤ 8
@@ -73,17 +80,17 @@ tail_ends (Body frame ok) f right seen text level new other place t h = absurd h
 tail_ends Tail f right seen text level new other place t h = absurd (other refl)
 tail_ends (Taken frame) f right seen text level new other place t h =
     next_by (Taken frame) new (Ended (Taken frame)) text level place h.answer
-        (ended (Taken frame) text level (tail_undecided f right seen text t) h.answer tt) refl
+    (ended (Taken frame) text level (tail_undecided f right seen text t) h.answer tt) refl
 tail_ends (Fault kind) f right seen text level new other place t h =
     next_by (Fault kind) new (Ended (Fault kind)) text level place h.answer
-        (ended (Fault kind) text level (tail_undecided f right seen text t) h.answer tt) refl
+    (ended (Fault kind) text level (tail_undecided f right seen text t) h.answer tt) refl
 
 pub next_sof : (u text : List Bool) (level : Bool) (new : Reader) → Inside text u → u ≡ [] → level ≡ true →
     new.place ≡ Ended (Fault Form) → Next (Fault Form) new text level
 next_sof u text level new h none e place =
     let a = sof_fault text u level h none e in
     next_by (Fault Form) new (Ended (Fault Form)) text level place a
-        (ended (Fault Form) text level (region_undecided text u h) a tt) refl
+    (ended (Fault Form) text level (region_undecided text u h) a tt) refl
 
 pub next_sixth : (u text : List Bool) (level : Bool) (new : Reader) → Inside text u → five_equal (reverse text) ≡ true →
     level ≡ newest (reverse text) →
@@ -91,7 +98,7 @@ pub next_sixth : (u text : List Bool) (level : Bool) (new : Reader) → Inside t
 next_sixth u text level new h five same place =
     let a = stuff_fault text u level h five same in
     next_by (Fault Stuff) new (Ended (Fault Stuff)) text level place a
-        (ended (Fault Stuff) text level (region_undecided text u h) a tt) refl
+    (ended (Fault Stuff) text level (region_undecided text u h) a tt) refl
 
 -- the answer at the end of a region
 abbrev pub Bodies : Step → Place → List Bool → Type 0
@@ -104,7 +111,7 @@ next_body : (u text : List Bool) (level : Bool) (new : Reader) (step : Step) →
 next_body u text level new step kept full ended b =
     let both = body_tail (text ++ level ∷ []) u b.0 kept full ended b.1 in
     subst (λ s. Next s new text level) (sym b.2)
-        (next_by (Body (frame_at u) b.0) new (AfterBody (frame_at u) b.0 0) text level b.3 both.0 both.1 tt)
+    (next_by (Body (frame_at u) b.0) new (AfterBody (frame_at u) b.0 0) text level b.3 both.0 both.1 tt)
 
 ends_next : (text : List Bool) (level : Bool) (run : LevelRun) → EndsIn (level ∷ reverse text) run →
     EndsIn (reverse (text ++ level ∷ [])) run
@@ -124,7 +131,7 @@ next_stuff u text level new h five opposite ends part items place =
     let a = after_stuff u text level h five opposite in
     let inside = still_inside w u a.kept (λ full. absurd (part full)) in
     let stands : InRegion new.run new.levels.items w =
-        record { ends = ends_next text level new.run ends; inside = subst (Inside w) (sym items) inside } in
+    record { ends = ends_next text level new.run ends; inside = subst (Inside w) (sym items) inside } in
     next_by StuffBit new Region text level place (completes w u inside, five) stands tt
 
 pub next_data_body : (u v text : List Bool) (level : Bool) (new : Reader) (step : Step) → Inside text u →
@@ -135,7 +142,7 @@ next_data_body u v text level new step h plain sof keeps full few b =
     let a = after_data u text level h plain sof in
     let e : v ≡ u ++ level ∷ [] = keeps (omega (arith, a.short, length_few u)) in
     next_body v text level new step (subst (Kept (text ++ level ∷ [])) (sym e) a.kept) full
-        (ap five_equal (next_reverse text level) ∙ few) b
+    (ap five_equal (next_reverse text level) ∙ few) b
 
 pub next_more : (u text : List Bool) (level : Bool) (new : Reader) → Inside text u → five_equal (reverse text) ≡ false →
     (u ≡ [] → level ≡ false) → EndsIn (level ∷ reverse text) new.run →
@@ -147,9 +154,9 @@ next_more u text level new h plain sof ends keeps part place =
     let a = after_data u text level h plain sof in
     let e : new.levels.items ≡ u ++ level ∷ [] = keeps (omega (arith, a.short, length_few u)) in
     let inside = still_inside w new.levels.items (subst (Kept w) (sym e) a.kept)
-        (λ full. ap five_equal (next_reverse text level) ∙ part full) in
+    (λ full. ap five_equal (next_reverse text level) ∙ part full) in
     let stands : InRegion new.run new.levels.items w =
-        record { ends = ends_next text level new.run ends; inside = inside } in
+    record { ends = ends_next text level new.run ends; inside = inside } in
     next_by More new Region text level place (completes w new.levels.items inside, plain) stands tt
 
 -- a level of the text with which the region goes on
@@ -186,9 +193,9 @@ plain_push old new level here place push some keeps other =
 
 pub stuff_push : (old new : Reader) (level : Bool) → old.place ≡ Region → new.place ≡ Region →
     ((text : List Bool) → EndsIn text old.run → (five_equal text ≡ true) × (level ≡ not (newest text))
-        × EndsIn (level ∷ text) new.run) →
+    × EndsIn (level ∷ text) new.run) →
     new.levels.items ≡ old.levels.items → (length old.levels.items ≡ fields_length old.levels.items + 15 → ⊥) →
-        IsPush old level StuffBit new
+    IsPush old level StuffBit new
 stuff_push old new level here place push items part =
     let next : (text : List Bool) → StandsAfter old text → Next StuffBit new text level = λ text s.
     let h = region_stands old.place old.run old.levels.items text here s in
@@ -208,7 +215,7 @@ tail_push old new level step f right seen here place is goes =
     let next : (text : List Bool) → StandsAfter old text → Next Tail new text level = λ text s.
     let h : InTail f right seen text = subst (λ p. StandsAt p old.run old.levels.items text) here s in
     tail_goes_on Tail f right seen text level new refl place
-        (subst (λ t. TailNext t f right seen text level) is (goes text h)) in
+    (subst (λ t. TailNext t f right seen text level) is (goes text h)) in
     record {
       next = λ text r s. next text s;
       stands = λ text s. (next text s).stands;
@@ -221,8 +228,8 @@ pub stands_as : (one other : Reader) → one.place ≡ Region → other.place �
 stands_as one other here there runs items = record {
   stands = λ text s. subst (λ p. StandsAt p other.run other.levels.items text) (sym there)
       (subst (λ u. InRegion other.run u text) items
-          (subst (λ r. InRegion r one.levels.items text) runs
-            (region_stands one.place one.run one.levels.items text here s)));
+      (subst (λ r. InRegion r one.levels.items text) runs
+      (region_stands one.place one.run one.levels.items text here s)));
   reading = λ reading. subst IsOpen (sym there) tt;
 }
 

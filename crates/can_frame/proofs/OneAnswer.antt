@@ -12,7 +12,7 @@ use Rattle.can_frame.specs.declared.step.FaultKind.TheVariants.{Stuff, Form, Ack
 use Rattle.can_frame.specs.declared.step.Step.TheVariants.{More, StuffBit, Body, Tail, Taken, Fault}
 use Rattle.can_frame.proofs.Regions.{one_region, region_frame}
 use Rattle.can_frame.proofs.FrontLaws.{parts, no_front_begins}
-use Rattle.can_frame.proofs.Tails.{same_crc, tails_same, either, no_front}
+use Rattle.can_frame.proofs.Tails.{same_crc, tails_same, either}
 use Rattle.can_frame.proofs.Undecided.{part_rough, part_region}
 
 -- A text is in one of four parts: before the end of a region, at it, behind it, or in no rough front.
@@ -29,8 +29,14 @@ front_rough f w h =
     record {
       rest = [];
       frame = f;
-      is_rough = record { x = p.x; check = p.check; ack = false; region = p.region; is_region = p.is_region;
-          whole = append-nil w ∙ p.whole };
+      is_rough = record {
+        x = p.x;
+        check = p.check;
+        ack = false;
+        region = p.region;
+        is_region = p.is_region;
+        whole = append-nil w ∙ p.whole;
+      };
     }
 
 ack_rough : (w : List Bool) → IsAckFault w → BeginsRough w
@@ -87,7 +93,7 @@ front_no_ack f w more h k =
     let e : p.region ++ front_tail false ≡ k.region ++ (true ∷ true ∷ more) =
     sym p.whole ∙ ap (λ t. t ++ more) k.whole ∙ append_assoc k.region (true ∷ true ∷ []) more in
     let both = tails_same f k.frame p.x k.body.x p.check k.body.check p.region k.region (front_tail false)
-        (true ∷ true ∷ more) p.is_region k.body.is_region e in
+    (true ∷ true ∷ more) p.is_region k.body.is_region e in
     let tails = both.1 in
     cc
 
@@ -97,14 +103,14 @@ front_no_crc f w more h k =
     let e : p.region ++ front_tail false ≡ k.region ++ (true ∷ k.ack ∷ true ∷ more) =
     sym p.whole ∙ ap (λ t. t ++ more) k.whole ∙ append_assoc k.region (true ∷ k.ack ∷ true ∷ []) more in
     let both = tails_same f k.frame p.x k.body.x p.check k.body.check p.region k.region (front_tail false)
-        (true ∷ k.ack ∷ true ∷ more) p.is_region k.body.is_region e in
+    (true ∷ k.ack ∷ true ∷ more) p.is_region k.body.is_region e in
     k.body.is_wrong refl (same_crc k.frame f k.body.x p.x k.body.check p.check k.region p.region k.body.is_region
-        p.is_region (sym both.0) p.is_crc)
+    p.is_region (sym both.0) p.is_crc)
 
 ack_no_crc : (w : List Bool) → IsAckFault w → IsCrcFault w → ⊥
 ack_no_crc w h k =
     let both = tails_same h.frame k.frame h.body.x k.body.x h.body.check k.body.check h.region k.region
-        (true ∷ true ∷ []) (true ∷ k.ack ∷ true ∷ []) h.body.is_region k.body.is_region (sym h.whole ∙ k.whole) in
+    (true ∷ true ∷ []) (true ∷ k.ack ∷ true ∷ []) h.body.is_region k.body.is_region (sym h.whole ∙ k.whole) in
     let tails = both.1 in
     cc
 
@@ -147,8 +153,10 @@ front_no_fault : (kind : FaultKind) (f : FrameValue) (text : List Bool) (level :
 front_no_fault kind f text level h b =
     let w = text ++ level ∷ [] in
     let long : IsFront f (w ++ []) = subst (IsFront f) (sym (append-nil w)) b in
-    elim (no_rough_fault kind text level h (front_rough f w b)) [ inl a ↦ front_no_ack f w [] long a
-        | inr a ↦ front_no_crc f w [] long a ]
+    elim (no_rough_fault kind text level h (front_rough f w b)) [
+      | inl a ↦ front_no_ack f w [] long a
+      | inr a ↦ front_no_crc f w [] long a
+    ]
 
 part_no_body : (f : FrameValue) (right : Bool) (w : List Bool) → BeginsRegion w → IsBody f right w → ⊥
 part_no_body f right w h b = part_region f b.x b.check w [] w h b.is_region (sym (append-nil w))

@@ -5,7 +5,7 @@ use Rattle.can_frame.specs.Frames.{FrameValue}
 use Rattle.can_frame.specs.Fronts.{front_tail, IsFront, BeginsRough}
 use Rattle.can_frame.specs.Answers.{Answers, FaultAnswers, IsFaulty, IsUndecided, IsLast}
 use Rattle.can_frame.specs.Reading.{IsPush, IsReading, MayReadOn, Next, ReadsOn, StandsAfter, StandsAt, HasEnded}
-use Rattle.can_frame.specs.Reading.{IsOpen}
+use Rattle.can_frame.specs.Reading.{IsOpen, ReadsOnBy}
 use Rattle.can_frame.specs.ReaderLaws.{ReadingIsUndecided, FrontsAreTaken, TakenAreFronts, FirstFaultsAreAnswered}
 use Rattle.can_frame.specs.ReaderLaws.{AnsweredFaultsAreFirst}
 use Rattle.can_frame.specs.declared.step.FaultKind.{FaultKind}
@@ -38,8 +38,10 @@ pub fault_ends : (kind : FaultKind) (f : FrameValue) (text : List Bool) (level :
     FaultAnswers kind text level → IsFront f ((text ++ level ∷ []) ++ more) → ⊥
 fault_ends kind f text level more h k =
     let w = text ++ level ∷ [] in
-    elim (no_rough_fault kind text level h (front_begins f w more k)) [ inl a ↦ front_no_ack f w more k a
-        | inr a ↦ front_no_crc f w more k a ]
+    elim (no_rough_fault kind text level h (front_begins f w more k)) [
+      | inl a ↦ front_no_ack f w more k a
+      | inr a ↦ front_no_crc f w more k a
+    ]
 
 ended_taken : (step : Step) (before : List Bool) (level : Bool) (more : List Bool) (f : FrameValue) → IsLast step →
     Answers step before level → IsFront f ((before ++ level ∷ []) ++ more) → step ≡ Taken f
@@ -54,7 +56,7 @@ place_taken : (place : Place) (run : LevelRun) (levels text : List Bool) (f : Fr
     StandsAt place run levels text → IsFront f text → place ≡ Ended (Taken f)
 place_taken Region run levels text f h k =
     let p = parts f text k in
-        absurd (no_region f p.x p.check p.region (front_tail false) text levels h.inside p.is_region p.whole)
+    absurd (no_region f p.x p.check p.region (front_tail false) text levels h.inside p.is_region p.whole)
 place_taken (AfterBody g right seen) run levels text f h k = absurd (no_front g f right seen text h k)
 place_taken (Ended step) run levels text f h k =
     ap Ended (ended_taken step h.before h.level h.more f h.last h.answer (subst (IsFront f) h.whole k))
@@ -135,7 +137,7 @@ ended_faulty : (step : Step) (before : List Bool) (level : Bool) (more : List Bo
 ended_faulty step before level more place d u h e = elim (meet before d.before level d.level more d.more d.whole) [
   | inl s ↦
       let a : Answers step before level = subst (λ l. Answers step before l) (sym s.levels)
-          (subst (λ t. Answers step t d.level) (sym s.texts) d.answer) in
+      (subst (λ t. Answers step t d.level) (sym s.texts) d.answer) in
       fault_of step before level place d.last a h e
   | inr (inl k) ↦ absurd (d.undecided.no_fault (before ++ level ∷ []) k.0 k.1 h)
   | inr (inr k) ↦ absurd (last_decides step d.before d.level before k.0 d.last d.answer u k.1)
@@ -174,8 +176,17 @@ only_push old one new level answer step is made = record {
 
 pub reads_on : (old new : Reader) (level : Bool) (step : Step) → MayReadOn level old → IsPush old level step new →
     ReadsOn old level new
-reads_on old new level step may made = elim may.1 [ inl more ↦ inl (only_push old may.0 new level More step more made)
-    | inr stuff ↦ inr (only_push old may.0 new level StuffBit step stuff made) ]
+reads_on old new level step may made = elim may.1 [
+  | inl more ↦ inl (only_push old may.0 new level More step more made)
+  | inr stuff ↦ inr (only_push old may.0 new level StuffBit step stuff made)
+]
+
+-- a reader that has read on with some levels reads on with one more
+pub reads_on_by-more : (old mid new : Reader) (levels : List Bool) (level : Bool) → ReadsOnBy old levels mid →
+    ReadsOn mid level new → ReadsOnBy old (levels ++ level ∷ []) new
+reads_on_by-more old mid new [] level is h = (new, subst (λ r. ReadsOn r level new) is h, refl)
+reads_on_by-more old mid new (first ∷ levels) level is h =
+    (is.0, is.1, reads_on_by-more is.0 mid new levels level is.2 h)
 
 -- one whose push has another answer may not
 pub may_not : (old new : Reader) (level : Bool) (step : Step) → IsPush old level step new → (step ≡ More → ⊥) →

@@ -21,9 +21,14 @@ front_body : (f g : FrameValue) (right : Bool) (w more : List Bool) → IsFront 
 front_body f g right w more h b =
     let p = parts f (w ++ more) h in
     let same = same_region f g p.x b.x p.check b.check p.region w (front_tail false) more p.is_region b.is_region
-        (sym p.whole) in
-    let good : IsBody f true p.region = record { x = p.x; check = p.check; is_region = p.is_region;
-        is_right = λ r. p.is_crc; is_wrong = λ r. absurd (cc r) } in
+    (sym p.whole) in
+    let good : IsBody f true p.region = record {
+      x = p.x;
+      check = p.check;
+      is_region = p.is_region;
+      is_right = λ r. p.is_crc;
+      is_wrong = λ r. absurd (cc r);
+    } in
     two_bodies g f right true w b (subst (IsBody f true) same good)
 
 -- an answer before the end of a front
@@ -65,17 +70,26 @@ along [] old new f text level after (step ∷ steps) s r h run =
     let next = run.1.next text r s in
     let is : step ≡ Taken f = one_answer step (Taken f) text level next.answer h in
     let rest = last_two f run.0 new after steps (subst (λ k. Leaves k run.0) is next.leaves) run.2 in
-    record { before = []; leads = All-nil (LeadsTo f); whole = ap (λ k. k ∷ steps) is ∙ ap (λ k. Taken f ∷ k) rest.0;
-        taken = rest.1 }
+    record {
+      before = [];
+      leads = All-nil (LeadsTo f);
+      whole = ap (λ k. k ∷ steps) is ∙ ap (λ k. Taken f ∷ k) rest.0;
+      taken = rest.1;
+    }
 along (next_level ∷ m) old new f text level after (step ∷ steps) s r h run =
     let next = run.1.next text r s in
     let long : IsFront f ((text ++ level ∷ []) ++ next_level ∷ m) =
-        subst (IsFront f) (sym (append_assoc text (level ∷ []) (next_level ∷ m))) h in
+    subst (IsFront f) (sym (append_assoc text (level ∷ []) (next_level ∷ m))) h in
     let on =
-        goes_on_by step f run.0 text level (next_level ∷ m) next.answer next.leaves long (λ none. absurd (cc none)) in
+    goes_on_by step f run.0 text level (next_level ∷ m) next.answer next.leaves long (λ none. absurd (cc none)) in
     let rest = along m run.0 new f (text ++ level ∷ []) next_level after steps next.stands on.reading long run.2 in
-    record { before = step ∷ rest.before; leads = All-cons (LeadsTo f) step rest.before on.leads rest.leads; whole =
-        ap (λ k. step ∷ k) rest.whole; taken = rest.taken }
+    record {
+      before = step ∷ rest.before;
+      leads = All-cons (LeadsTo f) step rest.before on.leads rest.leads;
+      whole =
+          ap (λ k. step ∷ k) rest.whole;
+      taken = rest.taken;
+    }
 
 from_start : (t : List Bool) (old new : Reader) (f : FrameValue) (after : Bool) (steps : List Step) →
     StandsAfter old [] → IsReading old →
@@ -91,8 +105,8 @@ pub spellings_are_taken : SpellingsAreTaken
 spellings_are_taken old new f x w steps s r hf hx h run =
     let front = h.stuffed ++ front_tail false in
     let is : IsFront f front =
-        is-front f x h.check h.stuffed front (spelled_region f x false w hf hx h) h.is_crc refl in
+    is-front f x h.check h.stuffed front (spelled_region f x false w hf hx h) h.is_crc refl in
     let whole : w ≡ front ++ true ∷ [] = h.whole ∙ sym (append_assoc h.stuffed (front_tail false) (true ∷ [])) in
     let t = from_start front old new f true steps s r is (not_empty h.stuffed _ true)
-        (subst (λ v. IsRun old v steps new) whole run) in
+    (subst (λ v. IsRun old v steps new) whole run) in
     (t.before, t.leads, t.whole, t.taken)

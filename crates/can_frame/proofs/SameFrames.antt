@@ -15,7 +15,7 @@ same_identifier (extended m) (extended n) number format = ap extended number
 pub same_content : (a b : Content) → remote_of a ≡ remote_of b → dlc_of a ≡ dlc_of b → cells_of a ≡ cells_of b → a ≡ b
 same_content (data_bytes xs) (data_bytes ys) kind code cells =
     ap data_bytes (sym (take-append_seam xs _) ∙ ap (λ bs. take (length xs) bs) cells
-        ∙ ap (λ n. take n (padded ys)) code ∙ take-append_seam ys _)
+    ∙ ap (λ n. take n (padded ys)) code ∙ take-append_seam ys _)
 same_content (data_bytes xs) (remote_code n) kind code cells = absurd (cc kind)
 same_content (remote_code m) (data_bytes ys) kind code cells = absurd (cc kind)
 same_content (remote_code m) (remote_code n) kind code cells = ap remote_code code

@@ -36,7 +36,7 @@ judge u n k h fits crc e =
     let l = fields_length u in
     let check : drop l u ≡ levels 15 k =
     peel u l 15 (omega (arith, h)) ∙ ap (λ t. levels 15 (number_at u l 15) ++ t)
-        (drop_all (l + 15) u (omega (arith, h)))
+    (drop_all (l + 15) u (omega (arith, h)))
     ∙ append-nil (levels 15 (number_at u l 15)) ∙ ap (levels 15) (sym e) in
     elim (eqb_tells n k) [
       | inl is ↦ record {
@@ -60,11 +60,11 @@ number-more u z s (suc w) h =
 length-more-by : (b : Bool) (u z : List Bool) → base_at b ≤ length u → length_by b (u ++ z) ≡ length_by b u
 length-more-by true u z h =
     ap (λ r. 39 + 8 * bytes_length r (at_most_eight (code_at true (u ++ z))))
-        (get_or_append_left u z false 32 (omega (arith, h)))
+    (get_or_append_left u z false 32 (omega (arith, h)))
     ∙ ap (λ c. 39 + 8 * bytes_length (rtr_at true u) (at_most_eight c)) (number-more u z 35 4 (omega (arith, h)))
 length-more-by false u z h =
     ap (λ r. 19 + 8 * bytes_length r (at_most_eight (code_at false (u ++ z))))
-        (get_or_append_left u z false 12 (omega (arith, h)))
+    (get_or_append_left u z false 12 (omega (arith, h)))
     ∙ ap (λ c. 19 + 8 * bytes_length (rtr_at false u) (at_most_eight c)) (number-more u z 15 4 (omega (arith, h)))
 
 base_least : (b : Bool) → 19 ≤ base_at b
@@ -83,7 +83,7 @@ grow u x h =
           elim (leb_tells (base_at (ide u)) (length u)) [
             | inl full ↦
                 let e : fields_length p ≡ fields_length u =
-                    ap (λ b. length_by b p) same ∙ length-more-by (ide u) u (x ∷ []) full.1 in
+                ap (λ b. length_by b p) same ∙ length-more-by (ide u) u (x ∷ []) full.1 in
                 omega (arith, long, e, h)
             | inr part ↦
                 let e : base_at (ide p) ≡ base_at (ide u) = ap base_at same in
@@ -102,7 +102,7 @@ complete_next u x h =
     let same : ide p ≡ ide u = get_or_append_left u (x ∷ []) false 13 (omega (arith, long, h, least)) in
     let base : base_at (ide p) ≡ base_at (ide u) = ap base_at same in
     let e : fields_length p ≡ fields_length u =
-        ap (λ b. length_by b p) same ∙ length-more-by (ide u) u (x ∷ []) (omega (arith, long, h, base)) in
+    ap (λ b. length_by b p) same ∙ length-more-by (ide u) u (x ∷ []) (omega (arith, long, h, base)) in
     omega (arith, long, e, h)
 
 -- what holds of a text in the form of a stuffed one, and of the text that it stands for
@@ -161,7 +161,7 @@ after_stuff u text level h five opposite =
     let e = next_reverse text level in
     let step = stuff_bit r level five h.stuffed opposite in
     let few : length u ≤ fields_length u + 15 =
-        elim h.unfinished [ inl s ↦ omega (arith, s) | inr full ↦ omega (arith, full.0) ] in
+    elim h.unfinished [ inl s ↦ omega (arith, s) | inr full ↦ omega (arith, full.0) ] in
     record {
       kept = record {
         stuffed = subst IsStuffed (sym e) step.0;
@@ -190,7 +190,7 @@ body_tail text u right h full ended j =
     } in
     let yes_right : right ≡ true → IsCrc fs (drop n u) = λ r. subst (λ t. IsCrc t (drop n u)) front (j.is_right r) in
     let wrong : right ≡ false → IsCrc fs (drop n u) → ⊥ =
-        λ r c. j.is_wrong r (subst (λ t. IsCrc t (drop n u)) (sym front) c) in (
+    λ r c. j.is_wrong r (subst (λ t. IsCrc t (drop n u)) (sym front) c) in (
       record { x = b.x; check = drop n u; is_region = region; is_right = yes_right; is_wrong = wrong },
       record {
         x = b.x;
@@ -243,8 +243,13 @@ goes_in : (text u : List Bool) (level : Bool) → Inside text u → BeginsRough 
 goes_in text u level h b =
     let r = b.is_rough in
     elim (compare_end r.region (front_tail r.ack) text b.rest level (sym r.whole)) [
-      | inl a ↦ record { f = b.frame; x = r.x; c = r.check; m = a.0;
-          is = subst (IsRegion b.frame r.x r.check) a.1 r.is_region }
+      | inl a ↦ record {
+        f = b.frame;
+        x = r.x;
+        c = r.check;
+        m = a.0;
+        is = subst (IsRegion b.frame r.x r.check) a.1 r.is_region;
+      }
       | inr a ↦ absurd (no_region b.frame r.x r.check r.region a.0 text u h r.is_region a.1)
     ]
 
@@ -268,7 +273,7 @@ stuff_fault text u level h five same =
       λ b. let g = goes_in text u level h b in
           not_itself level (newest r) same
           (no_sixth r level five (IsStuffed-older (reverse g.m) (level ∷ r)
-                (subst IsStuffed (region_reverse text g.m level) g.is.stuffs.opposite))),
+          (subst IsStuffed (region_reverse text g.m level) g.is.stuffs.opposite))),
     )
 
 nothing_case : (x : Bool) (r : List Bool) (b : Bool) → five_equal r ≡ b → unstuffed (x ∷ r) ≡ [] →
@@ -301,9 +306,9 @@ sof_fault text u level h none e =
           let grown = grows (reverse g.m) (level ∷ []) in
           let back : reverse t ≡ grown.by ++ level ∷ [] =
           sym g.is.stuffs.rest ∙ ap unstuffed (region_reverse text g.m level
-              ∙ ap (λ s. reverse g.m ++ (level ∷ s)) empty) ∙ grown.is ∙ ap (λ s. grown.by ++ s) (one_level_is level) in
+          ∙ ap (λ s. reverse g.m ++ (level ∷ s)) empty) ∙ grown.is ∙ ap (λ s. grown.by ++ s) (one_level_is level) in
           let first : t ≡ level ∷ reverse grown.by =
-              sym (reverse-reverse t) ∙ ap reverse back ∙ reverse-append grown.by (level ∷ []) in
+          sym (reverse-reverse t) ∙ ap reverse back ∙ reverse-append grown.by (level ∷ []) in
           let clash : false ≡ true = head_same _ _ _ _ first ∙ e in
           cc),
       λ b five. let no : five_equal [] ≡ true = ap five_equal (sym empty) ∙ five in cc,

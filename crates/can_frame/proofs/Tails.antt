@@ -48,7 +48,7 @@ next_tail f right seen text level h few other e wrong = record {
   few = omega (arith, few);
   whole = one_longer text h.region (take seen (front_tail h.ack)) level h.whole
       ∙ ap (λ t. h.region ++ t) (take_tail h.ack seen level (omega (arith, few))
-          (fixed h.ack seen (omega (arith, few)) other ∙ sym e));
+      (fixed h.ack seen (omega (arith, few)) other ∙ sym e));
   good = λ r k. h.good r (at_two seen k other);
   bad = λ r. omega (arith, wrong r);
 }
@@ -104,9 +104,9 @@ pub no_part : (f : FrameValue) (right : Bool) (seen : ℕ) (text : List Bool) �
 no_part f right seen text h b =
     let t = take seen (front_tail h.ack) in
     let e : text ++ b.more ≡ h.region ++ (t ++ b.more) =
-        ap (λ s. s ++ b.more) h.whole ∙ append_assoc h.region t b.more in
+    ap (λ s. s ++ b.more) h.whole ∙ append_assoc h.region t b.more in
     let none = one_region f b.frame h.x b.x h.check b.check h.region (t ++ b.more) h.is_region
-        (subst (IsRegion b.frame b.x b.check) e b.is_region) in
+    (subst (IsRegion b.frame b.x b.check) e b.is_region) in
     b.not_whole (no_length b.more (omega (arith, ap length none, length-append t b.more)))
 
 -- a wrong level of fixed form
@@ -121,12 +121,12 @@ no_form f right seen text level h other e b =
     ∙ ap (λ s. h.region ++ s) (append_assoc t (level ∷ []) b.rest) in
     let whole : h.region ++ (t ++ level ∷ b.rest) ≡ r.region ++ front_tail r.ack = sym long ∙ r.whole in
     let same = same_region f b.frame h.x r.x h.check r.check h.region r.region (t ++ level ∷ b.rest)
-        (front_tail r.ack) h.is_region r.is_region whole in
+    (front_tail r.ack) h.is_region r.is_region whole in
     let tails : t ++ level ∷ b.rest ≡ front_tail r.ack =
     append_cancel_left r.region (t ++ level ∷ b.rest) (front_tail r.ack)
-        (ap (λ s. s ++ (t ++ level ∷ b.rest)) (sym same) ∙ whole) in
+    (ap (λ s. s ++ (t ++ level ∷ b.rest)) (sym same) ∙ whole) in
     let here : get_or (t ++ level ∷ b.rest) seen false ≡ level =
-        get_or_at t level b.rest false seen (length-tail h.ack seen h.few) in
+    get_or_at t level b.rest false seen (length-tail h.ack seen h.few) in
     let is : true ≡ false = sym (fixed r.ack seen h.few other) ∙ ap (λ s. get_or s seen false) (sym tails) ∙ here ∙ e in
     cc
 
@@ -138,7 +138,7 @@ no_front_before f g right seen text w more h e k =
     let t = take seen (front_tail h.ack) in
     let tail = front_tail false ++ more in
     let whole : h.region ++ t ≡ p.region ++ tail =
-        sym h.whole ∙ e ∙ ap (λ s. s ++ more) p.whole ∙ append_assoc p.region (front_tail false) more in
+    sym h.whole ∙ e ∙ ap (λ s. s ++ more) p.whole ∙ append_assoc p.region (front_tail false) more in
     let same = same_region f g h.x p.x h.check p.check h.region p.region t tail h.is_region p.is_region whole in
     let tails : t ≡ tail = append_cancel_left p.region t tail (ap (λ s. s ++ t) (sym same) ∙ whole) in
     omega (arith, ap length tails, length-tail h.ack seen h.few, h.few)
@@ -176,12 +176,12 @@ no_ack_before f right seen text w more h e k =
     let t = take seen (front_tail h.ack) in
     let b = k.body in
     let whole : h.region ++ t ≡ k.region ++ (true ∷ true ∷ more) =
-        sym h.whole ∙ e ∙ ap (λ s. s ++ more) k.whole ∙ append_assoc k.region (true ∷ true ∷ []) more in
+    sym h.whole ∙ e ∙ ap (λ s. s ++ more) k.whole ∙ append_assoc k.region (true ∷ true ∷ []) more in
     let both = tails_same f k.frame h.x b.x h.check b.check h.region k.region t
-        (true ∷ true ∷ more) h.is_region b.is_region whole in
+    (true ∷ true ∷ more) h.is_region b.is_region whole in
     let two : 2 ≤ seen = omega (arith, length-tail h.ack seen h.few, ap length both.1) in
     let crc =
-        same_crc f k.frame h.x b.x h.check b.check h.region k.region h.is_region b.is_region both.0 (b.is_right refl) in
+    same_crc f k.frame h.x b.x h.check b.check h.region k.region h.is_region b.is_region both.0 (b.is_right refl) in
     elim (either right) [
       | inl r ↦
           let is : true ≡ false = sym (ap (λ s. get_or s 1 false) both.1) ∙ second h.ack seen two ∙ h.good r two in
@@ -200,7 +200,7 @@ no_crc_before f right seen text w more h e k =
     let whole : h.region ++ t ≡ k.region ++ (true ∷ k.ack ∷ true ∷ more) =
     sym h.whole ∙ e ∙ ap (λ s. s ++ more) k.whole ∙ append_assoc k.region (true ∷ k.ack ∷ true ∷ []) more in
     let both = tails_same f k.frame h.x b.x h.check b.check h.region k.region t
-        (true ∷ k.ack ∷ true ∷ more) h.is_region b.is_region whole in
+    (true ∷ k.ack ∷ true ∷ more) h.is_region b.is_region whole in
     let three : 3 ≤ seen = omega (arith, length-tail h.ack seen h.few, ap length both.1) in
     elim (either right) [
       | inl r ↦ b.is_wrong refl (same_crc k.frame f b.x h.x b.check h.check k.region h.region b.is_region h.is_region
@@ -246,7 +246,7 @@ taken f right seen text level h e l =
     is-front f h.x h.check h.region (text ++ level ∷ []) h.is_region (h.is_right is)
     (one_longer text h.region (take seen (front_tail h.ack)) level h.whole
     ∙ ap (λ t. h.region ++ t) (take_tail h.ack seen level h.few (fixed h.ack seen h.few (λ one. omega (arith, one, e))
-          ∙ sym l))
+    ∙ sym l))
     ∙ ap (λ k. h.region ++ take (k + 1) (front_tail h.ack)) e ∙ ap (λ a. h.region ++ front_tail a) ack)
 
 body-of : (f : FrameValue) (right b : Bool) (seen : ℕ) (text : List Bool) (h : InTail f right seen text) → right ≡ b →

@@ -30,7 +30,7 @@ pub part_region : (f : FrameValue) (x : Unchecked) (c v t w : List Bool) → Beg
 part_region f x c v t w h k e =
     let long : w ++ h.more ≡ v ++ (t ++ h.more) = ap (λ s. s ++ h.more) e ∙ append_assoc v t h.more in
     let none = one_region f h.frame x h.x c h.check v (t ++ h.more) k
-        (subst (IsRegion h.frame h.x h.check) long h.is_region) in
+    (subst (IsRegion h.frame h.x h.check) long h.is_region) in
     h.not_whole (second_none t h.more none)
   where
     second_none : (a b : List Bool) → a ++ b ≡ [] → b ≡ []
@@ -65,9 +65,9 @@ region_undecided text u h =
       no_fault = λ w more e.
           no_fault_by w (rough_before text w more e (part_rough text b))
           (λ k. past_region k.frame k.body.x k.body.check k.region (true ∷ true ∷ []) text w more b e k.whole
-              k.body.is_region)
+          k.body.is_region)
           (λ k. past_region k.frame k.body.x k.body.check k.region (true ∷ k.ack ∷ true ∷ []) text w more b e k.whole
-              k.body.is_region);
+          k.body.is_region);
     }
 
 pub tail_undecided : (f : FrameValue) (right : Bool) (seen : ℕ) (text : List Bool) → InTail f right seen text →
@@ -76,5 +76,5 @@ tail_undecided f right seen text h = record {
   no_front = λ g w more e k. no_front_before f g right seen text w more h e k;
   no_fault = λ w more e.
       no_fault_by w (rough_before text w more e (begins_rough f right seen text h))
-          (no_ack_before f right seen text w more h e) (no_crc_before f right seen text w more h e);
+      (no_ack_before f right seen text w more h e) (no_crc_before f right seen text w more h e);
 }

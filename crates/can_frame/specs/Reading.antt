@@ -108,6 +108,11 @@ pub record IsPush (old : Reader) (level : Bool) (step : Step) (new : Reader) : T
 abbrev pub ReadsOn : Reader → Bool → Reader → Type 0
 ReadsOn old level new = IsPush old level More new ⊎ IsPush old level StuffBit new
 
+-- so with these levels, one after another
+abbrev pub ReadsOnBy : Reader → List Bool → Reader → Type 0
+ReadsOnBy old [] new = new ≡ old
+ReadsOnBy old (level ∷ levels) new = (mid : Reader) × ReadsOn old level mid × ReadsOnBy mid levels new
+
 -- with this level the stuffed region goes on: there is a push of it behind which it does
 abbrev pub MayReadOn : Bool → Reader → Type 0
 MayReadOn level reader = (new : Reader) × ReadsOn reader level new

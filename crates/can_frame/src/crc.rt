@@ -15,12 +15,9 @@ fn next_register(register: u16, level: bool) -> u16
     ensures step { levels 15 result ≡ next_check (levels 15 register) level }
 {
     let shifted = (register << 1) & 0x7FFF;
-    let highest = register >= 0x4000;
-    if highest != level {
-        shifted ^ GENERATOR_LOW
-    } else {
-        shifted
-    }
+    let differs = (register >> 14) ^ u16::from(level);
+    // a product, for a branch here would be foretold wrongly at half of all levels
+    shifted ^ (differs * GENERATOR_LOW)
 }
 
 /// The CRC sequence of a text of unstuffed levels, true being recessive (Bosch CAN Specification 2.0,

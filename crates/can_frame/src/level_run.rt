@@ -45,11 +45,9 @@ impl LevelRun {
     pub fn push(&mut self, level: bool)
         ensures { (text : List Bool) → EndsIn text self.old → EndsIn (level ∷ text) self.new }
     {
-        if level != self.level {
-            self.count = 1;
-        } else if self.count < 5 {
-            self.count += 1;
-        }
+        // both are there to be chosen from: a branch here would be foretold wrongly at half of all levels
+        let longer = self.count.min(4) + 1;
+        self.count = if level == self.level { longer } else { 1 };
         self.level = level;
     }
 }

@@ -1,6 +1,7 @@
 //! A receiver's reading of a frame, from SOF on.
 
-ghost use Rattle.std.specs.Prelude.{◌≡◌, ◌<◌, ◌+◌, ◌∷◌, ◌++◌, [], Bool, true, false, List, length, reverse};
+ghost use Rattle.std.specs.Prelude.{◌≡◌, ◌<◌, ◌≤◌, ◌+◌, ◌∷◌, ◌++◌, [], Bool, true, false, List};
+ghost use Rattle.std.specs.Prelude.{length, reverse, take};
 ghost use Rattle.can_frame.specs.Stuffing.{five_equal};
 ghost use Rattle.can_frame.specs.FieldReading.{fields_length, frame_at};
 ghost use Rattle.can_frame.specs.Reading.{
@@ -11,6 +12,7 @@ ghost use Rattle.can_frame.specs.Reading.{
   IsPush,
   MayReadOn,
   ReadsOn,
+  ReadsOnBy,
   StandsAs,
   Next,
   Judges,
@@ -180,6 +182,20 @@ impl Reader {
         self.push_stuff(level)
     }
 
+    /// Pushes the first of these levels, one after another, up to one with which the stuffed region doesn't go on, and
+    /// tells how many those are. A sender's levels are read so, many at once.
+    pub fn reads_on_by(&mut self, levels: &[bool]) -> usize
+        ensures few { result ≤ length levels.now }
+        ensures on { ReadsOnBy self.old (take result levels.now) self.new }
+    {
+        for (place, level) in levels.iter().enumerate() {
+            if !self.reads_on(*level) {
+                return place;
+            }
+        }
+        levels.len()
+    }
+
     /// Whether the stuffed region goes on with this level: `push` would answer `More` or `StuffBit`.
     #[inline(never)]
     pub fn would_read_on(&self, level: bool) -> bool
@@ -232,25 +248,16 @@ impl Reader {
         ensures on { result ≡ true → IsPush self.old level Step.Tail self.new }
         ensures other { result ≡ false → self.new ≡ self.old }
     {
-        let place = self.place;
-        match place {
-            Place::AfterBody(frame, right, seen) => self.reads_behind(frame, right, seen, level),
-            _ => false,
-        }
-    }
-
-    /// So where it stands behind this frame.
-    fn reads_behind(&mut self, frame: Frame, right: bool, seen: u8, level: bool) -> bool
-        ensures on { result ≡ true → self.old.place ≡ Place.AfterBody frame right seen
-            → IsPush self.old level Step.Tail self.new }
-        ensures other { result ≡ false → self.new ≡ self.old }
-    {
-        if seen >= 8 {
+        // in place, without a copy of the frame
+        let Place::AfterBody(frame, right, seen) = &mut self.place else {
+            return false;
+        };
+        if *seen >= 8 {
             return false;
         }
-        match tail_step(frame, right, seen, level) {
+        match tail_step(*frame, *right, *seen, level) {
             Step::Tail => {
-                self.place = Place::AfterBody(frame, right, seen + 1);
+                *seen += 1;
                 true
             }
             _ => false,

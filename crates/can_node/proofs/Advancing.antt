@@ -13,7 +13,6 @@ use Rattle.can_node.specs.declared.state.Stage.TheVariants.{Region}
 use Rattle.can_node.specs.declared.state.Turn.{Turn}
 use Rattle.can_node.specs.Machine.{Lands, Goes, GoesReading, GoesSending, LosesAt, Advances, listed, quiet, IsSteady}
 use Rattle.can_node.specs.Machine.{is_taking, is_sending, level_of, level_in}
-use Rattle.can_node.specs.Machine.Lands.{goes_on}
 use Rattle.can_node.proofs.Moves.{idle_on, off_broken, off_longer}
 use Rattle.can_node.proofs.TakeMoves.{take_more, take_stuff}
 use Rattle.can_node.proofs.Readers.{still_reading, reads_on}
@@ -28,8 +27,12 @@ reading_advances start may stage old new spelling now errors level step turn pus
     clock err agrees holds reads =
     let next = push.next text (reads.reading refl) (reads.stands refl) in
     let both = goes may new text at before phase part events err agrees next in
-    record { after = text ++ level ∷ []; lands = both.0; reads =
-        record { stands = λ is. next.stands; reading = both.1 } }
+    record {
+      after = text ++ level ∷ [];
+      lands = both.0;
+      reads =
+          record { stands = λ is. next.stands; reading = both.1 };
+    }
 
 -- A node that sends one. If it begins to read it has lost arbitration, and its reader has read what it drove.
 pub sending_advances : (start place : ℕ) (old new : Reader) (spelling : Spelling) (now : ℕ) (errors : ErrorState)
@@ -42,10 +45,14 @@ sending_advances start place old new spelling now errors level turn goes lost re
     let after = text ++ level ∷ [] in
     let lands = goes text at before phase part events err agrees holds in
     let stands : is_taking turn.state ≡ true → ReaderStandsAfter new after =
-        λ is. subst (λ t. ReaderStandsAfter new (t ++ level ∷ [])) (lost_text spelling (lost is) agrees holds)
-        (read is) in
-    record { after = after; lands = lands; reads =
-        record { stands = stands; reading = λ is. still_reading new after (stands is) (reads_on lands is).undecided } }
+    λ is. subst (λ t. ReaderStandsAfter new (t ++ level ∷ [])) (lost_text spelling (lost is) agrees holds)
+    (read is) in
+    record {
+      after = after;
+      lands = lands;
+      reads =
+          record { stands = stands; reading = λ is. still_reading new after (stands is) (reads_on lands is).undecided };
+    }
 
 -- a node that reads on as before
 pub steady_advances : (start : ℕ) (may : Bool) (stage : Stage) (old new : Reader) (spelling : Spelling) (now : ℕ)
@@ -54,17 +61,17 @@ pub steady_advances : (start : ℕ) (may : Bool) (stage : Stage) (old new : Read
     (quiet (Taking start may stage)) new
 steady_advances start may stage old new spelling now errors level step push h =
     let more : step ≡ More → Advances (Taking start false Region) old spelling now errors level
-        (quiet (Taking start false Region)) new =
+    (quiet (Taking start false Region)) new =
     λ is. reading_advances start false Region old new spelling now errors level More _
-        (subst (λ s. IsPush old level s new) is push) (λ m. take_more start m Region errors level) in
+    (subst (λ s. IsPush old level s new) is push) (λ m. take_more start m Region errors level) in
     let stuff : step ≡ StuffBit → Advances (Taking start false Region) old spelling now errors level
-        (quiet (Taking start false Region)) new =
+    (quiet (Taking start false Region)) new =
     λ is. reading_advances start false Region old new spelling now errors level StuffBit _
-        (subst (λ s. IsPush old level s new) is push) (λ m. take_stuff start m Region errors level) in
+    (subst (λ s. IsPush old level s new) is push) (λ m. take_stuff start m Region errors level) in
     subst (λ m. Advances (Taking start m stage) old spelling now errors level (quiet (Taking start m stage)) new)
-        (sym h.reads)
+    (sym h.reads)
     (subst (λ g. Advances (Taking start false g) old spelling now errors level (quiet (Taking start false g)) new)
-        (sym h.inside)
+    (sym h.inside)
     (elim h.goes_on [ inl is ↦ more is | inr is ↦ stuff is ]))
 
 pub no_taking : (state : State) → ((start : ℕ) (may : Bool) (stage : Stage) → state ≡ Taking start may stage → ⊥) →
@@ -107,10 +114,10 @@ pub broken_advances : (runs ones : ℕ) (old : Reader) (spelling : Spelling) (no
     Advances (Recovering runs ones) old spelling now errors false (quiet (Recovering runs 0)) old
 broken_advances runs ones old spelling now errors =
     other_advances (Recovering runs ones) old old spelling now errors false (quiet (Recovering runs 0)) refl
-        (off_broken runs ones now errors) (λ is. absurd (cc is)) (λ is. absurd (cc is))
+    (off_broken runs ones now errors) (λ is. absurd (cc is)) (λ is. absurd (cc is))
 
 pub longer_advances : (runs ones : ℕ) (old : Reader) (spelling : Spelling) (now : ℕ) (errors : ErrorState) → ones < 10 →
     Advances (Recovering runs ones) old spelling now errors true (quiet (Recovering runs (ones + 1))) old
 longer_advances runs ones old spelling now errors few =
     other_advances (Recovering runs ones) old old spelling now errors true (quiet (Recovering runs (ones + 1))) refl
-        (off_longer runs ones now errors few) (λ is. absurd (cc is)) (λ is. absurd (cc is))
+    (off_longer runs ones now errors few) (λ is. absurd (cc is)) (λ is. absurd (cc is))

@@ -58,7 +58,7 @@ stuffed_sof frame check (x ∷ w) e =
     let t = fields frame senders_choice ++ check in
     let g = grows (reverse w) (x ∷ []) in
     let back : reverse t ≡ g.by ++ x ∷ [] =
-        sym e ∙ ap unstuffed (reverse-append (x ∷ []) w) ∙ g.is ∙ ap (λ r. g.by ++ r) (one_unstuffed x) in
+    sym e ∙ ap unstuffed (reverse-append (x ∷ []) w) ∙ g.is ∙ ap (λ r. g.by ++ r) (one_unstuffed x) in
     let first : t ≡ x ∷ reverse g.by = sym (reverse-reverse t) ∙ ap reverse back ∙ reverse-append g.by (x ∷ []) in
     (w, ap (λ b. b ∷ w) (head_same x false (reverse g.by) _ (sym first)))
 
@@ -79,8 +79,10 @@ first_idle frame spelling k =
       bit = record {
         later = d.rest;
         later_seen = s.rest;
-        send = record { drives = subst (Spells frame senders_choice true) (alone.1 ∙ d.is) k.spells;
-            samples = subst (Spells frame senders_choice false) s.is alone.2 };
+        send = record {
+          drives = subst (Spells frame senders_choice true) (alone.1 ∙ d.is) k.spells;
+          samples = subst (Spells frame senders_choice false) s.is alone.2;
+        };
         same_place = refl;
       };
     }
@@ -115,7 +117,7 @@ first_joined frame spelling k =
     let alone = slot_stands_alone frame senders_choice true false spelling.levels.items k.spells in
     let sof = stuffed_sof frame k.spells.check k.spells.stuffed k.spells.is_stuffed.rest in
     joined_by frame alone.0 spelling.levels.items (sof.0 ++ tail_levels true) alone.1
-        (k.spells.whole ∙ ap (λ w. w ++ tail_levels true) sof.1) k.spells alone.2
+    (k.spells.whole ∙ ap (λ w. w ++ tail_levels true) sof.1) k.spells alone.2
 
 -- a receiver that has read nothing yet
 reads_none : {given levels : List Bool} {pairs : List Pair} {events : List ErrorEvent} →
@@ -177,10 +179,10 @@ begin_starts {text = text} {at = at} next now frame spelling
       episode = λ before still. subst (λ p. Episode at before (Take start given may_begin) p events Nothing
           (Send start given frame)) (sym none_yet.0)
           (subst (λ es. Episode at before (Take start given may_begin) [] es Nothing (Send start given frame))
-              (sym nothing.1)
+          (sym nothing.1)
           (subst (λ b. Episode at before (Take start given b) [] [] Nothing (Send start given frame)) (sym none_yet.1)
           (joined start given frame k.is_frame
-              (subst AreOn (ap (λ es. before ++ es) nothing.1 ∙ append-nil before) still))));
+          (subst AreOn (ap (λ es. before ++ es) nothing.1 ∙ append-nil before) still))));
       still_on = λ before still. still;
       place = 1;
       next_is = begins;
@@ -208,7 +210,7 @@ begin_stands old new frame may k begins counters_is clock_is past h =
     let st = h.in_state in
     let at = st.done.first + length st.done.pairs in
     let here : old.clock ≡ at + length st.part =
-        omega (arith, h.clock_is, ap (λ p. p.first + length p.pairs) st.past_is, length-append st.done.pairs st.part) in
+    omega (arith, h.clock_is, ap (λ p. p.first + length p.pairs) st.past_is, length-append st.done.pairs st.part) in
     let s = begin_starts new.state old.clock frame new.spelling st.agrees may here k begins in
     let done : Past = with_episode st.done st.phase st.part st.counting Nothing in
     let whole = then st.whole (s.episode st.done.events st.on) in
@@ -225,7 +227,7 @@ begin_stands old new frame may k begins counters_is clock_is past h =
         on = subst AreOn (sym (append-nil done.events)) (s.still_on st.done.events st.on);
         past_is = ap (λ p. with_begin p frame) st.past_is ∙
             same_past done.first _ _ _ _ _ _ _ _ (sym (append-nil done.pairs)) (sym (append-nil done.events)) refl
-                (sym (append-nil done.outcomes));
+            (sym (append-nil done.outcomes));
       });
       reads = subst (λ t. ReaderStands t new.reader s.given) (sym s.next_is)
           (record { stands = λ is. absurd (cc is); reading = λ is. absurd (cc is) });

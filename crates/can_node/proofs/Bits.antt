@@ -169,7 +169,7 @@ pub same_past : (first : ℕ) (p q : List Pair) (d e : List ErrorEvent) (b c : L
     p ≡ q → d ≡ e → b ≡ c → o ≡ r → past_of first p d b o ≡ past_of first q e c r
 same_past first p q d e b c o r pq de bc or =
     ap (λ x. past_of first x d b o) pq ∙ ap (λ x. past_of first q x b o) de ∙ ap (λ x. past_of first q e x o) bc
-        ∙ ap (λ x. past_of first q e c x) or
+    ∙ ap (λ x. past_of first q e c x) or
 
 -- the episode goes on with this bit
 pub stands_on : (old new : State) (spelling : Spelling) (text after : List Bool) (past : Past) (pair : Pair)
@@ -189,7 +189,7 @@ stands_on old new spelling text after past pair event st agrees on = record {
   on = on;
   past_is = ap (λ p. with_bit p pair event Nothing) st.past_is ∙
       same_past st.done.first _ _ _ _ _ _ _ _ (append_assoc st.done.pairs st.part (pair ∷ []))
-          (append_assoc st.done.events st.counting (listed event)) refl (append-nil _);
+      (append_assoc st.done.events st.counting (listed event)) refl (append-nil _);
 }
 
 -- outside of bus off, and so in any phase
@@ -219,7 +219,7 @@ pub stands_over : (old new : State) (spelling : Spelling) (text after : List Boo
 stands_over old new spelling text after past pair event outcome next st silent episode agrees on =
     let done : Past = with_episode st.done st.phase (st.part ++ pair ∷ []) (st.counting ++ listed event) outcome in
     let here : st.done.first + length (st.done.pairs ++ (st.part ++ pair ∷ [])) - 1
-        ≡ st.done.first + length (st.done.pairs ++ st.part) =
+    ≡ st.done.first + length (st.done.pairs ++ st.part) =
     omega (arith, length-append {A = Pair}) in
     record {
       done = done;
@@ -234,9 +234,9 @@ stands_over old new spelling text after past pair event outcome next st silent e
           same_past st.done.first _ _ _ _ _ _ _ _ (append_assoc st.done.pairs st.part (pair ∷ []) ∙ sym (append-nil _))
           (append_assoc st.done.events st.counting (listed event) ∙ sym (append-nil _))
           (sym (ap (λ b. (st.done.begun ++ begins (st.done.first + length st.done.pairs) st.phase) ++ b)
-                (silent.begins_nothing _) ∙ append-nil _))
+          (silent.begins_nothing _) ∙ append-nil _))
           (ap (λ o. o ++ noted (st.done.first + length (st.done.pairs ++ st.part)) outcome)
-              (append-nil st.done.outcomes)
+          (append-nil st.done.outcomes)
           ∙ ap (λ n. st.done.outcomes ++ noted n outcome) (sym here) ∙ sym (append-nil _));
     }
 
@@ -252,7 +252,7 @@ lands_on old new spelling text after past pair event outcome st (goes_on agrees 
     (stands_on old new spelling text after past pair event st agrees (outside st.phase _ on))
 lands_on old new spelling text after past pair event outcome st (is_over next course agrees) on =
     stands_over old new spelling text after past pair event outcome next st (course_quiet course)
-        (ends course on) agrees (outside next _ on)
+    (ends course on) agrees (outside next _ on)
 
 -- a turn whose event leads to bus off: in place of what it would have ended, the node went off
 pub lands_off : (old new : State) (spelling : Spelling) (text after : List Bool) (past : Past) (pair : Pair)
@@ -263,9 +263,9 @@ pub lands_off : (old new : State) (spelling : Spelling) (text after : List Bool)
     InState (Recovering 0 0) spelling after (with_bit past pair (Some event) WentOff)
 lands_off old new spelling text after past pair event outcome st (goes_on agrees nothing) on off =
     stands_over old (Recovering 0 0) spelling text after past pair (Some event) WentOff BusOff st
-        (quiet_flag Off [] Receiver)
+    (quiet_flag Off [] Receiver)
     (off_within pair event (agrees_begun st.agrees) on (agrees_begun agrees) off) (off_begins after) tt
 lands_off old new spelling text after past pair event outcome st (is_over next course agrees) on off =
     stands_over old (Recovering 0 0) spelling text after past pair (Some event) WentOff BusOff st
-        (quiet_flag Off [] Receiver)
+    (quiet_flag Off [] Receiver)
     (off_at_end pair event (agrees_begun st.agrees) on course off) (off_begins after) tt

@@ -69,14 +69,14 @@ pub delimit_on : (role : Role) (k now : ℕ) (e : ErrorState) → k < 7 →
     Goes (Delimiting role k) now e true (turn (Delimiting role (k + 1)) None)
 delimit_on role k now e room text at before phase part events clock err (in_delimiter kind run n some below) =
     goes_on (rw (listening_more, append_assoc, replicate_more, append-nil)
-        (in_delimiter {k = k + 1} kind run n (omega arith) (omega arith))) refl
+    (in_delimiter {k = k + 1} kind run n (omega arith) (omega arith))) refl
 
 pub delimit_ends : (role : Role) (k now : ℕ) (e : ErrorState) → 7 ≤ k →
     Goes (Delimiting role k) now e true (turn (Resting role 0) None)
 delimit_ends role k now e full text at before phase part events clock err (in_delimiter kind run n some below) =
     let seven : k ≡ 7 = omega arith in
     is_over (Intermission role) (rw (seven, listening_more, append_assoc, append-nil) (delimited kind role run n))
-        (λ later. in_rest {k = 0} (omega arith))
+    (λ later. in_rest {k = 0} (omega arith))
 
 pub delimit_cut : (role : Role) (k now : ℕ) (e : ErrorState) (flag : State) → k < 7 →
     ((text : List Bool) (later : ℕ) → Agrees flag text later (flag_of e [] role) [] []) →
@@ -91,4 +91,4 @@ pub delimit_overload : (role : Role) (k now : ℕ) (e : ErrorState) → 7 ≤ k 
 delimit_overload role k now e full text at before phase part events clock err (in_delimiter kind run n some below) =
     let seven : k ≡ 7 = omega arith in
     is_over (OverloadFlag role) (rw (seven, listening_more, append-nil) (overloaded kind role run n))
-        (overload_begins role)
+    (overload_begins role)

@@ -41,22 +41,26 @@ pub wait_begins : (kind : FlagKind) (role : Role) (run until later : ℕ) → fi
     Agrees (Waiting kind role until true) (false ∷ []) later (Delimiter kind role run) [] []
 unfolding dominant_events
 wait_begins kind role run until later fourteen is far =
-    in_wait run 0 refl (λ _. far) (record { eighths = 0; due = omega (arith, fourteen, is); some = omega arith;
-          near = λ no. absurd (no refl) })
+    in_wait run 0 refl (λ _. far) (record {
+      eighths = 0;
+      due = omega (arith, fourteen, is);
+      some = omega arith;
+      near = λ no. absurd (no refl);
+    })
 
 pub flag_bit_on : (kind : FlagKind) (role : Role) (sent until now : ℕ) (e : ErrorState) → sent < 5 →
     Goes (Flagging kind role sent until) now e true (turn (Flagging kind role (sent + 1) 14) (Some (FlagBit role)))
 flag_bit_on kind role sent until now e room text at before phase part events clock err
     (in_active levels size below runs few) =
     goes_on (rw (dominating_more, flag_bits_more role levels true)
-        (in_active {sent = sent + 1} {until = 14} (levels ++ true ∷ [])
-          (omega (arith, size, length-append levels (true ∷ []))) (omega arith)
+    (in_active {sent = sent + 1} {until = 14} (levels ++ true ∷ [])
+    (omega (arith, size, length-append levels (true ∷ []))) (omega arith)
     (omega (arith, end_recessive levels)) (omega (arith, end_recessive levels)))) refl
 flag_bit_on kind role sent until now e room text at before phase part events clock err
     (in_overload levels size below runs few) =
     goes_on (rw (dominating_more, flag_bits_more role levels true)
-        (in_overload {sent = sent + 1} {until = 14} (levels ++ true ∷ [])
-          (omega (arith, size, length-append levels (true ∷ []))) (omega arith)
+    (in_overload {sent = sent + 1} {until = 14} (levels ++ true ∷ [])
+    (omega (arith, size, length-append levels (true ∷ []))) (omega arith)
     (omega (arith, end_recessive levels)) (omega (arith, end_recessive levels)))) refl
 
 pub flag_on : (kind : FlagKind) (role : Role) (sent until now : ℕ) (e : ErrorState) → sent < 5 →
@@ -64,14 +68,14 @@ pub flag_on : (kind : FlagKind) (role : Role) (sent until now : ℕ) (e : ErrorS
 flag_on kind role sent until now e room text at before phase part events clock err
     (in_active levels size below runs few) =
     goes_on (rw (dominating_more, flag_bits_more role levels false)
-        (in_active {sent = sent + 1} {until = until - 1} (levels ++ false ∷ [])
-          (omega (arith, size, length-append levels (false ∷ []))) (omega arith)
+    (in_active {sent = sent + 1} {until = until - 1} (levels ++ false ∷ [])
+    (omega (arith, size, length-append levels (false ∷ []))) (omega arith)
     (omega (arith, end_dominant levels, runs, few)) (omega (arith, end_dominant levels, few)))) refl
 flag_on kind role sent until now e room text at before phase part events clock err
     (in_overload levels size below runs few) =
     goes_on (rw (dominating_more, flag_bits_more role levels false)
-        (in_overload {sent = sent + 1} {until = until - 1} (levels ++ false ∷ [])
-          (omega (arith, size, length-append levels (false ∷ []))) (omega arith)
+    (in_overload {sent = sent + 1} {until = until - 1} (levels ++ false ∷ [])
+    (omega (arith, size, length-append levels (false ∷ []))) (omega arith)
     (omega (arith, end_dominant levels, runs, few)) (omega (arith, end_dominant levels, few)))) refl
 
 pub flag_bit_last : (kind : FlagKind) (role : Role) (sent until now : ℕ) (e : ErrorState) → 5 ≤ sent →
@@ -80,13 +84,13 @@ flag_bit_last kind role sent until now e full text at before phase part events c
     (in_active levels size below runs few) =
     is_over (Delimiter ActiveError role (dominant_end (levels ++ true ∷ [])))
     (rw (dominating_more, flag_bits_more role levels true)
-        (flagged role (levels ++ true ∷ []) (omega (arith, size, length-append levels (true ∷ [])))))
+    (flagged role (levels ++ true ∷ []) (omega (arith, size, length-append levels (true ∷ [])))))
     (λ later. wait_begins ActiveError role _ 14 later refl (omega (arith, end_recessive levels)) (omega arith))
 flag_bit_last kind role sent until now e full text at before phase part events clock err
     (in_overload levels size below runs few) =
     is_over (Delimiter Overload role (dominant_end (levels ++ true ∷ [])))
     (rw (dominating_more, flag_bits_more role levels true)
-        (overload_flagged role (levels ++ true ∷ []) (omega (arith, size, length-append levels (true ∷ [])))))
+    (overload_flagged role (levels ++ true ∷ []) (omega (arith, size, length-append levels (true ∷ [])))))
     (λ later. wait_begins Overload role _ 14 later refl (omega (arith, end_recessive levels)) (omega arith))
 
 pub flag_last : (kind : FlagKind) (role : Role) (sent until now : ℕ) (e : ErrorState) → 5 ≤ sent →
@@ -95,16 +99,16 @@ flag_last kind role sent until now e full text at before phase part events clock
     (in_active levels size below runs few) =
     is_over (Delimiter ActiveError role (dominant_end (levels ++ false ∷ [])))
     (rw (dominating_more, flag_bits_more role levels false)
-        (flagged role (levels ++ false ∷ []) (omega (arith, size, length-append levels (false ∷ [])))))
+    (flagged role (levels ++ false ∷ []) (omega (arith, size, length-append levels (false ∷ [])))))
     (λ later. wait_begins ActiveError role _ (until - 1) later refl (omega (arith, end_dominant levels, runs, few))
-        (omega (arith, runs, few)))
+    (omega (arith, runs, few)))
 flag_last kind role sent until now e full text at before phase part events clock err
     (in_overload levels size below runs few) =
     is_over (Delimiter Overload role (dominant_end (levels ++ false ∷ [])))
     (rw (dominating_more, flag_bits_more role levels false)
-        (overload_flagged role (levels ++ false ∷ []) (omega (arith, size, length-append levels (false ∷ [])))))
+    (overload_flagged role (levels ++ false ∷ []) (omega (arith, size, length-append levels (false ∷ [])))))
     (λ later. wait_begins Overload role _ (until - 1) later refl (omega (arith, end_dominant levels, runs, few))
-        (omega (arith, runs, few)))
+    (omega (arith, runs, few)))
 
 pos_not_zero : (n : ℕ) → 0 < n → (n == 0) ≡ false
 pos_not_zero zero some = absurd (omega (arith, some))
@@ -122,7 +126,7 @@ due_is_counted : (kind : FlagKind) (run n until : ℕ) → IsDue kind run n unti
 due_is_counted kind run n until due now =
     let over : (run + n + 1) - first_counted kind ≡ 8 * due.eighths = omega (arith, due.due, due.some) in
     rw (over, mul-mod_right 8 due.eighths, le-leb (first_counted kind) (run + n + 1) (omega (arith, due.due, due.some)))
-        refl
+    refl
 
 -- one that is not due is not
 early_is_not : (kind : FlagKind) (run n until : ℕ) → IsDue kind run n until → 1 < until →
@@ -132,11 +136,15 @@ early_is_not kind run n until due later = elim (eq-zero-or-pos due.eighths) [
       rw (lt-leb (first_counted kind) (run + n + 1) below) refl)
   | inr some ↦ (let close : until ≤ 8 = due.near (λ none. omega (arith, some, none)) in
       let over : (run + n + 1) - first_counted kind ≡ (due.eighths - 1) * 8 + (9 - until) =
-          omega (arith, due.due, later, some, close) in
+      omega (arith, due.due, later, some, close) in
       let rest : ((due.eighths - 1) * 8 + (9 - until)) % 8 ≡ 9 - until =
-          mod-mul-add (due.eighths - 1) 8 (9 - until) (omega (arith, later)) in
-      rw (over, rest, pos_not_zero (9 - until) (omega (arith, close)),
-          le-leb (first_counted kind) (run + n + 1) (omega (arith, due.due, close, some))) refl)
+      mod-mul-add (due.eighths - 1) 8 (9 - until) (omega (arith, later)) in
+      rw (
+        over,
+        rest,
+        pos_not_zero (9 - until) (omega (arith, close)),
+        le-leb (first_counted kind) (run + n + 1) (omega (arith, due.due, close, some)),
+      ) refl)
 ]
 
 pub wait_over : (kind : FlagKind) (role : Role) (until now : ℕ) (first : Bool) (e : ErrorState) →
@@ -148,29 +156,38 @@ wait_over kind role until now first e text at before phase part events clock err
 wait_longer : (kind : FlagKind) (role : Role) (until next now : ℕ) (first : Bool) (e : ErrorState)
     (event : Option ErrorEvent) →
     ((run n : ℕ) → first ≡ (n == 0) → (n ≡ 0 → 8 ≤ until) → IsDue kind run n until →
-        (listed event ≡ dominant_event kind role run n) × IsDue kind run (n + 1) next) →
+    (listed event ≡ dominant_event kind role run n) × IsDue kind run (n + 1) next) →
     Goes (Waiting kind role until first) now e false (turn (Waiting kind role next false) event)
 wait_longer kind role until next now first e event step text at before phase part events clock err
     (in_wait run n is far due) =
     let x : (listed event ≡ dominant_event kind role run n) × IsDue kind run (n + 1) next = step run n is far due in
     goes_on (rw (listening_more, replicate_more, x.0, one_more_dominant kind role run n)
     (in_wait {until = next} {first = false} run (n + 1) (sym (pos_not_zero (n + 1) (omega arith)))
-        (λ no. absurd (omega (arith, no))) x.1)) refl
+    (λ no. absurd (omega (arith, no))) x.1)) refl
 
 pub wait_run : (kind : FlagKind) (role : Role) (until now : ℕ) (first : Bool) (e : ErrorState) → until ≤ 1 →
     Goes (Waiting kind role until first) now e false (turn (Waiting kind role 8 false) (Some (DominantRun role)))
 wait_run kind role until now first e here =
     wait_longer kind role until 8 now first e (Some (DominantRun role)) (λ run n is far due.
     let later : 0 < n =
-        elim (eq-zero-or-pos n) [ inl none ↦ absurd (omega (arith, far none, here)) | inr some ↦ some ] in (
+    elim (eq-zero-or-pos n) [ inl none ↦ absurd (omega (arith, far none, here)) | inr some ↦ some ] in (
       rw (pos_not_zero n later, due_is_counted kind run n until due here) refl,
-      record { eighths = due.eighths + 1; due = omega (arith, due.due, due.some, here); some = omega arith; near =
-          λ no. omega arith },
+      record {
+        eighths = due.eighths + 1;
+        due = omega (arith, due.due, due.some, here);
+        some = omega arith;
+        near =
+            λ no. omega arith;
+      },
     ))
 
 next_due : (kind : FlagKind) (run n until : ℕ) → 1 < until → IsDue kind run n until → IsDue kind run (n + 1) (until - 1)
-next_due kind run n until later due = record { eighths = due.eighths; due = omega (arith, due.due, later);
-    some = omega (arith, later); near = λ no. omega (arith, due.near no) }
+next_due kind run n until later due = record {
+  eighths = due.eighths;
+  due = omega (arith, due.due, later);
+  some = omega (arith, later);
+  near = λ no. omega (arith, due.near no);
+}
 
 pub wait_first : (kind : FlagKind) (role : Role) (until now : ℕ) (e : ErrorState) (event : Option ErrorEvent) →
     1 < until → listed event ≡ behind_flag kind role →

@@ -41,7 +41,7 @@ listening state reader = record { state = state; reader = reader }
 
 follows_by : (known : KnownCounts) (old new : Listener) (bit : ℕ) (level : Bool) →
     ((node : Node) → Knows known node.counters →
-        Steps old.state node.counters old.reader node.spelling bit level Nothing new.state node.counters new.reader) →
+    Steps old.state node.counters old.reader node.spelling bit level Nothing new.state node.counters new.reader) →
     Follows known old bit level new
 follows_by known old new bit level steps node counts =
     samples (caught_up node old bit) (caught_up node new (bit + 1)) level Nothing (steps node counts) refl refl
@@ -52,9 +52,9 @@ steady_follows : (known : KnownCounts) (start : ℕ) (old new : Reader) (bit : �
 steady_follows known start old new bit level step push goes_on =
     let here = Taking start false Region in
     follows_by known (listening here old) (listening here new) bit level
-        (λ node counts. quiet_steps here here node.counters old new node.spelling bit level
+    (λ node counts. quiet_steps here here node.counters old new node.spelling bit level
     (λ errors. steady_advances start false Region old new node.spelling bit errors level step push
-        (record { reads = refl; inside = refl; goes_on = goes_on })))
+    (record { reads = refl; inside = refl; goes_on = goes_on })))
 
 -- within the stuffed region of a frame
 pub region_follows : (known : KnownCounts) (state : State) (old new : Reader) (bit : ℕ) (level : Bool) →
@@ -72,7 +72,7 @@ pub idle_follows : (known : KnownCounts) (state : State) (reader : Reader) (bit 
     Follows known (listening state reader) bit level (listening state reader)
 idle_follows known state reader bit level is recessive = rw (is, recessive)
     (follows_by known (listening Idling reader) (listening Idling reader) bit true
-        (λ node counts. quiet_steps Idling Idling node.counters reader reader node.spelling bit true
+    (λ node counts. quiet_steps Idling Idling node.counters reader reader node.spelling bit true
     (λ errors. idle_advances reader node.spelling bit errors)))
 
 -- a frame received changes no count that is 0
@@ -81,7 +81,7 @@ counts_received : (counters : Counters) → counts_of counters ≡ no_counts →
 counts_received counters none events =
     let after : CountersStandAfter counters events → counts_after (events ++ Received ∷ []) ≡ no_counts =
     λ h. fold-append after_event no_counts events (Received ∷ [])
-        ∙ ap (λ counts. after_event counts Received) (sym h ∙ none) in
+    ∙ ap (λ counts. after_event counts Received) (sym h ∙ none) in
     record { stands = λ h. none ∙ sym (after h); leads = λ h. stays_on Received (ap is_off (after h)) }
 
 counts_unseen : (known : KnownCounts) (counters : Counters) (event : Option ErrorEvent) → Knows known counters →
@@ -94,27 +94,30 @@ counts_unseen known counters event counts (inr is) events =
 unseen_follows : (known : KnownCounts) (old new : Listener) (bit : ℕ) (level : Bool) (turn : Turn) →
     IsUnseen known turn → new.state ≡ turn.state →
     ((spelling : Spelling) (errors : ErrorState) →
-        Advances old.state old.reader spelling bit errors level turn new.reader) → Follows known old bit level new
+    Advances old.state old.reader spelling bit errors level turn new.reader) → Follows known old bit level new
 unseen_follows known old new bit level turn unseen state_is advances =
     follows_by known old new bit level (λ node counts. record {
-  turn = turn;
-  errors = state_of (counts_of node.counters);
-  shows = λ events h. ap state_of h;
-  advances = advances node.spelling (state_of (counts_of node.counters));
-  is_made = record { off = false; counts = counts_unseen known node.counters turn.event counts unseen.counts_none;
-      ends_in = (state_is, sym unseen.tells_none) };
-})
+      turn = turn;
+      errors = state_of (counts_of node.counters);
+      shows = λ events h. ap state_of h;
+      advances = advances node.spelling (state_of (counts_of node.counters));
+      is_made = record {
+        off = false;
+        counts = counts_unseen known node.counters turn.event counts unseen.counts_none;
+        ends_in = (state_is, sym unseen.tells_none);
+      };
+    })
 
 -- a level of a frame with which all read on
 pub reading_follows : (known : KnownCounts) (old : Listener) (start : ℕ) (may : Bool) (stage : Stage) (new : Reader)
     (bit : ℕ) (level : Bool) (step : Step) (turn : Turn) → old.state ≡ Taking start may stage →
     IsPush old.reader level step new → ((errors : ErrorState) (may : Bool) →
-        GoesReading (Taking start may stage) errors step level turn) → IsUnseen known turn →
+    GoesReading (Taking start may stage) errors step level turn) → IsUnseen known turn →
     Follows known old bit level (listening turn.state new)
 reading_follows known old start may stage new bit level step turn is push goes unseen =
     unseen_follows known old (listening turn.state new) bit level turn unseen refl
     (λ spelling errors. rw is (reading_advances start may stage old.reader new spelling bit errors level step turn push
-          (goes errors)))
+    (goes errors)))
 
 -- a level outside of one
 pub other_follows : (known : KnownCounts) (old : Listener) (new : Reader) (bit : ℕ) (level : Bool) (turn : Turn) →
@@ -124,7 +127,7 @@ pub other_follows : (known : KnownCounts) (old : Listener) (new : Reader) (bit :
 other_follows known old new bit level turn sends_none goes unseen stands reading =
     unseen_follows known old (listening turn.state new) bit level turn unseen refl
     (λ spelling errors. other_advances old.state old.reader new spelling bit errors level turn sends_none
-        (goes errors) stands reading)
+    (goes errors) stands reading)
 
 -- a node that has come as far as a listener
 same_reads : (state : State) (one other : Reader) (text : List Bool) → (is_taking state ≡ true → StandsAs one other) →
@@ -179,7 +182,7 @@ end_follows : (known : KnownCounts) (start : ℕ) (stage : Stage) (behind : Stat
     Follows known (listening (Taking start false stage) old) bit level (listening behind new)
 end_follows known start stage behind old new bit level sends_none goes push =
     reading_follows known (listening (Taking start false stage) old) start false stage new bit level Tail
-        (quiet behind) refl push goes
+    (quiet behind) refl push goes
     (record { tells_none = refl; counts_none = inl refl; sends_none = sends_none })
 
 -- so is a bit behind it with which the frame goes on, but the ACK slot
@@ -188,7 +191,7 @@ pub along_end : (state behind : State) (old new : Reader) (level : Bool) → beh
 along_end (Taking start false (AfterRegion right)) behind old new level is push =
     let next : Taking start false (Slot right) ≡ behind = cc is in
     subst (λ s. ReadsAlong (listening (Taking start false (AfterRegion right)) old) level (listening s new)) next
-        (record {
+    (record {
       drives = λ other bit. refl;
       begins = λ other bit. refl;
       follows = λ known bit. end_follows known start (AfterRegion right)
@@ -212,20 +215,30 @@ pub sends_to : (node : Node) (start place next : ℕ) (before after : Listener) 
     node.state ≡ Sending start place → (place + 9 ≡ length node.spelling.levels.items → ⊥) →
     (place + 1 ≡ length node.spelling.levels.items → ⊥) → level ≡ level_at node.spelling place →
     next ≡ min (place + 1) 255 → ReadsAlong before level after →
-    SendsTo node before level (record { state = Sending start next; reader = node.reader; spelling = node.spelling;
-          counters = node.counters; clock = node.clock + 1 }) after
+    SendsTo node before level (record {
+      state = Sending start next;
+      reader = node.reader;
+      spelling = node.spelling;
+      counters = node.counters;
+      clock = node.clock + 1;
+    }) after
 sends_to node start place next before after level here slot last echo next_is along =
-    let behind : Node = record { state = Sending start next; reader = node.reader; spelling = node.spelling;
-        counters = node.counters; clock = node.clock + 1 } in
+    let behind : Node = record {
+      state = Sending start next;
+      reader = node.reader;
+      spelling = node.spelling;
+      counters = node.counters;
+      clock = node.clock + 1;
+    } in
     let steps : Steps node.state node.counters node.reader node.spelling node.clock level Nothing
-        (Sending start next) node.counters node.reader =
+    (Sending start next) node.counters node.reader =
     rw here
     (quiet_steps (Sending start place) (Sending start next) node.counters node.reader node.reader node.spelling
-        node.clock level
+    node.clock level
     (λ errors. sending_advances start place node.reader node.reader node.spelling node.clock errors level
-        (quiet (Sending start next))
+    (quiet (Sending start next))
     (send_echoed start place next node.spelling errors level slot echo last next_is) (λ is. absurd (cc is))
-        (λ is. absurd (cc is)))) in
+    (λ is. absurd (cc is)))) in
     record {
       drives = echo ∙ ap (λ state. level_in state node.spelling) (sym here);
       begins_none = ap may_start here;

@@ -46,9 +46,9 @@ length-listening w = length-map w _
 pub sync_broken : (n now : ℕ) (e : ErrorState) → Goes (Syncing n) now e false (turn (Syncing 0) None)
 sync_broken n now e text at before phase part events clock err (in_sync broken b below) =
     goes_on
-        (rw listening_more
-        (rw append-nil at (in_sync {text = false ∷ []} {at = at} {n = 0} ((broken ++ recessive n) ++ false ∷ [])
-            (again b n below) (omega arith)))) refl
+    (rw listening_more
+    (rw append-nil at (in_sync {text = false ∷ []} {at = at} {n = 0} ((broken ++ recessive n) ++ false ∷ [])
+    (again b n below) (omega arith)))) refl
 
 pub sync_longer : (n now : ℕ) (e : ErrorState) → n < 10 → Goes (Syncing n) now e true (turn (Syncing (n + 1)) None)
 sync_longer n now e room text at before phase part events clock err (in_sync broken b below) =
@@ -57,7 +57,7 @@ sync_longer n now e room text at before phase part events clock err (in_sync bro
 pub sync_ends : (n now : ℕ) (e : ErrorState) → 10 ≤ n → Goes (Syncing n) now e true (turn Idling None)
 sync_ends n now e full text at before phase part events clock err (in_sync broken b below) =
     is_over Idle (let ten : n ≡ 10 = omega arith in rw (ten, listening_more, append_assoc) (synced broken b))
-        (λ later. in_idle 0)
+    (λ later. in_idle 0)
 
 pub idle_on : (now : ℕ) (e : ErrorState) → Goes Idling now e true (turn Idling None)
 idle_on now e text at before phase part events clock err (in_idle n) =
@@ -66,7 +66,7 @@ idle_on now e text at before phase part events clock err (in_idle n) =
 pub idle_wakes : (now : ℕ) (e : ErrorState) → Goes Idling now e false (turn (Taking now false Region) None)
 idle_wakes now e text at before phase part events clock err (in_idle n) =
     let here : at + n ≡ now =
-        sym (clock ∙ ap (λ k. at + k) (length-listening (recessive n) ∙ length-replicate n true)) in
+    sym (clock ∙ ap (λ k. at + k) (length-listening (recessive n) ∙ length-replicate n true)) in
     is_over (Take (at + n) (false ∷ []) false) (rw listening_more (woken n)) (starts now (at + n) here false)
 
 pub closing_quiet : (now : ℕ) (e : ErrorState) → Goes Closing now e true (turn (Resting Receiver 0) None)
@@ -108,7 +108,7 @@ pub rest_waits : (role : Role) (k now : ℕ) (e : ErrorState) → 2 ≤ k → su
 rest_waits role k now e full waits text at before phase part events clock err (in_rest below) =
     let two : k ≡ 2 = omega arith in
     rw two (is_over Suspend (rested_sender role (state_before role e true state_after before err waits))
-        (λ later. in_suspend {k = 0} (omega arith)))
+    (λ later. in_suspend {k = 0} (omega arith)))
 
 pub rest_hurried : (role : Role) (k now : ℕ) (e : ErrorState) → 2 ≤ k → (b : Bool) → suspends role e ≡ b →
     Goes (Resting role k) now e false (turn (Taking now (not b) Region) None)
@@ -117,7 +117,7 @@ rest_hurried role k now e full b is text at before phase part events clock err (
     let here : at + 2 ≡ now = omega (arith, clock, length-listening (recessive k), length-replicate k true) in
     let said = state_before role e b state_after before err is in
     rw two (is_over (Take (at + 2) (false ∷ []) (not b)) (rw said at (hurried {at = at} {before = before} role))
-        (starts now (at + 2) here (not b)))
+    (starts now (at + 2) here (not b)))
 
 pub suspend_on : (k now : ℕ) (e : ErrorState) → k < 7 → Goes (Suspending k) now e true (turn (Suspending (k + 1)) None)
 suspend_on k now e room text at before phase part events clock err (in_suspend below) =
@@ -131,24 +131,24 @@ pub suspend_overtaken : (k now : ℕ) (e : ErrorState) →
     Goes (Suspending k) now e false (turn (Taking now false Region) None)
 suspend_overtaken k now e text at before phase part events clock err (in_suspend below) =
     let here : at + k ≡ now =
-        sym (clock ∙ ap (λ n. at + n) (length-listening (recessive k) ∙ length-replicate k true)) in
+    sym (clock ∙ ap (λ n. at + n) (length-listening (recessive k) ∙ length-replicate k true)) in
     is_over (Take (at + k) (false ∷ []) false) (rw listening_more (overtaken k below)) (starts now (at + k) here false)
 
 pub off_broken : (runs n now : ℕ) (e : ErrorState) →
     Goes (Recovering runs n) now e false (turn (Recovering runs 0) None)
 off_broken runs n now e text at before phase part events clock err (in_off rest broken below counted b short) =
     let is : ((rest ++ broken ++ recessive n) ++ false ∷ [])
-        ≡ (rest ++ (broken ++ recessive n ++ false ∷ []) ++ recessive 0) =
+    ≡ (rest ++ (broken ++ recessive n ++ false ∷ []) ++ recessive 0) =
     simp (append_assoc, append-nil) refl in
     goes_on
-        (rw (listening_more, is) (in_off {n = 0} rest (broken ++ recessive n ++ false ∷ []) below counted
-          (again b n short) (omega arith))) refl
+    (rw (listening_more, is) (in_off {n = 0} rest (broken ++ recessive n ++ false ∷ []) below counted
+    (again b n short) (omega arith))) refl
 
 pub off_longer : (runs n now : ℕ) (e : ErrorState) → n < 10 →
     Goes (Recovering runs n) now e true (turn (Recovering runs (n + 1)) None)
 off_longer runs n now e room text at before phase part events clock err (in_off rest broken below counted b short) =
     goes_on (rw (listening_more, append_assoc, replicate_more)
-        (in_off {n = n + 1} rest broken below counted b (omega arith))) refl
+    (in_off {n = n + 1} rest broken below counted b (omega arith))) refl
 
 -- one more whole run
 run_ends : (rest broken : List Bool) (n : ℕ) → 10 ≤ n → n < 11 → (rest ++ broken ++ recessive n) ++ true ∷ [] ≡ rest
@@ -163,8 +163,8 @@ off_counts runs n now e full room text at before phase part events clock err
     let is : ((rest ++ broken ++ recessive n) ++ true ∷ []) ≡ ((rest ++ broken ++ recessive 11) ++ [] ++ recessive 0) =
     run_ends rest broken n full short ∙ sym (append-nil _ ∙ append-nil _) in
     goes_on
-        (rw (listening_more, is) (in_off {runs = runs + 1} {n = 0} (rest ++ broken ++ recessive 11) [] (omega arith)
-          (rw (← add-one) at (one_more counted b)) none (omega arith))) refl
+    (rw (listening_more, is) (in_off {runs = runs + 1} {n = 0} (rest ++ broken ++ recessive 11) [] (omega arith)
+    (rw (← add-one) at (one_more counted b)) none (omega arith))) refl
 
 pub off_ends : (runs n now : ℕ) (e : ErrorState) → 10 ≤ n → 127 ≤ runs →
     Goes (Recovering runs n) now e true (record { state = Idling; event = Some Recovered; outcome = CameBack })

@@ -177,7 +177,7 @@ idle_same : {at : ℕ} {before : List ErrorEvent}
 idle_same {at = at} (woken n) (woken m) e =
     let same : m ≡ n =
     run_is true false m n [] [] (λ h. cc h)
-        (listening_same (recessive m ++ false ∷ []) (recessive n ++ false ∷ []) e) in
+    (listening_same (recessive m ++ false ∷ []) (recessive n ++ false ∷ []) e) in
     record { events_are = refl; outcome_is = refl; next_is = ap (λ k. Take (at + k) (false ∷ []) false) (sym same) }
 
 take_same : {at : ℕ} {before : List ErrorEvent} {start : ℕ} {given : List Bool} {may_begin : Bool}
@@ -273,7 +273,7 @@ suspend_same (overtaken k few) waited e =
 suspend_same {at = at} (overtaken n few) (overtaken m below) e =
     let same : m ≡ n =
     run_is true false m n [] [] (λ h. cc h)
-        (listening_same (recessive m ++ false ∷ []) (recessive n ++ false ∷ []) e) in
+    (listening_same (recessive m ++ false ∷ []) (recessive n ++ false ∷ []) e) in
     record { events_are = refl; outcome_is = refl; next_is = ap (λ k. Take (at + k) (false ∷ []) false) (sym same) }
 
 off_same : {at : ℕ} {before : List ErrorEvent}

@@ -145,7 +145,7 @@ read_before {given = given} levels level (no_slot whole none) e =
 read_before {given = given} levels level (with_slot before [] slot at) e =
     let same : before ≡ levels = (last_same before levels slot level e).0 in
     subst (λ t. ReadBefore given t (listening before ++ dominating (slot ∷ []) ++ listening []) (acknowledged slot))
-        same
+    same
     (read_to_slot given before slot at)
 read_before {given = given} levels level (with_slot before (m ∷ more) slot at) e =
     let h = has_last m more in

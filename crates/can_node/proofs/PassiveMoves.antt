@@ -39,7 +39,7 @@ prefix_run p b is zero r h = (r, refl)
 prefix_run p b is (suc n) [] h = absurd (omega (arith, h))
 prefix_run p b is (suc n) (x ∷ r) h =
     elim (p x) as (λ v. p x ≡ v → suc n ≤ cond v (1 + prefix_len p r) 0 → (rest : List Bool)
-        × (x ∷ r ≡ replicate (suc n) b ++ rest)) [
+    × (x ∷ r ≡ replicate (suc n) b ++ rest)) [
       | true ↦ λ e k. let t = prefix_run p b is n r (omega (arith, k)) in
           (t.0, ap (λ y. y ∷ r) (is x e) ∙ ap (λ q. b ∷ q) t.1)
       | false ↦ λ e k. absurd (omega (arith, k))
@@ -74,16 +74,18 @@ split_last [] (y ∷ beginning) more b e = inl (nothing_left beginning more (tai
     nothing_left (z ∷ p) q k = absurd (cc k)
 split_last (x ∷ xs) (y ∷ beginning) more b e =
     elim (split_last xs beginning more b (tail_same x y (xs ++ b ∷ []) (beginning ++ more) e)) [
-  | inl is ↦ (let same : x ≡ y = cc e in inl (ap (λ t. y ∷ t) is ∙ ap (λ z. z ∷ (xs ++ b ∷ [])) (sym same)))
-  | inr rest ↦ (let same : x ≡ y = cc e in inr (rest.0, ap (λ z. z ∷ xs) same ∙ ap (λ t. y ∷ t) rest.1))
-]
+      | inl is ↦ (let same : x ≡ y = cc e in inl (ap (λ t. y ∷ t) is ∙ ap (λ z. z ∷ (xs ++ b ∷ [])) (sym same)))
+      | inr rest ↦ (let same : x ≡ y = cc e in inr (rest.0, ap (λ z. z ∷ xs) same ∙ ap (λ t. y ∷ t) rest.1))
+    ]
 
 without_more : (levels : List Bool) (b : Bool) → IsWithoutSix levels →
     suffix_len (λ level. level) (levels ++ b ∷ []) < 6 → dominant_end (levels ++ b ∷ []) < 6 →
     IsWithoutSix (levels ++ b ∷ [])
 without_more levels b none ones lows beginning more e six = elim (split_last levels beginning more b e) [
-  | inl is ↦ elim (six_counted (levels ++ b ∷ []) (subst EndsInSix is six)) [ inl h ↦ omega (arith, h, ones)
-      | inr h ↦ omega (arith, h, lows) ]
+  | inl is ↦ elim (six_counted (levels ++ b ∷ []) (subst EndsInSix is six)) [
+    | inl h ↦ omega (arith, h, ones)
+    | inr h ↦ omega (arith, h, lows)
+  ]
   | inr rest ↦ none beginning rest.0 rest.1 six
 ]
 
@@ -117,13 +119,16 @@ pub passive_recessive : (role : Role) (owes : Bool) (ones lows now : ℕ) (e : E
     Goes (PassiveFlagging role owes ones lows) now e true (turn (PassiveFlagging role owes (ones + 1) 0) None)
 passive_recessive role owes ones lows now e room text at before phase part events clock err (in_passive owed levels h) =
     goes_on (rw (listening_more, append-nil, ← recessive_owes owed levels)
-        (in_passive owed (levels ++ true ∷ []) (record {
+    (in_passive owed (levels ++ true ∷ []) (record {
       without_six = without_more levels true h.without_six (omega (arith, ones_more levels, h.ones_is, room))
           (omega (arith, zeros_none levels));
       ones_is = ones_more levels ∙ ap (λ n. n + 1) h.ones_is;
       zeros_is = zeros_none levels;
-      owes_error = λ yes. ((h.owes_error yes).0, list_any-append not levels (true ∷ []) ∙ or_false (list_any not levels)
-          ∙ (h.owes_error yes).1);
+      owes_error = λ yes. (
+        (h.owes_error yes).0,
+        list_any-append not levels (true ∷ []) ∙ or_false (list_any not levels)
+            ∙ (h.owes_error yes).1,
+      );
       none_yet = λ yes. refl;
       owes_nothing = λ no. still_nothing owed levels true (h.owes_nothing no);
     }))) refl
@@ -135,7 +140,7 @@ passive_paid role ones lows now e room text at before phase part events clock er
     let owing : (owed ≡ SenderError ∷ []) × (list_any not levels ≡ false) = h.owes_error refl in
     let counts : owed_events owed levels ++ SenderError ∷ [] ≡ owed_events owed (levels ++ false ∷ []) =
     ap (λ b. cond b owed [] ++ SenderError ∷ []) owing.1 ∙ sym owing.0
-        ∙ sym (ap (λ b. cond b owed []) (any_dominant levels)) in
+    ∙ sym (ap (λ b. cond b owed []) (any_dominant levels)) in
     goes_on (rw (listening_more, counts) (in_passive {owes = false} owed (levels ++ false ∷ []) (record {
       without_six = without_more levels false h.without_six (omega (arith, ones_none levels))
           (omega (arith, zeros_more levels, h.zeros_is, room));
@@ -150,7 +155,7 @@ pub passive_dominant : (role : Role) (ones lows now : ℕ) (e : ErrorState) → 
     Goes (PassiveFlagging role false ones lows) now e false (turn (PassiveFlagging role false 0 (lows + 1)) None)
 passive_dominant role ones lows now e room text at before phase part events clock err (in_passive owed levels h) =
     goes_on (rw (listening_more, append-nil, ← h.owes_nothing refl (false ∷ []))
-        (in_passive {owes = false} owed (levels ++ false ∷ []) (record {
+    (in_passive {owes = false} owed (levels ++ false ∷ []) (record {
       without_six = without_more levels false h.without_six (omega (arith, ones_none levels))
           (omega (arith, zeros_more levels, h.zeros_is, room));
       ones_is = ones_none levels;
@@ -172,10 +177,10 @@ pub passive_ends_recessive : (role : Role) (owes : Bool) (ones lows now : ℕ) (
 passive_ends_recessive role owes ones lows now e full text at before phase part events clock err
     (in_passive owed levels h) =
     let six : EndsInSix (levels ++ true ∷ []) = suffix_run (λ level. level) true is_true (levels ++ true ∷ [])
-        (omega (arith, ones_more levels, h.ones_is, full)) in
+    (omega (arith, ones_more levels, h.ones_is, full)) in
     is_over (Delimiter PassiveError role 0)
-        (rw (listening_more, append-nil, ← recessive_owes owed levels)
-        (passive_flagged owed role levels true h.without_six six)) (passive_waits role)
+    (rw (listening_more, append-nil, ← recessive_owes owed levels)
+    (passive_flagged owed role levels true h.without_six six)) (passive_waits role)
 
 owes_no_more : (owes : Bool) (ones lows : ℕ) (owed : List ErrorEvent) (levels : List Bool) →
     IsPassive owes ones lows owed levels → 5 ≤ lows →
@@ -188,7 +193,7 @@ pub passive_ends_dominant : (role : Role) (owes : Bool) (ones lows now : ℕ) (e
 passive_ends_dominant role owes ones lows now e full text at before phase part events clock err
     (in_passive owed levels h) =
     let six : EndsInSix (levels ++ false ∷ []) =
-        suffix_run not false is_false (levels ++ false ∷ []) (omega (arith, zeros_more levels, h.zeros_is, full)) in
+    suffix_run not false is_false (levels ++ false ∷ []) (omega (arith, zeros_more levels, h.zeros_is, full)) in
     is_over (Delimiter PassiveError role 0)
-        (rw (listening_more, append-nil, ← owes_no_more owes ones lows owed levels h full)
-        (passive_flagged owed role levels false h.without_six six)) (passive_waits role)
+    (rw (listening_more, append-nil, ← owes_no_more owes ones lows owed levels h full)
+    (passive_flagged owed role levels false h.without_six six)) (passive_waits role)

@@ -30,10 +30,15 @@ same_place f g a b m n text more long is h k =
     let t = take m (front_tail h.ack) in
     let s = take n (front_tail k.ack) in
     let e : h.region ++ (t ++ more) ≡ k.region ++ s =
-        sym (append_assoc h.region t more) ∙ ap (λ w. w ++ more) (sym h.whole) ∙ sym is ∙ k.whole in
+    sym (append_assoc h.region t more) ∙ ap (λ w. w ++ more) (sym h.whole) ∙ sym is ∙ k.whole in
     let both = tails_same f g h.x k.x h.check k.check h.region k.region (t ++ more) s h.is_region k.is_region e in
-    omega (arith, ap length both.1, length-append t more, length-take-le m (front_tail h.ack) (omega (arith, h.few)),
-        length-take-le n (front_tail k.ack) (omega (arith, k.few)))
+    omega (
+      arith,
+      ap length both.1,
+      length-append t more,
+      length-take-le m (front_tail h.ack) (omega (arith, h.few)),
+      length-take-le n (front_tail k.ack) (omega (arith, k.few)),
+    )
 
 -- the CRC of a text is not both right and wrong
 pub one_right : (f g : FrameValue) (m n : ℕ) (text : List Bool) → InTail f true m text → InTail g false n text → ⊥
@@ -41,9 +46,9 @@ one_right f g m n text h k =
     let t = take m (front_tail h.ack) in
     let s = take n (front_tail k.ack) in
     let same =
-        same_region f g h.x k.x h.check k.check h.region k.region t s h.is_region k.is_region (sym h.whole ∙ k.whole) in
+    same_region f g h.x k.x h.check k.check h.region k.region t s h.is_region k.is_region (sym h.whole ∙ k.whole) in
     k.is_wrong refl (same_crc g f k.x h.x k.check h.check k.region h.region k.is_region h.is_region (sym same)
-        (h.is_right refl))
+    (h.is_right refl))
 
 pub slot_tail : (text : List Bool) (h : IsBeforeSlot text) → InTail h.frame true 1 text
 slot_tail text h = record {
@@ -123,8 +128,11 @@ part_no_slot text level h b = no_part b.frame true 1 text (slot_tail text b) (re
 pub body_no_slot : (f : FrameValue) (right : Bool) (text : List Bool) (level : Bool) →
     IsBody f right (text ++ level ∷ []) → IsBeforeSlot text → ⊥
 body_no_slot f right text level h b =
-    omega (arith, same_place b.frame f true right 1 0 text (level ∷ []) (text ++ level ∷ []) refl (slot_tail text b)
-        (body_tail f right (text ++ level ∷ []) h))
+    omega (
+      arith,
+      same_place b.frame f true right 1 0 text (level ∷ []) (text ++ level ∷ []) refl (slot_tail text b)
+          (body_tail f right (text ++ level ∷ []) h),
+    )
 
 -- nor a front
 pub front_no_slot : (f : FrameValue) (text : List Bool) (level : Bool) → IsFront f (text ++ level ∷ []) →
@@ -134,7 +142,7 @@ front_no_slot f text level h b =
     let e : p.region ++ front_tail false ≡ b.region ++ (true ∷ level ∷ []) =
     sym p.whole ∙ ap (λ w. w ++ level ∷ []) b.whole ∙ append_assoc b.region (true ∷ []) (level ∷ []) in
     let both = tails_same f b.frame p.x b.body.x p.check b.body.check p.region b.region (front_tail false)
-        (true ∷ level ∷ []) p.is_region b.body.is_region e in
+    (true ∷ level ∷ []) p.is_region b.body.is_region e in
     omega (arith, ap length both.1)
 
 -- in an ACK slot behind a right CRC only a recessive level is a fault
@@ -144,16 +152,16 @@ slot_fault kind text true fault b = refl
 slot_fault Stuff text false fault b = absurd (no_part b.frame true 1 text (slot_tail text b) fault.0)
 slot_fault Form text false fault b =
     absurd
-        (fault.0 (begins_rough b.frame true 2 (text ++ false ∷ [])
-          (next_slot b.frame true 1 text false (slot_tail text b) refl (λ r. refl))))
+    (fault.0 (begins_rough b.frame true 2 (text ++ false ∷ [])
+    (next_slot b.frame true 1 text false (slot_tail text b) refl (λ r. refl))))
 slot_fault Ack text false fault b =
     absurd (no_ack_before b.frame true 2 (text ++ false ∷ []) (text ++ false ∷ []) []
-        (next_slot b.frame true 1 text false (slot_tail text b) refl (λ r. refl))
-        (sym (append-nil (text ++ false ∷ []))) fault)
+    (next_slot b.frame true 1 text false (slot_tail text b) refl (λ r. refl))
+    (sym (append-nil (text ++ false ∷ []))) fault)
 slot_fault Crc text false fault b =
     absurd (no_crc_before b.frame true 2 (text ++ false ∷ []) (text ++ false ∷ []) []
-        (next_slot b.frame true 1 text false (slot_tail text b) refl (λ r. refl))
-        (sym (append-nil (text ++ false ∷ []))) fault)
+    (next_slot b.frame true 1 text false (slot_tail text b) refl (λ r. refl))
+    (sym (append-nil (text ++ false ∷ []))) fault)
 
 still_none : (given levels : List Bool) (b : Bool) →
     ((before more : List Bool) (slot : Bool) → levels ≡ before ++ slot ∷ more → IsBeforeSlot (given ++ before) → ⊥) →
@@ -161,12 +169,12 @@ still_none : (given levels : List Bool) (b : Bool) →
     ++ slot ∷ more → IsBeforeSlot (given ++ before) → ⊥
 still_none given levels b none never before more slot e at =
     elim (split_last levels (before ++ slot ∷ []) more b (e ∙ sym (append_assoc before (slot ∷ []) more))) [
-  | inl is ↦
-      let size : length before ≡ length levels =
+      | inl is ↦
+          let size : length before ≡ length levels =
           omega (arith, ap length is, length-append before (slot ∷ []), length-append levels (b ∷ [])) in
-      never (subst (λ t. IsBeforeSlot (given ++ t)) (append_same before (slot ∷ []) levels (b ∷ []) size is).0 at)
-  | inr rest ↦ none before rest.0 slot (rest.1 ∙ append_assoc before (slot ∷ []) rest.0) at
-]
+          never (subst (λ t. IsBeforeSlot (given ++ t)) (append_same before (slot ∷ []) levels (b ∷ []) size is).0 at)
+      | inr rest ↦ none before rest.0 slot (rest.1 ∙ append_assoc before (slot ∷ []) rest.0) at
+    ]
 
 -- a level elsewhere: the receiver drives recessive and counts nothing
 pub reads_more : {given levels : List Bool} {pairs : List Pair} {events : List ErrorEvent} (b : Bool) →
@@ -175,8 +183,12 @@ pub reads_more : {given levels : List Bool} {pairs : List Pair} {events : List E
 reads_more {given = given} b (no_slot levels none) never =
     rw listening_more (no_slot (levels ++ b ∷ []) (still_none given levels b none never))
 reads_more b (with_slot before more slot at) never =
-    rw (append_assoc before (slot ∷ more) (b ∷ []), append_assoc (listening before ++ dominating (slot ∷ []))
-        (listening more) (record { driven = true; sampled = b } ∷ []), listening_more)
+    rw (
+      append_assoc before (slot ∷ more) (b ∷ []),
+      append_assoc (listening before ++ dominating (slot ∷ []))
+          (listening more) (record { driven = true; sampled = b } ∷ []),
+      listening_more,
+    )
     (with_slot before (more ++ b ∷ []) slot at)
 
 -- the level of its ACK slot
@@ -185,12 +197,15 @@ pub reads_slot : {given levels : List Bool} {pairs : List Pair} {events : List E
     Reads given (levels ++ b ∷ []) (pairs ++ record { driven = false; sampled = b } ∷ []) (events ++ acknowledged b)
 reads_slot {given = given} b (no_slot levels none) at =
     subst (λ ps. Reads given (levels ++ b ∷ []) ps (acknowledged b))
-        (append-nil (listening levels ++ record { driven = false; sampled = b } ∷ [])) (with_slot levels [] b at)
+    (append-nil (listening levels ++ record { driven = false; sampled = b } ∷ [])) (with_slot levels [] b at)
 reads_slot {given = given} b (with_slot before more slot first) at =
     absurd
-        (omega (arith, same_place first.frame at.frame true true 1 1 (given ++ before) (slot ∷ more)
+    (omega (
+      arith,
+      same_place first.frame at.frame true true 1 1 (given ++ before) (slot ∷ more)
           (given ++ (before ++ slot ∷ more)) (sym (append_assoc given before (slot ∷ more))) (slot_tail _ first)
-          (slot_tail _ at)))
+          (slot_tail _ at),
+    ))
 
 -- a receiver that is in its ACK slot has counted nothing
 pub none_counted : {given levels : List Bool} {pairs : List Pair} {events : List ErrorEvent} →
@@ -198,20 +213,26 @@ pub none_counted : {given levels : List Bool} {pairs : List Pair} {events : List
 none_counted (no_slot levels none) at = refl
 none_counted {given = given} (with_slot before more slot first) at =
     absurd
-        (omega (arith, same_place first.frame at.frame true true 1 1 (given ++ before) (slot ∷ more)
+    (omega (
+      arith,
+      same_place first.frame at.frame true true 1 1 (given ++ before) (slot ∷ more)
           (given ++ (before ++ slot ∷ more)) (sym (append_assoc given before (slot ∷ more))) (slot_tail _ first)
-          (slot_tail _ at)))
+          (slot_tail _ at),
+    ))
 
 -- the level behind a region that is not over
 pub region_tail : (text : List Bool) (level : Bool) → BeginsRegion text → IsBehindBody (text ++ level ∷ []) → ⊥
 region_tail text level b h = elim (split_last text h.region (h.first ∷ h.others) level h.whole) [
-  | inl is ↦ omega (arith, ap length (h.whole ∙ ap (λ r. r ++ h.first ∷ h.others) is),
-      length-append (text ++ level ∷ []) (h.first ∷ h.others))
+  | inl is ↦ omega (
+    arith,
+    ap length (h.whole ∙ ap (λ r. r ++ h.first ∷ h.others) is),
+    length-append (text ++ level ∷ []) (h.first ∷ h.others),
+  )
   | inr rest ↦
       let long : text ++ b.more ≡ h.region ++ (rest.0 ++ b.more) =
-          ap (λ w. w ++ b.more) rest.1 ∙ append_assoc h.region rest.0 b.more in
+      ap (λ w. w ++ b.more) rest.1 ∙ append_assoc h.region rest.0 b.more in
       let none = one_region h.frame b.frame h.x b.x h.check b.check h.region (rest.0 ++ b.more) h.is_region
-          (subst (IsRegion b.frame b.x b.check) long b.is_region) in
+      (subst (IsRegion b.frame b.x b.check) long b.is_region) in
       b.not_whole (no_length b.more (omega (arith, ap length none, length-append rest.0 b.more)))
 ]
 
@@ -224,8 +245,8 @@ pub delimiter_tail : (f : FrameValue) (right : Bool) (text : List Bool) (level :
     IsBehindBody (text ++ level ∷ []) → InTail f right 1 (text ++ level ∷ [])
 delimiter_tail f right text level h k =
     next_tail f right 0 text level h (omega arith) (λ one. omega (arith, one))
-        (is_recessive level (λ low. no_form f right 0 text level h (λ one. omega (arith, one)) low k.begins))
-        (λ wrong. omega arith)
+    (is_recessive level (λ low. no_form f right 0 text level h (λ one. omega (arith, one)) low k.begins))
+    (λ wrong. omega arith)
 
 -- the ACK slot: behind a right CRC it is dominant
 pub slot_dominant : (f : FrameValue) (text : List Bool) (level : Bool) → InTail f true 1 text →
@@ -242,8 +263,8 @@ later_tail f right seen text level two h k =
     let high : level ≡ true = is_recessive level (λ low. no_form f right seen text level h other low k.begins) in
     let early : seen ≡ 8 → ⊥ = λ last. k.no_front f (taken f right seen text level h last high) in
     next_tail f right seen text level h (below 7 seen h.few early) other high
-        (λ wrong. absurd
-        (k.no_crc_fault (crc_fault f right seen text level h (omega (arith, two, h.bad wrong)) wrong high)))
+    (λ wrong. absurd
+    (k.no_crc_fault (crc_fault f right seen text level h (omega (arith, two, h.bad wrong)) wrong high)))
   where
     below : (m n : ℕ) → n ≤ suc m → (n ≡ suc m → ⊥) → n ≤ m
     below m zero few other = omega arith

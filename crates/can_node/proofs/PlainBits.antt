@@ -41,8 +41,10 @@ off_longer_plain runs ones counters now few =
     record { goes = off_longer runs ones now (state_of (counts_of counters)) few; reads_none = refl }
 
 pub below_ten : (level : Bool) (runs ones : ℕ) → is_plain level (Recovering runs ones) ≡ true → ones < 10
-below_ten level runs ones aside = elim (leb_tells ones 9) [ inl is ↦ (let few = is.1 in omega (arith, few))
-    | inr not ↦ absurd (let no = not.0 in cc (no, aside)) ]
+below_ten level runs ones aside = elim (leb_tells ones 9) [
+  | inl is ↦ (let few = is.1 in omega (arith, few))
+  | inr not ↦ absurd (let no = not.0 in cc (no, aside))
+]
 
 -- in a passive error flag nothing is owed for this level
 pub owes_none : (level : Bool) (role : Role) (owes : Bool) (ones zeros : ℕ) →
@@ -107,8 +109,13 @@ is_out level state is = absurd (cc is)
 
 -- the node behind a bit at which nothing but its state changes
 abbrev pub behind : Node → State → Node
-behind node state = record { state = state; reader = node.reader; spelling = node.spelling; counters = node.counters;
-    clock = node.clock + 1 }
+behind node state = record {
+  state = state;
+  reader = node.reader;
+  spelling = node.spelling;
+  counters = node.counters;
+  clock = node.clock + 1;
+}
 
 pub goes_plainly : (node : Node) (level : Bool) (next : State) → is_plain level node.state ≡ true →
     LeavesPlainly node.state node.counters node.clock level next → GoesOn node level (behind node next)
@@ -120,7 +127,7 @@ goes_plainly node level next plain leaves =
       samples = samples node (behind node next) level Nothing
           (quiet_steps_now node.state next node.counters node.reader node.reader node.spelling node.clock level
           (other_advances node.state node.reader node.reader node.spelling node.clock
-              (state_of (counts_of node.counters)) level (quiet next) out.sends_none leaves.goes
+          (state_of (counts_of node.counters)) level (quiet next) out.sends_none leaves.goes
           (λ is. absurd (cc (is, not))) (λ is. absurd (cc (is, not))))) refl refl;
       history = stands_history (behind node next);
       bit_is = refl;
@@ -130,11 +137,21 @@ goes_plainly node level next plain leaves =
 -- or it reads on
 pub goes_reading : (node : Node) (level : Bool) (reader : Reader) → is_in_region node.state ≡ true →
     ReadsOn node.reader level reader →
-    GoesOn node level (record { state = node.state; reader = reader; spelling = node.spelling; counters = node.counters;
-          clock = node.clock + 1 })
+    GoesOn node level (record {
+      state = node.state;
+      reader = reader;
+      spelling = node.spelling;
+      counters = node.counters;
+      clock = node.clock + 1;
+    })
 goes_reading node level reader inside on =
-    let behind : Node = record { state = node.state; reader = reader; spelling = node.spelling;
-        counters = node.counters; clock = node.clock + 1 } in
+    let behind : Node = record {
+      state = node.state;
+      reader = reader;
+      spelling = node.spelling;
+      counters = node.counters;
+      clock = node.clock + 1;
+    } in
     record {
       begins_none = region_begins node.state inside;
       samples = region_follows Any node.state node.reader reader node.clock level inside on node tt;
@@ -160,11 +177,11 @@ goes_sending node start place next level here on next_is = record {
   samples = samples node (behind node (Sending start next)) level Nothing
       (rw here
       (quiet_steps (Sending start place) (Sending start next) node.counters node.reader node.reader node.spelling
-          node.clock level
+      node.clock level
       (λ errors. sending_advances start place node.reader node.reader node.spelling node.clock errors level
-          (quiet (Sending start next))
+      (quiet (Sending start next))
       (sends_next start place next node.spelling errors level on next_is) (λ is. absurd (cc is))
-          (λ is. absurd (cc is))))) refl refl;
+      (λ is. absurd (cc is))))) refl refl;
   history = stands_history (behind node (Sending start next));
   bit_is = refl;
   counts_none = refl;

@@ -77,27 +77,27 @@ quiet_bit : (old new : State) (spelling : Spelling) (text after : List Bool) (pa
     InState new spelling after (with_bit past pair None outcome)
 quiet_bit old new spelling text after past pair outcome st (goes_on agrees nothing) =
     let same : st.done.events ++ st.counting ≡ st.done.events ++ (st.counting ++ []) =
-        ap (λ es. st.done.events ++ es) (sym (append-nil st.counting)) in
+    ap (λ es. st.done.events ++ es) (sym (append-nil st.counting)) in
     subst (λ o. InState new spelling after (with_bit past pair None o)) (sym nothing)
     (stands_on old new spelling text after past pair None st agrees (subst (IsOnOutside st.phase) same st.on))
 quiet_bit old new spelling text after past pair outcome st (is_over next course agrees) =
     elim (on_or_off st.phase (st.done.events ++ st.counting) st.on) [
-  | inl on ↦
-      let same : st.done.events ++ st.counting ≡ st.done.events ++ (st.counting ++ []) =
+      | inl on ↦
+          let same : st.done.events ++ st.counting ≡ st.done.events ++ (st.counting ++ []) =
           ap (λ es. st.done.events ++ es) (sym (append-nil st.counting)) in
-      let still : AreOn (st.done.events ++ (st.counting ++ [])) = subst AreOn same on in
-      stands_over old new spelling text after past pair None outcome next st (course_quiet course)
+          let still : AreOn (st.done.events ++ (st.counting ++ [])) = subst AreOn same on in
+          stands_over old new spelling text after past pair None outcome next st (course_quiet course)
           (ends course still) agrees (outside next _ still)
-  | inr off ↦
-      let at = st.done.first + length st.done.pairs in
-      let nothing : st.counting ≡ [] =
+      | inr off ↦
+          let at = st.done.first + length st.done.pairs in
+          let nothing : st.counting ≡ [] =
           agrees_off (subst (λ p. Agrees old text at p st.part st.counting) off st.agrees) in
-      let one : st.counting ++ [] ≡ Recovered ∷ [] = course_off
+          let one : st.counting ++ [] ≡ Recovered ∷ [] = course_off
           (subst (λ p. Course at st.done.events p (st.part ++ pair ∷ []) (st.counting ++ []) outcome next) off
           course) in
-      let no_length : length (st.counting ++ []) ≡ 0 = ap (λ es. length (es ++ [])) nothing in
-      absurd (omega (arith, no_length, ap length one))
-]
+          let no_length : length (st.counting ++ []) ≡ 0 = ap (λ es. length (es ++ [])) nothing in
+          absurd (omega (arith, no_length, ap length one))
+    ]
 
 so_far : (old : State) (spelling : Spelling) (text : List Bool) (past : Past) (st : InState old spelling text past)
     (event : ErrorEvent) →
@@ -120,7 +120,7 @@ bit_on old new spelling text after past pair event outcome st lands (stays_on co
 recovered_on : (events : List ErrorEvent) → AreOff (events ++ Recovered ∷ []) → ⊥
 recovered_on events off =
     let counts : counts_after (events ++ Recovered ∷ []) ≡ no_counts =
-        fold-append after_event no_counts events (Recovered ∷ []) in
+    fold-append after_event no_counts events (Recovered ∷ []) in
     let is : true ≡ false = sym off ∙ ap is_off counts in
     cc
 
@@ -132,16 +132,16 @@ not_again : (old new : State) (spelling : Spelling) (text after : List Bool) (pa
     AreOff ((st.done.events ++ st.counting) ++ event ∷ []) → st.phase ≡ BusOff → ⊥
 not_again old new spelling text after past pair event outcome st (goes_on agrees nothing) counts off =
     let nothing = agrees_off
-        (subst (λ p. Agrees new after (st.done.first + length st.done.pairs) p (st.part ++ pair ∷ [])
-          (st.counting ++ event ∷ [])) off agrees) in
+    (subst (λ p. Agrees new after (st.done.first + length st.done.pairs) p (st.part ++ pair ∷ [])
+    (st.counting ++ event ∷ [])) off agrees) in
     omega (arith, ap length nothing, length-append st.counting (event ∷ []))
 not_again old new spelling text after past pair event outcome st (is_over next course agrees) counts off =
     let one = course_off
-        (subst (λ p. Course (st.done.first + length st.done.pairs) st.done.events p (st.part ++ pair ∷ [])
-          (st.counting ++ event ∷ []) outcome next) off course) in
+    (subst (λ p. Course (st.done.first + length st.done.pairs) st.done.events p (st.part ++ pair ∷ [])
+    (st.counting ++ event ∷ []) outcome next) off course) in
     recovered_on st.done.events
-        (subst AreOff (append_assoc st.done.events st.counting (event ∷ []) ∙ ap (λ es. st.done.events ++ es) one)
-        counts)
+    (subst AreOff (append_assoc st.done.events st.counting (event ∷ []) ∙ ap (λ es. st.done.events ++ es) one)
+    counts)
 
 -- a bit that leads to bus off
 bit_off : (old new : State) (spelling : Spelling) (text after : List Bool) (past : Past) (pair : Pair)
@@ -151,7 +151,7 @@ bit_off : (old new : State) (spelling : Spelling) (text after : List Bool) (past
     LeadsTo past.events event true → InState (Recovering 0 0) spelling after (with_bit past pair event WentOff)
 bit_off old new spelling text after past pair event outcome st lands (goes_off counted off) =
     let counts : AreOff ((st.done.events ++ st.counting) ++ counted ∷ []) =
-        subst AreOff (so_far old spelling text past st counted) off in
+    subst AreOff (so_far old spelling text past st counted) off in
     elim (on_or_off st.phase (st.done.events ++ st.counting) st.on) [
       | inl on ↦ lands_off old new spelling text after past pair counted outcome st lands on counts
       | inr is ↦ absurd (not_again old new spelling text after past pair counted outcome st lands counts is)
@@ -187,14 +187,14 @@ samples_on old new level turn errors shows advances counts state_is same clock_i
       let st = h.in_state in
       let pair : Pair = record { driven = level_in old.state old.spelling; sampled = level } in
       let left = advances h.text (st.done.first + length st.done.pairs) st.done.events st.phase st.part st.counting
-          (clock_here old past h) (errors_here old past errors h shows) st.agrees st.holds h.reads in
+      (clock_here old past h) (errors_here old past errors h shows) st.agrees st.holds h.reads in
       record {
         text = left.after;
         in_state =
             subst (λ s. InState s new.spelling left.after (with_bit past pair turn.event turn.outcome)) (sym state_is)
             (subst (λ s. InState turn.state s left.after (with_bit past pair turn.event turn.outcome)) (sym same)
             (bit_on old.state turn.state old.spelling h.text left.after past pair turn.event turn.outcome st left.lands
-                ((counts past.events).leads h.counted)));
+            ((counts past.events).leads h.counted)));
         reads = subst (λ s. ReaderStands s new.reader left.after) (sym state_is) left.reads;
         clock_is = clock_is ∙ clock_next old past pair h;
         counted = (counts past.events).stands h.counted;
@@ -213,13 +213,13 @@ samples_off old new level turn errors shows advances counts state_is same clock_
       let st = h.in_state in
       let pair : Pair = record { driven = level_in old.state old.spelling; sampled = level } in
       let left = advances h.text (st.done.first + length st.done.pairs) st.done.events st.phase st.part st.counting
-          (clock_here old past h) (errors_here old past errors h shows) st.agrees st.holds h.reads in
+      (clock_here old past h) (errors_here old past errors h shows) st.agrees st.holds h.reads in
       record {
         text = left.after;
         in_state = subst (λ s. InState s new.spelling left.after (with_bit past pair turn.event WentOff)) (sym state_is)
             (subst (λ s. InState (Recovering 0 0) s left.after (with_bit past pair turn.event WentOff)) (sym same)
             (bit_off old.state turn.state old.spelling h.text left.after past pair turn.event turn.outcome st left.lands
-                ((counts past.events).leads h.counted)));
+            ((counts past.events).leads h.counted)));
         reads = subst (λ s. ReaderStands s new.reader left.after) (sym state_is)
             (record { stands = λ is. absurd (cc is); reading = λ is. absurd (cc is) });
         clock_is = clock_is ∙ clock_next old past pair h;
@@ -235,10 +235,10 @@ samples_by : (off : Bool) (old new : Node) (level : Bool) (outcome : Outcome) (t
     IsSample old level outcome new
 samples_by true old new level outcome turn errors shows advances counts leaves same clock_is =
     subst (λ o. IsSample old level o new) (sym leaves.1)
-        (samples_off old new level turn errors shows advances counts leaves.0 same clock_is)
+    (samples_off old new level turn errors shows advances counts leaves.0 same clock_is)
 samples_by false old new level outcome turn errors shows advances counts leaves same clock_is =
     subst (λ o. IsSample old level o new) (sym leaves.1)
-        (samples_on old new level turn errors shows advances counts leaves.0 same clock_is)
+    (samples_on old new level turn errors shows advances counts leaves.0 same clock_is)
 
 pub samples : (old new : Node) (level : Bool) (outcome : Outcome) →
     Steps old.state old.counters old.reader old.spelling old.clock level outcome new.state new.counters new.reader →
@@ -298,8 +298,16 @@ pub wanting : (node : Node) (wants : Bool) → wants ≡ may_start node.state �
 wanting node wants e past h =
     let st = h.in_state in
     record {
-      history = record { done = st.done; phase = st.phase; part = st.part; counting = st.counting; whole = st.whole;
-          goes_on = agrees_begun st.agrees; on = st.on; past_is = st.past_is };
+      history = record {
+        done = st.done;
+        phase = st.phase;
+        part = st.part;
+        counting = st.counting;
+        whole = st.whole;
+        goes_on = agrees_begun st.agrees;
+        on = st.on;
+        past_is = st.past_is;
+      };
       wants_is = e ∙ wants_by st.agrees;
     }
 
@@ -369,7 +377,15 @@ pub sending : (node : Node) (start : Option ℕ) → start ≡ sof_of node.state
 sending node start e past h =
     let st = h.in_state in
     record {
-      history = record { done = st.done; phase = st.phase; part = st.part; counting = st.counting; whole = st.whole;
-          goes_on = agrees_begun st.agrees; on = st.on; past_is = st.past_is };
+      history = record {
+        done = st.done;
+        phase = st.phase;
+        part = st.part;
+        counting = st.counting;
+        whole = st.whole;
+        goes_on = agrees_begun st.agrees;
+        on = st.on;
+        past_is = st.past_is;
+      };
       start_is = e ∙ sof_by st.agrees;
     }

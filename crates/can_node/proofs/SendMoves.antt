@@ -58,13 +58,13 @@ sends_on start place next spelling level text at given frame bef seen driven exp
     let some : 0 < length bit.later = omega (arith, h.rest_is, more) in
     let n = next_bit frame given bef seen driven expected bit h.as_long some in
     let read : text ++ level ∷ [] ≡ given ++ (seen ++ expected ∷ []) = ap (λ t. t ++ level ∷ []) is
-        ∙ append_assoc given seen (level ∷ []) ∙ ap (λ b. given ++ (seen ++ b ∷ [])) (sym level_is) in
+    ∙ append_assoc given seen (level ∷ []) ∙ ap (λ b. given ++ (seen ++ b ∷ [])) (sym level_is) in
     let here_next : next ≡ length given + length (bef ++ driven ∷ []) =
-        omega (arith, next_is, place_is, length-append bef (driven ∷ []), h.rest_is, holds.few) in
+    omega (arith, next_is, place_is, length-append bef (driven ∷ []), h.rest_is, holds.few) in
     let pairs : driving (bef ++ driven ∷ []) (seen ++ expected ∷ []) ≡ driving bef seen
-        ++ record { driven = level_at spelling place; sampled = level } ∷ [] =
+    ++ record { driven = level_at spelling place; sampled = level } ∷ [] =
     sym (driving_more bef seen driven expected bit.same_place)
-        ∙ ap (λ d. driving bef seen ++ record { driven = d; sampled = expected } ∷ []) (sym h.level_is)
+    ∙ ap (λ d. driving bef seen ++ record { driven = d; sampled = expected } ∷ []) (sym h.level_is)
     ∙ ap (λ s. driving bef seen ++ record { driven = level_at spelling place; sampled = s } ∷ []) level_is in
     subst (λ p. Agrees (Sending start next) (text ++ level ∷ []) at (Send start given frame) p []) pairs
     (in_send given frame (bef ++ driven ∷ []) (seen ++ expected ∷ []) n.driven n.expected read n.bit here_next)
@@ -77,7 +77,7 @@ send_acknowledged start place next spelling e slot next_is text at before phase 
     let h = here spelling frame given bef seen driven expected place holds bit place_is in
     let levels = slot_levels h.stands_at (omega (arith, slot, h.length_is, h.place_is)) in
     goes_on (sends_on start place next spelling false text at given frame bef seen driven expected is bit place_is holds
-        levels.1 (λ last. omega (arith, slot, last)) next_is) refl
+    levels.1 (λ last. omega (arith, slot, last)) next_is) refl
 
 pub send_unacknowledged : (start place : ℕ) (spelling : Spelling) (e : ErrorState) (t : Turn) →
     place + 9 ≡ length spelling.levels.items →
@@ -89,21 +89,21 @@ send_unacknowledged start place spelling e t slot flags event_is outcome_is text
     let levels = slot_levels h.stands_at (omega (arith, slot, h.length_is, h.place_is)) in
     let state_is : e ≡ state_after before = err ∙ ap state_after (append-nil before) in
     let one : IsSendBit frame given bef seen true false = subst (λ d. IsSendBit frame given bef seen d false) levels.0
-        (subst (IsSendBit frame given bef seen driven) levels.1 bit) in
+    (subst (IsSendBit frame given bef seen driven) levels.1 bit) in
     let course = unacknowledged {at = at} {before = before} start given frame bef seen one in
     is_over (flag_of e (SenderError ∷ []) Sender)
     (subst (λ d. Course at before (Send start given frame) (driving bef seen
-            ++ record { driven = d; sampled = true } ∷ []) (listed t.event) t.outcome
-          (flag_of e (SenderError ∷ []) Sender)) (sym (h.level_is ∙ levels.0))
+    ++ record { driven = d; sampled = true } ∷ []) (listed t.event) t.outcome
+    (flag_of e (SenderError ∷ []) Sender)) (sym (h.level_is ∙ levels.0))
     (subst (λ o. Course at before (Send start given frame) (driving bef seen
-            ++ record { driven = true; sampled = true } ∷ []) (listed t.event) o (flag_of e (SenderError ∷ []) Sender))
-        (sym outcome_is)
+    ++ record { driven = true; sampled = true } ∷ []) (listed t.event) o (flag_of e (SenderError ∷ []) Sender))
+    (sym outcome_is)
     (subst (λ es. Course at before (Send start given frame) (driving bef seen
-            ++ record { driven = true; sampled = true } ∷ []) es (Errored Ack) (flag_of e (SenderError ∷ []) Sender))
-        (sym event_is)
+    ++ record { driven = true; sampled = true } ∷ []) es (Errored Ack) (flag_of e (SenderError ∷ []) Sender))
+    (sym event_is)
     (subst (λ s. Course at before (Send start given frame) (driving bef seen
-            ++ record { driven = true; sampled = true } ∷ []) (ack_events s) (Errored Ack)
-          (flag_of s (SenderError ∷ []) Sender)) (sym state_is) course))))
+    ++ record { driven = true; sampled = true } ∷ []) (ack_events s) (Errored Ack)
+    (flag_of s (SenderError ∷ []) Sender)) (sym state_is) course))))
     (flags (text ++ true ∷ []))
 
 pub send_echoed : (start place next : ℕ) (spelling : Spelling) (e : ErrorState) (level : Bool) →
@@ -115,7 +115,7 @@ send_echoed start place next spelling e level elsewhere echo more next_is text a
     let h = here spelling frame given bef seen driven expected place holds bit place_is in
     let same = same_levels h.stands_at (λ slot. elsewhere (omega (arith, slot, h.length_is, h.place_is))) in
     goes_on (sends_on start place next spelling level text at given frame bef seen driven expected is bit place_is holds
-        (sym same ∙ sym h.level_is ∙ sym echo) more next_is) refl
+    (sym same ∙ sym h.level_is ∙ sym echo) more next_is) refl
 
 pub send_completed : (start place : ℕ) (spelling : Spelling) (e : ErrorState) (level : Bool) →
     (place + 9 ≡ length spelling.levels.items → ⊥) → level ≡ level_at spelling place →
@@ -129,13 +129,13 @@ send_completed start place spelling e level elsewhere echo last text at before p
     let level_is : expected ≡ level = sym same ∙ sym h.level_is ∙ sym echo in
     let send = last_bit frame given bef seen driven expected bit h.as_long (omega (arith, h.rest_is, last)) in
     let pairs : driving (bef ++ driven ∷ []) (seen ++ expected ∷ []) ≡ driving bef seen
-        ++ record { driven = level_at spelling place; sampled = level } ∷ [] =
+    ++ record { driven = level_at spelling place; sampled = level } ∷ [] =
     sym (driving_more bef seen driven expected bit.same_place)
-        ∙ ap (λ d. driving bef seen ++ record { driven = d; sampled = expected } ∷ []) (sym h.level_is)
+    ∙ ap (λ d. driving bef seen ++ record { driven = d; sampled = expected } ∷ []) (sym h.level_is)
     ∙ ap (λ s. driving bef seen ++ record { driven = level_at spelling place; sampled = s } ∷ []) level_is in
     is_over (Intermission Sender)
     (subst (λ p. Course at before (Send start given frame) p (Sent ∷ []) Completed (Intermission Sender)) pairs
-        (completed start given frame (bef ++ driven ∷ []) (seen ++ expected ∷ []) send))
+    (completed start given frame (bef ++ driven ∷ []) (seen ++ expected ∷ []) send))
     (λ later. in_rest {k = 0} (omega arith))
 
 -- what the code's `==` of two levels computes
@@ -172,7 +172,7 @@ differs spelling frame given bef seen driven expected place level bit place_is h
     let same = same_levels h.stands_at (λ slot. elsewhere (omega (arith, slot, h.length_is, h.place_is))) in
     let is_level : driven ≡ level = sym h.level_is ∙ drives in
     let text : spelling.levels.items ≡ (given ++ bef) ++ level ∷ bit.later =
-        h.text_is ∙ ap (λ b. (given ++ bef) ++ b ∷ bit.later) is_level in
+    h.text_is ∙ ap (λ b. (given ++ bef) ++ b ∷ bit.later) is_level in
     record {
       bit = subst (λ d. IsSendBit frame given bef seen d level) is_level
           (subst (IsSendBit frame given bef seen driven) (sym same ∙ is_level) bit);
@@ -206,7 +206,7 @@ arbitrates : (spelling : Spelling) (frame : FrameValue) (given bef seen : List B
     LosesAt place spelling → Arbitrates spelling frame given bef seen place
 arbitrates spelling frame given bef seen driven expected place bit place_is holds loses =
     let d = differs spelling frame given bef seen driven expected place true bit place_is holds loses.elsewhere
-        loses.drives in
+    loses.drives in
     let a = given ++ bef in
     let say = says Arbitration spelling frame place a holds loses.bit_is d.few d.text_is in
     let arbitration : IsArbitration frame a = record { no_stuff_bit = say.0; after_sof = say.1; up_to_rtr = say.2 } in
@@ -233,24 +233,24 @@ pub send_lost : (start place : ℕ) (spelling : Spelling) (e : ErrorState) → I
 send_lost start place spelling e bit_is drives elsewhere text at before phase part events err
     (in_send given frame bef seen driven expected is bit place_is) holds =
     let h = arbitrates spelling frame given bef seen driven expected place bit place_is holds
-        (record { bit_is = bit_is; drives = drives; elsewhere = elsewhere }) in
+    (record { bit_is = bit_is; drives = drives; elsewhere = elsewhere }) in
     let d = h.differs in
     let a = given ++ bef in
     let inside = lost_inside frame a d.later true holds.is_frame d.spells h.arbitration in
     let read : a ++ false ∷ [] ≡ text ++ false ∷ [] = ap (λ t. t ++ false ∷ []) (h.same ∙ sym is) in
     let begins : (later : ℕ) → Agrees (Taking start false Region) (text ++ false ∷ []) later
-        (Take start (text ++ false ∷ []) false) [] [] =
+    (Take start (text ++ false ∷ []) false) [] [] =
     λ later. reads_from (text ++ false ∷ []) _
-        (subst (λ t. Inside t (reverse (false ∷ unstuffed (reverse a)))) read inside) start false
-        (λ no_start. absurd (cc no_start)) later in
+    (subst (λ t. Inside t (reverse (false ∷ unstuffed (reverse a)))) read inside) start false
+    (λ no_start. absurd (cc no_start)) later in
     let given_is : text ++ false ∷ [] ≡ given ++ seen ++ false ∷ [] = ap (λ t. t ++ false ∷ []) is in
     is_over (Take start (given ++ seen ++ false ∷ []) false)
     (subst (λ b. Course at before (Send start given frame) (driving bef seen
-            ++ record { driven = b; sampled = false } ∷ []) [] Lost (Take start (given ++ seen ++ false ∷ []) false))
-        (sym drives)
+    ++ record { driven = b; sampled = false } ∷ []) [] Lost (Take start (given ++ seen ++ false ∷ []) false))
+    (sym drives)
     (lost start given frame bef seen d.bit h.arbitration))
     (subst (λ g. (later : ℕ) → Agrees (Taking start false Region) (text ++ false ∷ []) later (Take start g false) [] [])
-        given_is begins)
+    given_is begins)
 
 pub send_stuff_lost : (start place : ℕ) (spelling : Spelling) (e : ErrorState) (flag : State) →
     ((text : List Bool) (later : ℕ) → Agrees flag text later (flag_of e [] Sender) [] []) →
@@ -264,11 +264,11 @@ send_stuff_lost start place spelling e flag flags bit_is drives elsewhere text a
     let state_is : e ≡ state_after before = err ∙ ap state_after (append-nil before) in
     is_over (flag_of (state_after before) [] Sender)
     (subst (λ b. Course at before (Send start given frame) (driving bef seen
-            ++ record { driven = b; sampled = false } ∷ []) [] (Errored Stuff) (flag_of (state_after before) [] Sender))
-        (sym drives)
+    ++ record { driven = b; sampled = false } ∷ []) [] (Errored Stuff) (flag_of (state_after before) [] Sender))
+    (sym drives)
     (stuff_lost start given frame bef seen d.bit (record { stuff_bit = say.0; before_rtr = say.1 })))
     (subst (λ s. (later : ℕ) → Agrees flag (text ++ false ∷ []) later (flag_of s [] Sender) [] []) state_is
-        (flags (text ++ false ∷ [])))
+    (flags (text ++ false ∷ [])))
 
 -- the course of a bit error, with the turn that signals it
 bit_course : (start place : ℕ) (spelling : Spelling) (e : ErrorState) (t : Turn) (text : List Bool) (at : ℕ)
@@ -287,10 +287,10 @@ bit_course start place spelling e t text at before given frame bef seen level si
     (subst (λ ev. Course at before (Send start given frame) pairs (listed ev) t.outcome flag) (sym signals.event_is)
     (subst (λ o. Course at before (Send start given frame) pairs (SenderError ∷ []) o flag) (sym signals.outcome_is)
     (subst (λ b. Course at before (Send start given frame) (driving bef seen
-            ++ record { driven = b; sampled = not level } ∷ []) (SenderError ∷ []) (Errored Bit) flag) (sym drives)
+    ++ record { driven = b; sampled = not level } ∷ []) (SenderError ∷ []) (Errored Bit) flag) (sym drives)
     (bit_differs start given frame bef seen level bit no_loss no_stuff))))
     (subst (λ s. (later : ℕ) → Agrees t.state (text ++ not level ∷ []) later (flag_of s [] Sender) [] []) state_is
-        (signals.flags (text ++ not level ∷ [])))
+    (signals.flags (text ++ not level ∷ [])))
 
 pub send_overruled : (start place : ℕ) (spelling : Spelling) (e : ErrorState) (t : Turn) →
     Signals t (flag_of e [] Sender) (Some SenderError) Bit → IsBitAt Other spelling place →
@@ -302,7 +302,7 @@ send_overruled start place spelling e t signals bit_is drives elsewhere text at 
     let say = says Other spelling frame place (given ++ bef) holds bit_is d.few d.text_is in
     bit_course start place spelling e t text at before given frame bef seen true signals err drives d.bit
     (λ high place_of. say.0 place_of.no_stuff_bit place_of.after_sof place_of.up_to_rtr)
-        (λ high place_of. say.1 place_of.stuff_bit place_of.before_rtr)
+    (λ high place_of. say.1 place_of.stuff_bit place_of.before_rtr)
 
 pub send_undriven : (start place : ℕ) (spelling : Spelling) (e : ErrorState) (t : Turn) →
     Signals t (flag_of e [] Sender) (Some SenderError) Bit → level_at spelling place ≡ false →
@@ -311,4 +311,4 @@ send_undriven start place spelling e t signals drives elsewhere text at before p
     (in_send given frame bef seen driven expected is bit place_is) holds =
     let d = differs spelling frame given bef seen driven expected place false bit place_is holds elsewhere drives in
     bit_course start place spelling e t text at before given frame bef seen false signals err drives d.bit
-        (λ high. absurd (cc high)) (λ high. absurd (cc high))
+    (λ high. absurd (cc high)) (λ high. absurd (cc high))

@@ -40,7 +40,7 @@ stands [] (w ∷ b) la lb head r x y e f n = absurd (omega (arith, n))
 stands (v ∷ a) [] la lb head r x y e f n = absurd (omega (arith, n))
 stands (v ∷ a) (w ∷ b) la lb [] r x y e f n =
     let same : a ++ x ∷ la ≡ b ++ y ∷ lb =
-        tail_same v true (a ++ x ∷ la) r e ∙ sym (tail_same w false (b ++ y ∷ lb) r f) in
+    tail_same v true (a ++ x ∷ la) r e ∙ sym (tail_same w false (b ++ y ∷ lb) r f) in
     let parts = append_same a (x ∷ la) b (y ∷ lb) (omega (arith, n)) same in
     behind_slot (head_same x y la lb parts.1) (omega arith)
 stands (v ∷ a) (w ∷ b) la lb (h ∷ head) r x y e f n =
@@ -48,8 +48,8 @@ stands (v ∷ a) (w ∷ b) la lb (h ∷ head) r x y e f n =
     let hw = head_same w h (b ++ y ∷ lb) (head ++ false ∷ r) f in
     subst (λ z. Stands (v ∷ a) (w ∷ b) x y (z ∷ head)) hv
     (one_longer a b v w x y head (hv ∙ sym hw)
-        (stands a b la lb head r x y (tail_same v h (a ++ x ∷ la) (head ++ true ∷ r) e)
-          (tail_same w h (b ++ y ∷ lb) (head ++ false ∷ r) f) (omega (arith, n))))
+    (stands a b la lb head r x y (tail_same v h (a ++ x ∷ la) (head ++ true ∷ r) e)
+    (tail_same w h (b ++ y ∷ lb) (head ++ false ∷ r) f) (omega (arith, n))))
 
 pub level_here : (a l : List Bool) (x d : Bool) → get_or (a ++ x ∷ l) (length a) d ≡ x
 level_here [] l x d = refl
@@ -80,11 +80,11 @@ here spelling frame given before seen driven expected place k h is =
     let alone = slot_stands_alone frame senders_choice true false items k.spells in
     let head = alone.0 in
     let drives : items ≡ (given ++ before) ++ driven ∷ h.later =
-        one_spelling frame senders_choice true items _ k.spells h.send.drives
-        ∙ sym (append_assoc given before (driven ∷ h.later)) in
+    one_spelling frame senders_choice true items _ k.spells h.send.drives
+    ∙ sym (append_assoc given before (driven ∷ h.later)) in
     let samples : (given ++ seen) ++ expected ∷ h.later_seen ≡ head ++ false ∷ replicate 8 true =
     append_assoc given seen (expected ∷ h.later_seen)
-        ∙ one_spelling frame senders_choice false _ _ h.send.samples alone.2 in
+    ∙ one_spelling frame senders_choice false _ _ h.send.samples alone.2 in
     let at : place ≡ length (given ++ before) = is ∙ sym (length-append given before) in
     let long : length items ≡ length head + 9 = ap length alone.1 ∙ length-append head (true ∷ replicate 8 true) in
     record {
@@ -99,9 +99,18 @@ here spelling frame given before seen driven expected place k h is =
       length_is = long;
       place_is = at;
       rest_is = omega (arith, ap length drives, length-append (given ++ before) (driven ∷ h.later), at);
-      as_long = omega (arith, ap length drives, length-append (given ++ before) (driven ∷ h.later), ap length samples,
-          length-append (given ++ seen) (expected ∷ h.later_seen), length-append head (false ∷ replicate 8 true), long,
-          length-append given before, length-append given seen, h.same_place);
+      as_long = omega (
+        arith,
+        ap length drives,
+        length-append (given ++ before) (driven ∷ h.later),
+        ap length samples,
+        length-append (given ++ seen) (expected ∷ h.later_seen),
+        length-append head (false ∷ replicate 8 true),
+        long,
+        length-append given before,
+        length-append given seen,
+        h.same_place,
+      );
     }
 
 -- the next bit of the same sender
@@ -177,11 +186,20 @@ arbitration_part frame a later x is_frame k place =
           let split : r ≡ reverse part.0 ++ reverse k.stuffed = ap reverse part.1 ∙ reverse-append k.stuffed part.0 in
           let g = grows (reverse part.0) (reverse k.stuffed) in
           let all : unstuffed r ≡ g.by ++ reverse t =
-              ap unstuffed split ∙ g.is ∙ ap (λ w. g.by ++ w) region.stuffs.rest in
+          ap unstuffed split ∙ g.is ∙ ap (λ w. g.by ++ w) region.stuffs.rest in
           let long = length-is frame senders_choice k.check is_frame (omega arith) in
-          absurd (omega (arith, ap length all, length-append g.by (reverse t), length-reverse t,
-                length-append (fields frame senders_choice) k.check, region.fifteen, place.up_to_rtr, rtr_few frame.id,
-                long, fields_some t))
+          absurd (omega (
+            arith,
+            ap length all,
+            length-append g.by (reverse t),
+            length-reverse t,
+            length-append (fields frame senders_choice) k.check,
+            region.fifteen,
+            place.up_to_rtr,
+            rtr_few frame.id,
+            long,
+            fields_some t,
+          ))
     ]
 
 -- such a text, with a dominant next level
@@ -201,9 +219,9 @@ lost_inside frame a later x is_frame k place =
     let g = grows (reverse part.0) r in
     let all : reverse t ≡ g.by ++ unstuffed r = sym region.stuffs.rest ∙ ap unstuffed split ∙ g.is in
     let text : reverse (unstuffed r) ++ reverse g.by ≡ t =
-        sym (reverse-append g.by (unstuffed r)) ∙ ap reverse (sym all) ∙ reverse-reverse t in
+    sym (reverse-append g.by (unstuffed r)) ∙ ap reverse (sym all) ∙ reverse-reverse t in
     let u : reverse (false ∷ unstuffed r) ≡ reverse (unstuffed r) ++ false ∷ [] =
-        reverse-append (false ∷ []) (unstuffed r) in
+    reverse-append (false ∷ []) (unstuffed r) in
     record {
       stuffed = subst IsStuffed (sym back) step.0;
       stands = ap unstuffed back ∙ step.1 ∙ sym (reverse-reverse (false ∷ unstuffed r));
@@ -217,8 +235,13 @@ pub arbitration_short : (frame : FrameValue) (a later : List Bool) (x : Bool) �
     Spells frame senders_choice true (a ++ x ∷ later) → IsArbitration frame a → length a + 10 ≤ length (a ++ x ∷ later)
 arbitration_short frame a later x is_frame k place =
     let part = arbitration_part frame a later x is_frame k place in
-    omega (arith, ap length part.1, length-append a part.0, ap length k.whole,
-        length-append k.stuffed (tail_levels true))
+    omega (
+      arith,
+      ap length part.1,
+      length-append a part.0,
+      ap length k.whole,
+      length-append k.stuffed (tail_levels true),
+    )
 
 -- what stands in the ACK slot, and elsewhere
 pub slot_levels : {a b : List Bool} {x y : Bool} {head : List Bool} → Stands a b x y head → length a ≡ length head →

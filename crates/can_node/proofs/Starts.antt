@@ -27,7 +27,7 @@ pub reads_from : (w u : List Bool) → Inside w u → (start : ℕ) (may : Bool)
     (later : ℕ) → Agrees (Taking start may Region) w later (Take start w may) [] []
 reads_from w u h start may sof later =
     in_take w [] may [] [] (sym (append-nil w))
-        (record { begins = part_rough w (completes w u h); undecided = region_undecided w u h })
+    (record { begins = part_rough w (completes w u h); undecided = region_undecided w u h })
     (no_slot [] (λ before more slot is _. no_split before more slot is)) refl sof (completes w u h)
 
 -- a node that has just read SOF

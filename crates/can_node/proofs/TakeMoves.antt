@@ -58,9 +58,9 @@ on_quiet : {start at : ℕ} {may : Bool} {stage next : Stage} {text : List Bool}
 on_quiet {start = start} {at = at} {stage = stage} {next = next} {text = text} level
     (in_take given levels may_begin pairs events is on reads may sof place) never new_on new_place =
     subst (λ b. Agrees (Taking start false next) (text ++ level ∷ []) at (Take start given may_begin)
-        (pairs ++ record { driven = not b; sampled = level } ∷ []) events) (sym (quiet stage text place never))
+    (pairs ++ record { driven = not b; sampled = level } ∷ []) events) (sym (quiet stage text place never))
     (in_take given (levels ++ level ∷ []) may_begin (pairs ++ record { driven = true; sampled = level } ∷ []) events
-        (ap (λ t. t ++ level ∷ []) is ∙ append_assoc given levels (level ∷ [])) new_on
+    (ap (λ t. t ++ level ∷ []) is ∙ append_assoc given levels (level ∷ [])) new_on
     (reads_more level reads (λ slot. never (subst IsBeforeSlot (sym is) slot)))
     (sym (no_start start given may_begin pairs (record { driven = true; sampled = level }))) sof new_place)
 
@@ -70,13 +70,13 @@ on_slot : {start at : ℕ} {may : Bool} {next : Stage} {text : List Bool} {phase
     Agrees (Taking start may (Slot true)) text at phase part events → IsBeforeSlot text →
     IsReadOn (text ++ level ∷ []) → IsAt next (text ++ level ∷ []) →
     Agrees (Taking start false next) (text ++ level ∷ []) at phase (part
-        ++ record { driven = false; sampled = level } ∷ []) (events ++ acknowledged level)
+    ++ record { driven = false; sampled = level } ∷ []) (events ++ acknowledged level)
 on_slot {start = start} level (in_take given levels may_begin pairs events is on reads may sof place) slot new_on
     new_place =
     in_take given (levels ++ level ∷ []) may_begin (pairs ++ record { driven = false; sampled = level } ∷ [])
-        (events ++ acknowledged level) (ap (λ t. t ++ level ∷ []) is ∙ append_assoc given levels (level ∷ [])) new_on
+    (events ++ acknowledged level) (ap (λ t. t ++ level ∷ []) is ∙ append_assoc given levels (level ∷ [])) new_on
     (reads_slot level reads (subst IsBeforeSlot is slot))
-        (sym (no_start start given may_begin pairs (record { driven = false; sampled = level }))) sof new_place
+    (sym (no_start start given may_begin pairs (record { driven = false; sampled = level }))) sof new_place
 
 place_of : {start at : ℕ} {may : Bool} {stage : Stage} {text : List Bool} {phase : Phase} {part : List Pair}
     {events : List ErrorEvent} → Agrees (Taking start may stage) text at phase part events → IsAt stage text
@@ -84,27 +84,33 @@ place_of (in_take given levels may_begin pairs events is on reads may sof place)
 
 pub take_more : (start : ℕ) (may : Bool) (stage : Stage) (e : ErrorState) (level : Bool) →
     GoesReading (Taking start may stage) e answer.More level (turn (Taking start false Region) None)
-take_more start may stage e level reader text at before phase part events err agrees h =
-    (goes_on
-        (rw append-nil (on_quiet level agrees (part_no_slot text level h.answer.0)
-            (read_on reader _ h.stands h.leaves (part_rough _ h.answer.0)) h.answer.0)) refl, λ is. h.leaves)
+take_more start may stage e level reader text at before phase part events err agrees h = (
+  goes_on
+      (rw append-nil (on_quiet level agrees (part_no_slot text level h.answer.0)
+      (read_on reader _ h.stands h.leaves (part_rough _ h.answer.0)) h.answer.0)) refl,
+  λ is. h.leaves,
+)
 
 pub take_stuff : (start : ℕ) (may : Bool) (stage : Stage) (e : ErrorState) (level : Bool) →
     GoesReading (Taking start may stage) e answer.StuffBit level (turn (Taking start false Region) None)
-take_stuff start may stage e level reader text at before phase part events err agrees h =
-    (goes_on
-        (rw append-nil (on_quiet level agrees (part_no_slot text level h.answer.0)
-            (read_on reader _ h.stands h.leaves (part_rough _ h.answer.0)) h.answer.0)) refl, λ is. h.leaves)
+take_stuff start may stage e level reader text at before phase part events err agrees h = (
+  goes_on
+      (rw append-nil (on_quiet level agrees (part_no_slot text level h.answer.0)
+      (read_on reader _ h.stands h.leaves (part_rough _ h.answer.0)) h.answer.0)) refl,
+  λ is. h.leaves,
+)
 
 pub take_body : (start : ℕ) (may : Bool) (stage : Stage) (e : ErrorState) (level : Bool) (f : FrameValue)
     (right : Bool) →
     GoesReading (Taking start may stage) e (answer.Body f right) level
     (turn (Taking start false (AfterRegion right)) None)
 take_body start may stage e level f right reader text at before phase part events err agrees h =
-    let tail : InTail f right 0 (text ++ level ∷ []) = body_tail f right (text ++ level ∷ []) h.answer in
-    (goes_on
-        (rw append-nil (on_quiet {next = AfterRegion right} level agrees (body_no_slot f right text level h.answer)
-            (read_on reader _ h.stands h.leaves (begins_rough f right 0 _ tail)) (f, tail))) refl, λ is. h.leaves)
+    let tail : InTail f right 0 (text ++ level ∷ []) = body_tail f right (text ++ level ∷ []) h.answer in (
+      goes_on
+          (rw append-nil (on_quiet {next = AfterRegion right} level agrees (body_no_slot f right text level h.answer)
+          (read_on reader _ h.stands h.leaves (begins_rough f right 0 _ tail)) (f, tail))) refl,
+      λ is. h.leaves,
+    )
 
 pub tail_delimiter : (start : ℕ) (may right : Bool) (e : ErrorState) (level : Bool) →
     GoesReading (Taking start may (AfterRegion right)) e answer.Tail level (turn (Taking start false (Slot right)) None)
@@ -112,7 +118,7 @@ tail_delimiter start may right e level reader text at before phase part events e
     let old = place_of agrees in (
       goes_on
           (rw append-nil (on_quiet {next = Slot right} level agrees (elsewhere (AfterRegion right) text old refl)
-            (read_on reader _ h.stands h.leaves h.answer.begins)
+          (read_on reader _ h.stands h.leaves h.answer.begins)
           (old.0, delimiter_tail old.0 right text level old.1 h.answer))) refl,
       λ is. h.leaves,
     )
@@ -125,7 +131,7 @@ tail_own_slot start may e level reader text at before phase part events err agre
     let counts : acknowledged level ≡ Received ∷ [] = ap acknowledged low in (
       goes_on
           (rw (← counts) (on_slot {next = AfterSlot} level agrees (own_slot (Slot true) text old refl)
-            (read_on reader _ h.stands h.leaves h.answer.begins)
+          (read_on reader _ h.stands h.leaves h.answer.begins)
           (old.0, true, 2, omega arith, next_slot old.0 true 1 text level old.1 refl (λ right. low)))) refl,
       λ is. h.leaves,
     )
@@ -136,9 +142,9 @@ tail_slot_on start may e level reader text at before phase part events err agree
     let old = place_of agrees in (
       goes_on
           (rw append-nil (on_quiet {next = AfterSlot} level agrees (elsewhere (Slot false) text old refl)
-            (read_on reader _ h.stands h.leaves h.answer.begins)
+          (read_on reader _ h.stands h.leaves h.answer.begins)
           (old.0, false, 2, omega arith, next_slot old.0 false 1 text level old.1 refl (λ right. absurd (cc right)))))
-              refl,
+          refl,
       λ is. h.leaves,
     )
 
@@ -148,9 +154,13 @@ tail_later start may e level reader text at before phase part events err agrees 
     let old = place_of agrees in (
       goes_on
           (rw append-nil (on_quiet {next = AfterSlot} level agrees (elsewhere AfterSlot text old refl)
-            (read_on reader _ h.stands h.leaves h.answer.begins)
-          (old.0, old.1, old.2 + 1, omega (arith, old.3),
-              later_tail old.0 old.1 old.2 text level old.3 old.4 h.answer))) refl,
+          (read_on reader _ h.stands h.leaves h.answer.begins) (
+            old.0,
+            old.1,
+            old.2 + 1,
+            omega (arith, old.3),
+            later_tail old.0 old.1 old.2 text level old.3 old.4 h.answer,
+          ))) refl,
       λ is. h.leaves,
     )
 
@@ -166,12 +176,12 @@ take_taken start may stage e level f reader text at before phase part events err
     (in_take given levels may_begin pairs counted is on reads wants sof place) h =
     let never = front_no_slot f text level h.answer in
     let whole : text ++ level ∷ [] ≡ given ++ (levels ++ level ∷ []) =
-        ap (λ t. t ++ level ∷ []) is ∙ append_assoc given levels (level ∷ []) in (
+    ap (λ t. t ++ level ∷ []) is ∙ append_assoc given levels (level ∷ []) in (
       is_over LastBit (rw (append-nil, quiet stage text place never)
           (took start given may_begin (levels ++ level ∷ []) (pairs ++ record { driven = true; sampled = level } ∷ [])
-              counted f
+          counted f
           (reads_more level reads (λ slot. never (subst IsBeforeSlot (sym is) slot)))
-              (subst (IsFront f) whole h.answer))) (λ later. in_last),
+          (subst (IsFront f) whole h.answer))) (λ later. in_last),
       λ is. absurd (cc is),
     )
 
@@ -185,9 +195,9 @@ fault_reads kind given levels text pairs events stage level false is e reads pla
 fault_reads kind given levels text pairs events stage level true is e reads place high =
     let slot = own_slot stage text place is in
     let counts : events ++ acknowledged level ≡ events =
-        ap (λ l. events ++ acknowledged l) (high slot) ∙ append-nil events in
+    ap (λ l. events ++ acknowledged l) (high slot) ∙ append-nil events in
     subst (Reads given (levels ++ level ∷ []) (pairs ++ record { driven = false; sampled = level } ∷ [])) counts
-        (reads_slot level reads (subst IsBeforeSlot e slot))
+    (reads_slot level reads (subst IsBeforeSlot e slot))
 
 pub take_fault : (start : ℕ) (may : Bool) (stage : Stage) (e : ErrorState) (level : Bool) (kind : FaultKind)
     (flag : State) →
@@ -196,12 +206,13 @@ pub take_fault : (start : ℕ) (may : Bool) (stage : Stage) (e : ErrorState) (le
     (record { state = flag; event = Some ReceiverError; outcome = Errored (name_of kind) })
 take_fault start may stage e level kind flag begins reader text at before phase part events err
     (in_take given levels may_begin pairs counted is on reads wants sof place) h = (
-  is_over (flag_of (state_after (before ++ counted)) [] Receiver)
-      (spoiled start given may_begin levels level (pairs ++ pair_of (Taking start may stage) level ∷ []) counted kind
-      (fault_reads kind given levels text pairs counted stage level (is_own_slot stage) refl is reads place
+      is_over (flag_of (state_after (before ++ counted)) [] Receiver)
+          (spoiled start given may_begin levels level (pairs ++ pair_of (Taking start may stage) level ∷ []) counted
+          kind
+          (fault_reads kind given levels text pairs counted stage level (is_own_slot stage) refl is reads place
           (slot_fault kind text level h.answer))
-      (record { read_on = subst IsReadOn is on; fault_is = subst (λ t. FaultAnswers kind t level) is h.answer }))
-      (λ later. subst (λ s. Agrees flag (text ++ level ∷ []) later (flag_of s [] Receiver) [] []) err
+          (record { read_on = subst IsReadOn is on; fault_is = subst (λ t. FaultAnswers kind t level) is h.answer }))
+          (λ later. subst (λ s. Agrees flag (text ++ level ∷ []) later (flag_of s [] Receiver) [] []) err
           (begins (text ++ level ∷ []) later)),
-  λ is. absurd (cc (is, flag_reads_nothing e [] Receiver flag begins)),
-)
+      λ is. absurd (cc (is, flag_reads_nothing e [] Receiver flag begins)),
+    )

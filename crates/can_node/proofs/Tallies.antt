@@ -30,7 +30,7 @@ pub tally_data : (tally : Tally) (level : Bool) (run : LevelRun) (more : ℕ) (o
     Tallies (record { run = run; «data» = more }) (level ∷ older)
 tally_data tally level run more older h no_five ends grows =
     let longer : length (unstuffed (level ∷ older)) ≡ length (unstuffed older) + 1 =
-        ap length (data_more older level no_five) ∙ omega arith in
+    ap length (data_more older level no_five) ∙ omega arith in
     record { ends = ends; data_is = omega (arith, grows, h.data_is, longer) }
 
 pub tally_none : (run : LevelRun) → EndsIn [] run → Tallies (record { run = run; «data» = 0 }) []

@@ -1,5 +1,5 @@
 -- One that follows a line in place of nodes that listen to it and have come equally far.
-use Rattle.std.specs.Prelude.{◌≡◌, ◌⊎◌, ℕ, ◌+◌, Bool, true, false, None, Some}
+use Rattle.std.specs.Prelude.{◌≡◌, ◌⊎◌, ℕ, ◌+◌, Bool, true, false, None, Some, List, [], ◌∷◌}
 use Rattle.can_confinement.specs.declared.confinement.ErrorEvent.TheVariants.{Received}
 use Rattle.can_node.specs.declared.outcome.Outcome.TheVariants.{Nothing}
 use Rattle.can_node.specs.declared.state.Turn.{Turn}
@@ -68,6 +68,12 @@ pub record ReadsAlong (before : Listener) (level : Bool) (after : Listener) : Ty
   pub follows : (known : KnownCounts) (bit : ℕ) → Follows known before bit level after
   pub listens : IsListening after
 
+-- bits of that kind with these levels, one after another
+abbrev pub ReadsAlongBy : Listener → List Bool → Listener → Type 0
+ReadsAlongBy before [] after = after ≡ before
+ReadsAlongBy before (level ∷ levels) after =
+    (between : Listener) × ReadsAlong before level between × ReadsAlongBy between levels after
+
 -- One bit of a frame that a node sends, but that of its ACK slot, while all others that are there listen: the line has
 -- the level that it drives, for those drive recessive; it samples that and tells nothing, and so does each of them.
 pub record SendsTo (old : Node) (before : Listener) (level : Bool) (new : Node) (after : Listener) : Type 0 where
@@ -81,3 +87,9 @@ pub record SendsTo (old : Node) (before : Listener) (level : Bool) (new : Node) 
   pub others_begin : (node : Node) (bit : ℕ) → may_begin (caught_up node before bit) ≡ false
   pub follows : (known : KnownCounts) (bit : ℕ) → Follows known before bit level after
   pub listens : IsListening after
+
+-- bits of that kind with these levels, one after another
+abbrev pub SendsRun : Node → Listener → List Bool → Node → Listener → Type 0
+SendsRun old before [] new after = (new ≡ old) × (after ≡ before)
+SendsRun old before (level ∷ levels) new after =
+    (mid : Node) × (between : Listener) × SendsTo old before level mid between × SendsRun mid between levels new after

@@ -1,5 +1,6 @@
 -- A frame as its sender drives it, and what a bit of it is. Private clauses cite it.
-use Rattle.std.specs.Prelude.{◌≡◌, ℕ, ◌+◌, ◌≤◌, min, Bool, true, false, List, length, reverse, take, get_or}
+use Rattle.std.specs.Prelude.{◌≡◌, ℕ, ◌+◌, ◌≤◌, ◌<◌, min, Bool, true, false, List, [], ◌∷◌, length, reverse, take}
+use Rattle.std.specs.Prelude.{get_or}
 use Rattle.can_frame.specs.Frames.{FrameValue, IsFrameValue}
 use Rattle.can_frame.specs.Fields.{senders_choice}
 use Rattle.can_frame.specs.Stuffing.{five_equal, unstuffed}
@@ -28,6 +29,12 @@ Holds phase spelling = Unit {0}
 -- the level in this place; behind the frame the bus is recessive
 abbrev pub level_at : Spelling → ℕ → Bool
 level_at spelling place = get_or spelling.levels.items place true
+
+-- these levels stand from this place on, all before the ACK slot
+abbrev pub StandAhead : Spelling → ℕ → List Bool → Type 0
+StandAhead spelling place [] = Unit {0}
+StandAhead spelling place (level ∷ levels) = (place + 9 < length spelling.levels.items)
+    × (level ≡ level_at spelling place) × StandAhead spelling (place + 1) levels
 
 -- The sender goes on where the bit in this place has this level: in the ACK slot a dominant one, elsewhere the one that
 -- it drives, but in the last bit of EOF, behind which the frame is sent.

@@ -1,10 +1,10 @@
 //! One that follows the line in place of the nodes that listen to it.
 
-ghost use Rattle.std.specs.Prelude.{◌≡◌, ℕ, Bool, true, false, IfSome};
+ghost use Rattle.std.specs.Prelude.{◌≡◌, ◌≤◌, ℕ, Bool, true, false, IfSome, length, take};
 ghost use Rattle.can_node.specs.declared.node.Node.{Node};
 ghost use Rattle.can_node.specs.Machine.{GoesReading, is_sending, is_taking};
 ghost use Rattle.can_node.specs.Node.{driven_by, may_begin};
-ghost use Rattle.can_node.specs.Listener.{IsListening, IsUnseen, Follows, ReadsAlong, caught_up, is_reading};
+ghost use Rattle.can_node.specs.Listener.{IsListening, IsUnseen, Follows, ReadsAlong, ReadsAlongBy, caught_up, is_reading};
 ghost use Rattle.can_confinement.specs.declared.confinement.ErrorState.{ErrorState as ErrorStateValue};
 
 use crate::machine::{
@@ -84,6 +84,19 @@ impl Listener {
             return self.reader.reads_on(level);
         }
         self.reads_end(level)
+    }
+
+    /// Follows bits of the stuffed region with the first of these levels, as `reads_along` follows one, and tells how
+    /// many those are.
+    #[inline(always)]
+    pub(crate) fn reads_along_by(&mut self, levels: &[bool]) -> usize
+        ensures few { result ≤ length levels.now }
+        ensures along { ReadsAlongBy self.old (take result levels.now) self.new }
+    {
+        if !is_in_region(self.state) {
+            return 0;
+        }
+        self.reader.reads_on_by(levels)
     }
 
     /// So behind the stuffed region.

@@ -1,9 +1,10 @@
 //! A node of one segment.
 
-ghost use Rattle.std.specs.Prelude.{◌≡◌, ℕ, ◌+◌, ◌<◌, true, IsSome, IfSome, IfNone};
+ghost use Rattle.std.specs.Prelude.{◌≡◌, ℕ, ◌+◌, ◌<◌, ◌≤◌, ◌++◌, true, Bool, List, IsSome, IfSome, IfNone};
+ghost use Rattle.std.specs.Prelude.{length, vec_capacity, vec_len};
 ghost use Rattle.can_confinement.specs.Counters.{StandsAfter as CountersStandAfter, counts_of};
 ghost use Rattle.can_node.specs.Histories.{Past, no_past, IsHistory};
-ghost use Rattle.can_node.specs.Listener.{SendsTo, StandsWith, caught_up, listener_of, listens_in};
+ghost use Rattle.can_node.specs.Listener.{SendsRun, SendsTo, StandsWith, caught_up, listener_of, listens_in};
 ghost use Rattle.can_confinement.specs.KnownCounts.{Knows, known_of};
 ghost use Rattle.can_node.specs.PlainBits.{GoesOn, MayGoOn};
 ghost use Rattle.can_node.specs.Node.{StandsAfter, IsSample, IsWanting, IsSending, bit_of, counters_in};
@@ -233,5 +234,23 @@ impl Node {
         *place = place.saturating_add(1);
         self.clock += 1;
         Some(level)
+    }
+
+    /// As many bits of the stuffed region of a frame as there are that `send_to` would make one after another, `most`
+    /// at most, and none where there are none. Their levels are kept behind those of `levels`, which has room for them.
+    pub fn send_run(&mut self, listener: &mut Listener, levels: &mut Vec<bool>, most: usize)
+        requires bits { bit_of self.old + most ≤ u64.MAX }
+        requires room { vec_len levels.old + most ≤ vec_capacity levels.old }
+        ensures { (sent : List Bool) × (length sent ≤ most) × (levels.new.items ≡ levels.old.items ++ sent)
+            × SendsRun self.old listener.old sent self.new listener.new }
+    {
+        let State::Sending(_start, place) = &mut self.state else {
+            return;
+        };
+        let ahead = self.spelling.spelling().ahead(*place, most);
+        let count = listener.reads_along_by(ahead);
+        let _ = levels.extend_from_slice(&ahead[..count]);
+        *place = place.saturating_add(count as u8);
+        self.clock += count as u64;
     }
 }

@@ -3,7 +3,7 @@
 ghost use Rattle.std.specs.Prelude.{◌≡◌, ◌⊎◌, ◌≤◌, ◌<◌, ◌+◌, ◌∷◌, List, Bool, true};
 ghost use Rattle.std.specs.Prelude.{false, IfNone, IfSome, length, reverse, min, take};
 ghost use Rattle.can_node.specs.Sends.{rtr_place};
-ghost use Rattle.can_node.specs.Sending.{IsSpelling, IsBitAt, SendsOn, level_at, Tallies, SaysBit};
+ghost use Rattle.can_node.specs.Sending.{IsSpelling, IsBitAt, SendsOn, StandAhead, level_at, Tallies, SaysBit};
 
 use arrayvec::ArrayVec;
 use can_frame::{Frame, Id, LevelRun, wire};
@@ -107,6 +107,21 @@ impl Spelling {
             return None;
         }
         Some(self.level(place))
+    }
+
+    /// Those levels from this place on that stand before the ACK slot, `most` at most.
+    pub(crate) fn ahead(&self, place: u8, most: usize) -> &[bool]
+        ensures few { length result.now ≤ most }
+        ensures short { place + length result.now ≤ 255 }
+        ensures ahead { StandAhead self.now place result.now }
+    {
+        let levels = self.levels.as_slice();
+        let from = usize::from(place);
+        let slot = levels.len().saturating_sub(9);
+        if slot <= from {
+            return &[];
+        }
+        &levels[from..slot.min(from.saturating_add(most))]
     }
 
     /// Whether the sender goes on where the bit in this place has this level: in the ACK slot with a dominant one,

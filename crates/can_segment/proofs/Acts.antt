@@ -54,8 +54,14 @@ acted_off Rules on k trace level old mid after h early same_mid same_after =
 -- one that is on
 acted_on : (Rules : Act → Type 0) (on k : ℕ) (trace : List Bit) (level : Bool) (mid after : Member) →
     on ≤ length trace → mid.on ≡ on → (d : Done on k trace level mid after) →
-    let act : Act = record { begun = begun_by after.deed; driven = driven_by mid.station.node; sampled = level;
-        event = d.event; outcome = after.deed.outcome; reaped = after.deed.reaped } in
+    let act : Act = record {
+      begun = begun_by after.deed;
+      driven = driven_by mid.station.node;
+      sampled = level;
+      event = d.event;
+      outcome = after.deed.outcome;
+      reaped = after.deed.reaped;
+    } in
     IsAct (past_of on k trace) level act → Rules act → Acted Rules on k trace level mid after (Some act)
 acted_on Rules on k trace level mid after late on_is d is_act rules = record {
   starts = refl;
@@ -78,17 +84,24 @@ pub talker_acts : (on k : ℕ) (trace : List Bit) (frames : List FrameValue) (le
 talker_acts on k trace frames level old mid after h starts samples = elim (cases_lt (length trace) on) [
   | inl early ↦
       let same_mid = starts.off (omega (arith, early, h.on_is)) in
-      let same_after = samples.off (omega (arith, early, h.on_is, starts.on_is)) in
-      (None, acted_off (Talks trace frames on k) on k trace level old mid after h early same_mid
-          (same_after ∙ same_mid))
+      let same_after = samples.off (omega (arith, early, h.on_is, starts.on_is)) in (
+        None,
+        acted_off (Talks trace frames on k) on k trace level old mid after h early same_mid
+            (same_after ∙ same_mid),
+      )
   | inr late ↦
       let t = talked on k trace frames level old mid after h (omega (arith, late)) starts samples in
       let d = t.made in (
         Some _,
         acted_on (Talks trace frames on k) on k trace level mid after (omega (arith, late)) (starts.on_is ∙ h.on_is) d
             (record { history = d.history; samples = refl; begins = t.begins })
-            (record { wants = t.wants; is_wanting = t.is_wanting; begins = t.rule; no_label = t.no_label;
-                  no_reaping = samples.reaps_none (omega (arith, late, h.on_is, starts.on_is)) }),
+            (record {
+              wants = t.wants;
+              is_wanting = t.is_wanting;
+              begins = t.rule;
+              no_label = t.no_label;
+              no_reaping = samples.reaps_none (omega (arith, late, h.on_is, starts.on_is));
+            }),
       )
 ]
 
@@ -114,8 +127,13 @@ controller_acts on k trace level old mid after h starts samples = elim (cases_lt
             (record {
               labelled = t.labelled;
               reaps = λ label is. let r = t.reaps label is in
-                  record { sent = r.sent; sends = sym d.now_is ∙ sym (t.names label is) ∙ r.sends; is_its_label =
-                  r.label_is; fails = r.fails };
+                  record {
+                    sent = r.sent;
+                    sends = sym d.now_is ∙ sym (t.names label is) ∙ r.sends;
+                    is_its_label =
+                        r.label_is;
+                    fails = r.fails;
+                  };
             }),
       )
 ]

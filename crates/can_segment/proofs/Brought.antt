@@ -1,5 +1,5 @@
 -- What a port is brought at a bit is what the lines of that bit tell of its node.
-use Rattle.std.proofs.Common.{◌≡◌, ℕ, ◌+◌, ◌<◌, ◌≤◌, Bool, true, false, cond, Option, Some, None, IfSome, List, [], ◌∷◌}
+use Rattle.std.proofs.Common.{◌≡◌, ℕ, ◌<◌, ◌≤◌, Bool, true, false, cond, Option, Some, None, IfSome, List, [], ◌∷◌}
 use Rattle.std.proofs.Common.{◌++◌, length, nat_le, inl, inr, refl, sym, ap, subst, arith, ◌∙◌, append_assoc}
 use Rattle.std.proofs.lemmas.List.{append-nil}
 use Rattle.std.specs.Prelude.{option_to_list}
@@ -34,7 +34,7 @@ all-append names (x ∷ xs) ys =
 same_past : (a b : BusPast) → a.started ≡ b.started → a.done ≡ b.done → a.reaped ≡ b.reaped → a ≡ b
 same_past a b s d r =
     ap (λ xs. record { started = xs; done = a.done; reaped = a.reaped }) s
-        ∙ ap (λ xs. record { started = b.started; done = xs; reaped = a.reaped }) d
+    ∙ ap (λ xs. record { started = b.started; done = xs; reaped = a.reaped }) d
     ∙ ap (λ xs. record { started = b.started; done = b.done; reaped = xs }) r
 
 -- a past with these lists behind its own
@@ -126,7 +126,7 @@ reaps_one : (past : BusPast) (item : Item) (label : Label) → grown past (told_
     ≡ failed past (Some item) (Some label)
 reaps_one past item label =
     grown-one past (told.Reaped label) ∙ same_past (with_lists past [] [] ((label.route, label.number) ∷ []))
-        (failed past (Some item) (Some label)) (append-nil past.started) (append-nil past.done) refl
+    (failed past (Some item) (Some label)) (append-nil past.started) (append-nil past.done) refl
 
 failure_alike : (outcome : Outcome) → is_failure outcome ≡ true →
     (past : BusPast) (item : Option Item) (reaped : Option Label) →
@@ -145,10 +145,10 @@ settles_reaped : (past : BusPast) (sending : Option Transmission) (outcome : Out
     ≡ settled past (item_of sending) outcome (Some label)
 settles_reaped past sending outcome label r =
     let item : item_of sending ≡ Some (label.route, label.number, r.sent.frame) =
-        ap item_of r.sends ∙ ap (item_with r.sent.frame) r.label_is in
+    ap item_of r.sends ∙ ap (item_with r.sent.frame) r.label_is in
     grown-append past (told_outcome sending outcome) (told_reaped (Some label))
     ∙ ap (λ p. grown p (told_reaped (Some label))) (settles_plain past sending outcome
-        ∙ failure_alike outcome r.fails past (item_of sending) None ∙ idle_failure past (item_of sending))
+    ∙ failure_alike outcome r.fails past (item_of sending) None ∙ idle_failure past (item_of sending))
     ∙ reaps_one past (label.route, label.number, r.sent.frame) label ∙ ap (λ i. failed past i (Some label)) (sym item)
     ∙ sym (failure_alike outcome r.fails past (item_of sending) (Some label))
 
@@ -193,7 +193,7 @@ pub takes : (begun : Option Transmission) (deed : Deed) → all_in taken_in (tol
     ≡ taken_by deed.outcome
 takes begun deed =
     all-append taken_in (told_start begun) (rest_by deed)
-        ∙ ap (λ xs. xs ++ all_in taken_in (rest_by deed)) (taken_start begun)
+    ∙ ap (λ xs. xs ++ all_in taken_in (rest_by deed)) (taken_start begun)
     ∙ all-append taken_in (told_outcome deed.sent deed.outcome) (told_reaped deed.reaped)
     ∙ ap (λ xs. all_in taken_in (told_outcome deed.sent deed.outcome) ++ xs) (taken_reaped deed.reaped) ∙ append-nil _
     ∙ taken_outcome deed.sent deed.outcome
@@ -233,7 +233,7 @@ starts_told : (begun : Option Transmission) (deed : Deed) → all_in start_in (t
 starts_told begun deed =
     all-append start_in (told_start begun) (rest_by deed)
     ∙ ap (λ xs. all_in start_in (told_start begun) ++ xs)
-        (all-append start_in (told_outcome deed.sent deed.outcome) (told_reaped deed.reaped)
+    (all-append start_in (told_outcome deed.sent deed.outcome) (told_reaped deed.reaped)
     ∙ ap (λ xs. xs ++ all_in start_in (told_reaped deed.reaped)) (start_outcome deed.sent deed.outcome)
     ∙ start_reaped deed.reaped)
     ∙ append-nil _ ∙ start_started begun
@@ -242,9 +242,11 @@ starts_told begun deed =
 pub starts_undone-append : (past : BusPast) (xs ys : List Told) → StartsUndone past xs →
     StartsUndone (grown past xs) ys → StartsUndone past (xs ++ ys)
 starts_undone-append past [] ys h k = subst (λ p. StartsUndone p ys) (grown-nil past) k
-starts_undone-append past (x ∷ xs) ys h k =
-    (h.0, starts_undone-append (grown past (x ∷ [])) xs ys h.1
-    (subst (λ p. StartsUndone p ys) (grown-append past (x ∷ []) xs) k))
+starts_undone-append past (x ∷ xs) ys h k = (
+  h.0,
+  starts_undone-append (grown past (x ∷ [])) xs ys h.1
+      (subst (λ p. StartsUndone p ys) (grown-append past (x ∷ []) xs) k),
+)
 
 none_started : (past : BusPast) (sending : Option Transmission) (outcome : Outcome) →
     StartsUndone past (told_outcome sending outcome)
@@ -276,7 +278,7 @@ undone_told : (past : BusPast) (begun : Option Transmission) (deed : Deed) → U
 undone_told past begun deed h =
     starts_undone-append past (told_start begun) (rest_by deed) (one_started past begun h)
     (starts_undone-append (grown past (told_start begun)) (told_outcome deed.sent deed.outcome)
-        (told_reaped deed.reaped) (none_started (grown past (told_start begun)) deed.sent deed.outcome)
+    (told_reaped deed.reaped) (none_started (grown past (told_start begun)) deed.sent deed.outcome)
     (none_reaped (grown (grown past (told_start begun)) (told_outcome deed.sent deed.outcome)) deed.reaped))
 
 -- a node that is not on yet
@@ -286,9 +288,9 @@ early on bit e = elim (leb_tells on bit) [ inl is ↦ absurd (cc (e, is.0)) | in
 pub port_brought : {P : Type 0} (after : P → BusPast → Type 0) (asked : P → List BusCall → Type 0)
     (transmitting : P → Option Item) (sink : P → List FrameValue → Type 0) (stays : P → P → Type 0)
     (bit : ℕ) (wants : Bool) (tells : List Told) (m : Member) (p q : P) → tells ≡ start_of m.deed ++ rest_by m.deed →
-        (bit < m.on → m.deed ≡ no_deed) →
+    (bit < m.on → m.deed ≡ no_deed) →
     PortMoves after asked transmitting sink stays bit wants m p q →
-        IsBrought after asked transmitting sink stays tells wants (item_of m.station.sending) p q
+    IsBrought after asked transmitting sink stays tells wants (item_of m.station.sending) p q
 port_brought after asked transmitting sink stays bit wants tells m p q told quiet moves = record {
   bus = λ past h. subst (λ ts. after q (grown past ts)) (sym told) (bus_by past (is_on bit m) refl (moves.bus past h));
   undone = λ past h. subst (StartsUndone past) (sym told) (undone_by past (is_on bit m) refl (moves.undone past h));
@@ -315,7 +317,7 @@ port_brought after asked transmitting sink stays bit wants tells m p q told quie
     bus_by past false e h =
         let idle : m.deed ≡ no_deed = quiet (early m.on bit e) in
         subst (λ d. after q (grown past (start_of d ++ rest_by d))) (sym idle)
-            (subst (after q) (sym (grown-nil past)) h)
+        (subst (after q) (sym (grown-nil past)) h)
 
     sink_by : (past : List FrameValue) (on : Bool) → is_on bit m ≡ on → sink q (past ++ taken_at on m.deed) →
         sink q (past ++ all_in taken_in (start_of m.deed ++ rest_by m.deed))

@@ -25,7 +25,7 @@ first_of a b e = cc e
 pub collect : {X : Type 0} (A : X → ℕ → Member → Member → Option Act → Type 0) (k : ℕ) (xs : List X)
     (mids afters : List Member) → length mids ≡ length xs → length afters ≡ length xs →
     ((i : ℕ) (x : X) (mid after : Member) → slice_get xs i ≡ Some x → slice_get mids i ≡ Some mid →
-        slice_get afters i ≡ Some after → (act : Option Act) × A x (k + i) mid after act) →
+    slice_get afters i ≡ Some after → (act : Option Act) × A x (k + i) mid after act) →
     Collected A k xs mids afters
 collect A k [] mids afters em ea h = record { acts = []; size = refl; at = λ i x mid after p q r. absurd (cc p) }
 collect A k (x ∷ xs) [] afters em ea h = absurd (omega (arith, em))
@@ -34,7 +34,7 @@ collect {X = X} A k (x ∷ xs) (m ∷ mids) (a ∷ afters) em ea h =
     let first = h zero x m a refl refl refl in
     let rest = collect A (k + 1) xs mids afters (omega (arith, em)) (omega (arith, ea))
     (λ i y mid after p q r. let next = h (suc i) y mid after p q r in
-        (next.0, subst (λ n. A y n mid after next.0) (omega arith) next.1)) in
+    (next.0, subst (λ n. A y n mid after next.0) (omega arith) next.1)) in
     record { acts = first.0 ∷ rest.acts; size = omega (arith, rest.size); at = at_of first rest }
   where
     at_of : (first : (act : Option Act) × A x (k + 0) m a act) (rest : Collected A (k + 1) xs mids afters) (i : ℕ)
@@ -44,9 +44,12 @@ collect {X = X} A k (x ∷ xs) (m ∷ mids) (a ∷ afters) em ea h =
     at_of first rest zero y mid after p q r =
         let ex : x ≡ y = first_of x y p in
         let eq : m ≡ mid = first_of m mid q in
-        let er : a ≡ after = first_of a after r in
-        (first.0, refl, subst (λ z. A y (k + 0) mid z first.0) er
-            (subst (λ z. A y (k + 0) z a first.0) eq (subst (λ z. A z (k + 0) m a first.0) ex first.1)))
+        let er : a ≡ after = first_of a after r in (
+          first.0,
+          refl,
+          subst (λ z. A y (k + 0) mid z first.0) er
+              (subst (λ z. A y (k + 0) z a first.0) eq (subst (λ z. A z (k + 0) m a first.0) ex first.1)),
+        )
     at_of first rest (suc i) y mid after p q r =
         let next = rest.at i y mid after p q r in
         (next.0, next.1, subst (λ n. A y n mid after next.0) (omega arith) next.2)
@@ -72,7 +75,7 @@ same_all p q [] (y ∷ ys) e h = absurd (omega (arith, e))
 same_all p q (x ∷ xs) [] e h = absurd (omega (arith, e))
 same_all p q (x ∷ xs) (y ∷ ys) e h =
     ap (λ b. b && list_all p xs) (h zero x y refl refl)
-        ∙ ap (λ b. q y && b) (same_all p q xs ys (omega (arith, e)) (λ i a b ea eb. h (suc i) a b ea eb))
+    ∙ ap (λ b. q y && b) (same_all p q xs ys (omega (arith, e)) (λ i a b ea eb. h (suc i) a b ea eb))
 
 -- what is told of nodes by their places, and by their deeds
 pub lines_told : (tells : ℕ → List Told) (by : Deed → List Told) (bit node : ℕ) (members : List Member) →
@@ -82,7 +85,7 @@ unfolding told_by
 lines_told tells by bit node [] h = refl
 lines_told tells by bit node (m ∷ members) h =
     ap (λ t. lines bit node t ++ lines_from tells bit (suc node) (length members))
-        (ap tells (omega arith) ∙ h zero m refl)
+    (ap tells (omega arith) ∙ h zero m refl)
     ∙ ap (λ es. lines bit node (by m.deed) ++ es) (ap (λ n. lines_from tells bit n (length members)) (omega arith)
     ∙ lines_told tells by bit (node + 1) members (λ i x e. ap tells (omega arith) ∙ h (suc i) x e))
 
@@ -94,9 +97,9 @@ lines_split tells bit node (suc n) m =
     ap (λ k. lines_from tells bit node k) (next n m)
     ∙ ap (λ es. lines bit node (tells node) ++ es) (lines_split tells bit (suc node) n m)
     ∙ sym (append_assoc (lines bit node (tells node)) (lines_from tells bit (suc node) n)
-        (lines_from tells bit (suc node + n) m))
+    (lines_from tells bit (suc node + n) m))
     ∙ ap (λ k. (lines bit node (tells node) ++ lines_from tells bit (suc node) n) ++ lines_from tells bit k m)
-        (omega arith)
+    (omega arith)
   where
     next : (n m : ℕ) → suc n + m ≡ suc (n + m)
     next n m = omega arith

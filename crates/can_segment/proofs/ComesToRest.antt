@@ -90,7 +90,7 @@ all_silent listener bit old new moves = record {
       let x = map_at (woken listener bit) old k a p in
       let y = map_at (woken listener bit) new k b q in
       subst (λ m. IsAlike m b) x.2 (subst (IsAlike (woken listener bit x.0)) y.2
-          (if_alike_silent listener bit x.0 y.0 (moves.at k x.0 y.0 x.1 y.1)));
+      (if_alike_silent listener bit x.0 y.0 (moves.at k x.0 y.0 x.1 y.1)));
   size = length-map new (woken listener bit) ∙ moves.size ∙ sym (length-map old (woken listener bit));
 }
 
@@ -115,7 +115,7 @@ alike_lying listener bit old new (inl same) = subst (λ m. IsAlike (woken listen
     (sym same) (like_itself (woken listener bit old))
 alike_lying listener bit old new (inr lies) =
     subst (λ m. IsAlike m (woken listener bit new)) (sym (awake_woken listener bit old lies.0.awake))
-        (subst (λ m. IsAlike old (woken listener bit m)) (sym lies.1) (alike_resting listener bit old lies.0))
+    (subst (λ m. IsAlike old (woken listener bit m)) (sym lies.1) (alike_resting listener bit old lies.0))
 
 pub alike_at_rest : (one other : Listener) (bit : ℕ) (old new : List Member) → other ≡ one →
     AtPlaces (λ k. MayLieDown one bit) old new → AreAlike (map (woken one bit) old) (map (woken other bit) new)
@@ -126,7 +126,7 @@ alike_at_rest one other bit old new same lie =
           let x = map_at (woken one bit) old k a p in
           let y = map_at (woken one bit) new k b q in
           subst (λ m. IsAlike m b) x.2 (subst (IsAlike (woken one bit x.0)) y.2
-              (alike_lying one bit x.0 y.0 (lie.at k x.0 y.0 x.1 y.1)));
+          (alike_lying one bit x.0 y.0 (lie.at k x.0 y.0 x.1 y.1)));
       size = length-map new (woken one bit) ∙ lie.size ∙ sym (length-map old (woken one bit));
     })
 
@@ -160,8 +160,15 @@ less_too before mid after one other = record {
 }
 
 less_itself : (rest : Rest) → IsLess rest rest
-less_itself rest = record { listener_is = refl; resting_is = refl; knows = λ counters h. h; spends = λ s. s;
-    talkers_is = refl; controllers_is = refl; few_is = refl }
+less_itself rest = record {
+  listener_is = refl;
+  resting_is = refl;
+  knows = λ counters h. h;
+  spends = λ s. s;
+  talkers_is = refl;
+  controllers_is = refl;
+  few_is = refl;
+}
 
 -- the first of these may have come to rest
 pub record LullsBelow (before now : Rest) (bit : ℕ) (old new : List Member) (i : ℕ) : Type 0 where
@@ -206,9 +213,9 @@ lulls_step spent before now next bit old new i a b room here h so_far = record {
       | inl less ↦ (let ne : k ≢ i = omega arith in other k m ne e is)
       | inr same_place ↦ (let at : k ≡ i = omega arith in
           let same : b ≡ m = same_some b m (sym (get_set_same new i b (omega (arith, room, so_far.lie.size)))
-              ∙ ap (slice_get (set new i b)) (sym at) ∙ e) in
+          ∙ ap (slice_get (set new i b)) (sym at) ∙ e) in
           subst (IsResting next bit) same (lulled_resting spent now next bit a b h (so_far.rests i a here)
-              (ap (λ x. x.rests) same ∙ is)))
+          (ap (λ x. x.rests) same ∙ is)))
     ]
   ];
 }
@@ -234,20 +241,20 @@ pub spent_step : (spent : Bool) (now next : Rest) (bit : ℕ) (plan : List Talke
     AreSpent next plan (set new i b)
 spent_step spent now next bit plan new i a b talker room here planned h none so_far is_spent k m t e f is =
     elim (cases_lt k i) [
-  | inl less ↦ (let ne : k ≢ i = omega arith in
-      so_far (h.less.spends is_spent) k m t (sym (get_set_other new i k b ne) ∙ e) f is)
-  | inr more ↦ elim (cases_lt i k) [
-    | inl less ↦ (let ne : k ≢ i = omega arith in
-        so_far (h.less.spends is_spent) k m t (sym (get_set_other new i k b ne) ∙ e) f is)
-    | inr same_place ↦ (let at : k ≡ i = omega arith in
-        let same : b ≡ m =
+      | inl less ↦ (let ne : k ≢ i = omega arith in
+          so_far (h.less.spends is_spent) k m t (sym (get_set_other new i k b ne) ∙ e) f is)
+      | inr more ↦ elim (cases_lt i k) [
+        | inl less ↦ (let ne : k ≢ i = omega arith in
+            so_far (h.less.spends is_spent) k m t (sym (get_set_other new i k b ne) ∙ e) f is)
+        | inr same_place ↦ (let at : k ≡ i = omega arith in
+            let same : b ≡ m =
             same_some b m (sym (get_set_same new i b room) ∙ ap (slice_get (set new i b)) (sym at) ∙ e) in
-        let same_talker : talker ≡ t = same_some talker t (sym planned ∙ ap (slice_get plan) (sym at) ∙ f) in
-        subst (λ x. slice_get x.frames.items m.station.completed ≡ None) same_talker
+            let same_talker : talker ≡ t = same_some talker t (sym planned ∙ ap (slice_get plan) (sym at) ∙ f) in
+            subst (λ x. slice_get x.frames.items m.station.completed ≡ None) same_talker
             (subst (λ x. slice_get talker.frames.items x.station.completed ≡ None) same
             (by h.lies (ap (λ x. x.rests) same ∙ is))))
-  ]
-]
+      ]
+    ]
   where
     by : MayLieDown now.listener bit a b → b.rests ≡ true → slice_get talker.frames.items b.station.completed ≡ None
     by (inl same) on = subst (λ x. slice_get talker.frames.items x.station.completed ≡ None) (sym same)
@@ -265,7 +272,7 @@ awake_step now next bit new i a b room here h so_far is_spent k m e = elim (case
     | inl less ↦ (let ne : k ≢ i = omega arith in none k m (sym (get_set_other new i k b ne) ∙ e))
     | inr same_place ↦ (let at : k ≡ i = omega arith in
         let same : b ≡ m =
-            same_some b m (sym (get_set_same new i b room) ∙ ap (slice_get (set new i b)) (sym at) ∙ e) in
+        same_some b m (sym (get_set_same new i b room) ∙ ap (slice_get (set new i b)) (sym at) ∙ e) in
         subst (λ x. x.rests ≡ false) same (by b.rests refl))
   ]
 ]
@@ -298,7 +305,7 @@ pub chosen_spent : (old new : Rest) (bit : ℕ) (plan : List Talker) (members : 
 chosen_spent old new bit plan members h rests spent = elim h.chosen [
   | inl same ↦ (λ s. spent (sym same.spent_is ∙ s))
   | inr none ↦ (λ s k m talker e f is. absurd (let awake = not_resting old bit members none rests k m e in
-        cc (is, awake)))
+      cc (is, awake)))
 ]
 
 pub chosen_awake : (old new : Rest) (bit : ℕ) (members : List Member) → Chooses old new → AreResting old bit members →

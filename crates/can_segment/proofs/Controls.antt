@@ -41,14 +41,16 @@ controlled_by on k trace level old mid after true h late mid_on after_on began r
     let start = t.2 in
     let sent : Transmission = record { start = start.start; frame = t.0; label = Some t.1 } in
     let begun : begun_by after.deed ≡ Some sent = begun_is after.deed true (Some sent) (s.began_is ∙ began)
-        (named_start after.deed mid.station.sending s.names (s.began_is ∙ began) ∙ start.sending_is) in
+    (named_start after.deed mid.station.sending s.names (s.began_is ∙ began) ∙ start.sending_is) in
     record {
       made = done on k trace level old mid after (Some sent) h late after_on
           (start.stands past h.stands) start.sending_is start.completed_is start.bit_is begun s;
       begins = λ other is.
           let same : sent ≡ other = some_same sent other (sym begun ∙ is) in
-          subst (IsBegun past) same (record { wants = request.wants refl past h.stands;
-                sends = start.sends past h.stands });
+          subst (IsBegun past) same (record {
+            wants = request.wants refl past h.stands;
+            sends = start.sends past h.stands;
+          });
       labelled = λ other is. let same : sent ≡ other = some_same sent other (sym begun ∙ is) in
           subst (λ x. IsSome x.label) same refl;
       names = λ label. named_reaping after.deed mid.station.sending label s.names;
@@ -80,4 +82,4 @@ pub controlled : (on k : ℕ) (trace : List Bit) (level : Bool) (old mid after :
     Controlled on k trace level mid after
 controlled on k trace level old mid after h late starts samples =
     controlled_by on k trace level old mid after mid.deed.began h late (starts.on_is ∙ h.on_is)
-        (samples.on_is ∙ starts.on_is ∙ h.on_is) refl (starts.requests (omega (arith, h.on_is, late))) samples
+    (samples.on_is ∙ starts.on_is ∙ h.on_is) refl (starts.requests (omega (arith, h.on_is, late))) samples

@@ -67,11 +67,23 @@ pub record Done (on k : ℕ) (trace : List Bit) (level : Bool) (mid after : Memb
   pub told : told_outcome (sending_now (sending_of k trace) (begun_by after.deed)) after.deed.outcome
       ≡ told_outcome after.deed.sent after.deed.outcome
   pub history : IsHistory (with_act (past_of on k trace)
-      (Some (record { begun = begun_by after.deed; driven = driven_by mid.station.node; sampled = level; event = event;
-              outcome = after.deed.outcome; reaped = after.deed.reaped })))
+      (Some (record {
+        begun = begun_by after.deed;
+        driven = driven_by mid.station.node;
+        sampled = level;
+        event = event;
+        outcome = after.deed.outcome;
+        reaped = after.deed.reaped;
+      })))
   pub stands : (bit : Bit) →
-      act_of k bit ≡ Some (record { begun = begun_by after.deed; driven = driven_by mid.station.node; sampled = level;
-            event = event; outcome = after.deed.outcome; reaped = after.deed.reaped }) →
+      act_of k bit ≡ Some (record {
+        begun = begun_by after.deed;
+        driven = driven_by mid.station.node;
+        sampled = level;
+        event = event;
+        outcome = after.deed.outcome;
+        reaped = after.deed.reaped;
+      }) →
       StandsBehind on k (trace ++ bit ∷ []) after
 
 pub done : (on k : ℕ) (trace : List Bit) (level : Bool) (old mid after : Member) (begun : Option Transmission) →
@@ -84,11 +96,17 @@ pub done : (on k : ℕ) (trace : List Bit) (level : Bool) (old mid after : Membe
 done on k trace level old mid after begun h late on_is stands sending completed bit_same begun_is s =
     let here = s.stands in
     let past = past_of on k trace in
-    let act : Act = record { begun = begun_by after.deed; driven = driven_by mid.station.node; sampled = level;
-        event = here.event; outcome = after.deed.outcome; reaped = after.deed.reaped } in
+    let act : Act = record {
+      begun = begun_by after.deed;
+      driven = driven_by mid.station.node;
+      sampled = level;
+      event = here.event;
+      outcome = after.deed.outcome;
+      reaped = after.deed.reaped;
+    } in
     let behind : StandsAfter after.station.node (with_act past (Some act)) =
-        here.stands (with_start past (begun_by after.deed))
-        (subst (λ b. StandsAfter mid.station.node (with_start past b)) (sym begun_is) stands) in
+    here.stands (with_start past (begun_by after.deed))
+    (subst (λ b. StandsAfter mid.station.node (with_start past b)) (sym begun_is) stands) in
     let now : mid.station.sending ≡ sending_now (sending_of k trace) (begun_by after.deed) =
     sending ∙ ap (λ x. sending_now x begun) h.sending_is ∙ ap (sending_now (sending_of k trace)) (sym begun_is) in
     record {

@@ -43,8 +43,14 @@ pub fresh_end : {X : Type 0} (on : X → ℕ) (xs : List X) (members : List Memb
 fresh_end on xs members i all b = record { at = b.at; size = omega (arith, b.size, all) }
 
 behind_nothing : (on k : ℕ) (m : Member) → IsFresh on m → StandsBehind on k [] m
-behind_nothing on k m f = record { on_is = f.on_is; stands = f.stands; sending_is = f.idle; completed_is = f.none_sent;
-    bit_is = omega (arith, f.bit_is); quiet = λ early. f.quiet }
+behind_nothing on k m f = record {
+  on_is = f.on_is;
+  stands = f.stands;
+  sending_is = f.idle;
+  completed_is = f.none_sent;
+  bit_is = omega (arith, f.bit_is);
+  quiet = λ early. f.quiet;
+}
 
 pub kept_fresh : (plan : SegmentPlan) (talkers controllers : List Member) →
     AreFresh (λ talker. talker.on) plan.talkers.items talkers →

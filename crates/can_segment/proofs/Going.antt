@@ -121,8 +121,8 @@ go_requests after asked transmitting stays bit level old new ports same go sends
             let h = (go.at k a n.0 ea n.1).steps e in
             subst (λ m. PortStarts after asked transmitting stays bit a m p q) (sym same_member)
             (subst (PortStarts after asked transmitting stays bit a a p) (sym same_port)
-                (unmoved_requests after asked transmitting stays bit a p h.begins_none h.quiet (sends k a p ea ep)
-                  (same p)));
+            (unmoved_requests after asked transmitting stays bit a p h.begins_none h.quiet (sends k a p ea ep)
+            (same p)));
       };
   size = refl;
   size_too = refl;
@@ -133,8 +133,12 @@ pub go_samples : (bit : ℕ) (level : Bool) (old new : List Member) → AllGo bi
     AtPlaces (λ k. IfAwake (Samples bit level)) old new
 go_samples bit level old new go = record {
   at = λ k a b p q. let s = go.at k a b p q in
-      record { rests_on = s.rests_on; stays_awake = s.stays_awake; steps =
-      λ e. goes_samples bit level a b (s.steps e) };
+      record {
+        rests_on = s.rests_on;
+        stays_awake = s.stays_awake;
+        steps =
+            λ e. goes_samples bit level a b (s.steps e);
+      };
   size = go.size;
 }
 
@@ -154,8 +158,8 @@ go_settles after asked transmitting sink stays bit level old new ports same go s
             let h = s.steps e in
             subst (PortSettles after asked transmitting sink stays bit level a b p) (sym same_port)
             (unmoved_settles after asked transmitting sink stays bit level a b p h.is_on h.on_is
-                (goes_samples_on bit level a b h) (still_quiet bit level a b h)
-                (sends k a p ea ep ∙ ap item_of (sym h.sending_is)) (same p));
+            (goes_samples_on bit level a b h) (still_quiet bit level a b h)
+            (sends k a p ea ep ∙ ap item_of (sym h.sending_is)) (same p));
       };
   size = go.size;
   size_too = refl;

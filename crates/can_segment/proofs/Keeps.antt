@@ -50,9 +50,10 @@ completed_from k (bit ∷ trace) n =
 pub clocks : (on k bit limit : ℕ) (trace : List Bit) (member : Member) → StandsBehind on k trace member →
     bit ≡ length trace → bit < limit → member.on ≤ bit →
     (bit_of member.station.node < limit) × (member.station.completed < limit)
-clocks on k bit limit trace member h here room late =
-    (omega (arith, h.bit_is, h.on_is, here, room, late),
-        omega (arith, h.completed_is, completed_from k trace 0, here, room))
+clocks on k bit limit trace member h here room late = (
+  omega (arith, h.bit_is, h.on_is, here, room, late),
+  omega (arith, h.completed_is, completed_from k trace 0, here, room),
+)
 
 pub talker_clocks : (plan : SegmentPlan) (levels : List Bool) (events : List Event) (talkers controllers : List Member)
     (bit limit : ℕ) → SegmentKept plan levels events talkers controllers → bit ≡ length levels → bit < limit →
@@ -72,7 +73,7 @@ controller_clocks plan levels events talkers controllers bit limit h here room k
     let within = slice_get_within controllers k m e in
     let t = some_there plan.controllers.items k (omega (arith, within, h.stands.controllers_size)) in
     clocks t.0.on (length plan.talkers.items + k) bit limit h.trace m (h.stands.controllers_stand k t.0 m t.1 e)
-        (here ∙ run_length h.run) room late
+    (here ∙ run_length h.run) room late
 
 pub kept_on : (plan : SegmentPlan) (levels : List Bool) (events : List Event) (bit : ℕ) (level : Bool)
     (t0 t2 c0 c2 : List Member) → SegmentKept plan levels events t0 c0 → bit ≡ length levels →
@@ -83,18 +84,24 @@ kept_on plan levels events bit level t0 t2 c0 c2 h here still m =
     let moves = subst (λ b. NodesMove plan b level t0 t2 c0 c2) at m in
     let size : length t2 ≡ length plan.talkers.items = moves.samples.size ∙ moves.starts.size ∙ h.stands.talkers_size in
     let one = made plan h.trace level t0 moves.t1 t2 c0 moves.c1 c2
-    (record { stands = h.stands; starts = moves.starts; samples = moves.samples; controls = moves.controls;
-          level_is = moves.level_is; still = omega (arith, still, run_length h.run) }) in
+    (record {
+      stands = h.stands;
+      starts = moves.starts;
+      samples = moves.samples;
+      controls = moves.controls;
+      level_is = moves.level_is;
+      still = omega (arith, still, run_length h.run);
+    }) in
     let lines : bit_lines bit t2 c2 ≡ _ =
     ap (λ b. bit_lines b t2 c2) at
     ∙ ap (λ n. (told_by start_of (length h.trace) 0 t2 ++ told_by start_of (length h.trace) n c2)
-        ++ (told_by rest_by (length h.trace) 0 t2 ++ told_by rest_by (length h.trace) n c2)) size
+    ++ (told_by rest_by (length h.trace) 0 t2 ++ told_by rest_by (length h.trace) n c2)) size
     ∙ sym one.tells in
     record {
       trace = h.trace ++ one.bit ∷ [];
       run = subst (λ l. Run plan (h.trace ++ one.bit ∷ []) (levels ++ l ∷ []) (events ++ bit_lines bit t2 c2))
           one.level_is
           (subst (λ es. Run plan (h.trace ++ one.bit ∷ []) (levels ++ one.bit.level ∷ []) (events ++ es)) (sym lines)
-              (one_more one.bit h.run one.is_bit));
+          (one_more one.bit h.run one.is_bit));
       stands = one.stands;
     }

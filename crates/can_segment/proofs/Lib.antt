@@ -28,3 +28,5 @@ pub mod Wholes
 pub mod Going
 pub mod SoleSender
 pub mod QuietBits
+pub mod SendRuns
+pub mod QuietRuns

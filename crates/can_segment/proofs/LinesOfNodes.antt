@@ -24,13 +24,13 @@ pub of-same : (node bit : ℕ) (ts : List Told) → told_of node (lines bit node
 of-same node bit [] = refl
 of-same node bit (t ∷ ts) =
     ap (λ b. cond b (t ∷ told_of node (lines bit node ts)) (told_of node (lines bit node ts))) (eq-eqb node node refl)
-        ∙ ap (λ xs. t ∷ xs) (of-same node bit ts)
+    ∙ ap (λ xs. t ∷ xs) (of-same node bit ts)
 
 pub of-other : (node bit n : ℕ) (ts : List Told) → n ≢ node → told_of node (lines bit n ts) ≡ []
 of-other node bit n [] ne = refl
 of-other node bit n (t ∷ ts) ne =
     ap (λ b. cond b (t ∷ told_of node (lines bit n ts)) (told_of node (lines bit n ts))) (ne_eqb n node ne)
-        ∙ of-other node bit n ts ne
+    ∙ of-other node bit n ts ne
 
 -- nodes behind this one tell nothing of it
 of-behind : (tells : Deed → List Told) (bit first node : ℕ) (members : List Member) → node < first →
@@ -40,7 +40,7 @@ of-behind tells bit first node [] less = refl
 of-behind tells bit first node (m ∷ ms) less =
     of-append node (lines bit first (tells m.deed)) (told_by tells bit (first + 1) ms)
     ∙ ap (λ xs. xs ++ told_of node (told_by tells bit (first + 1) ms))
-        (of-other node bit first (tells m.deed) (λ e. omega (arith, e, less)))
+    (of-other node bit first (tells m.deed) (λ e. omega (arith, e, less)))
     ∙ of-behind tells bit (first + 1) node ms (omega (arith, less))
 
 -- nor do nodes in front of it
@@ -51,7 +51,7 @@ of-front tells bit first node [] more = refl
 of-front tells bit first node (m ∷ ms) more =
     of-append node (lines bit first (tells m.deed)) (told_by tells bit (first + 1) ms)
     ∙ ap (λ xs. xs ++ told_of node (told_by tells bit (first + 1) ms))
-        (of-other node bit first (tells m.deed) (λ e. omega (arith, e, more)))
+    (of-other node bit first (tells m.deed) (λ e. omega (arith, e, more)))
     ∙ of-front tells bit (first + 1) node ms (omega (arith, more))
 
 -- and each node tells its own
@@ -71,7 +71,7 @@ of-its_own tells bit first (suc k) (x ∷ ms) m e =
     let here : first + suc k ≡ first + 1 + k = omega arith in
     of-append (first + suc k) (lines bit first (tells x.deed)) (told_by tells bit (first + 1) ms)
     ∙ ap (λ xs. xs ++ told_of (first + suc k) (told_by tells bit (first + 1) ms))
-        (of-other (first + suc k) bit first (tells x.deed) (λ e. omega (arith, e)))
+    (of-other (first + suc k) bit first (tells x.deed) (λ e. omega (arith, e)))
     ∙ ap (λ n. told_of n (told_by tells bit (first + 1) ms)) here ∙ of-its_own tells bit (first + 1) k ms m e
 
 -- what the lines of a bit tell of a controller
@@ -81,13 +81,13 @@ pub of_controller : (bit : ℕ) (talkers controllers : List Member) (k : ℕ) (m
 of_controller bit talkers controllers k m e =
     let n = length talkers + k in
     let half : (tells : Deed → List Told) →
-        told_of n (told_by tells bit 0 talkers ++ told_by tells bit (length talkers) controllers) ≡ tells m.deed =
+    told_of n (told_by tells bit 0 talkers ++ told_by tells bit (length talkers) controllers) ≡ tells m.deed =
     λ tells. of-append n (told_by tells bit 0 talkers) (told_by tells bit (length talkers) controllers)
     ∙ ap (λ xs. xs ++ told_of n (told_by tells bit (length talkers) controllers))
-        (of-front tells bit 0 n talkers (omega arith))
+    (of-front tells bit 0 n talkers (omega arith))
     ∙ of-its_own tells bit (length talkers) k controllers m e in
     of-append n (told_by start_of bit 0 talkers ++ told_by start_of bit (length talkers) controllers)
-        (told_by rest_by bit 0 talkers ++ told_by rest_by bit (length talkers) controllers)
+    (told_by rest_by bit 0 talkers ++ told_by rest_by bit (length talkers) controllers)
     ∙ ap (λ xs. xs ++ told_of n (told_by rest_by bit 0 talkers ++ told_by rest_by bit (length talkers) controllers))
-        (half start_of)
+    (half start_of)
     ∙ ap (λ xs. start_of m.deed ++ xs) (half rest_by)

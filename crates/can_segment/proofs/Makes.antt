@@ -49,9 +49,9 @@ told_all : (tells : ℕ → List Told) (by : Deed → List Told) (bit : ℕ) (ta
 told_all tells by bit talkers controllers ht hc =
     lines_split tells bit 0 (length talkers) (length controllers)
     ∙ ap (λ es. es ++ lines_from tells bit (0 + length talkers) (length controllers))
-        (lines_told tells by bit 0 talkers (λ i m e. ap tells (omega arith) ∙ ht i m e))
+    (lines_told tells by bit 0 talkers (λ i m e. ap tells (omega arith) ∙ ht i m e))
     ∙ ap (λ es. told_by by bit 0 talkers ++ es) (ap (λ n. lines_from tells bit n (length controllers)) (omega arith)
-        ∙ lines_told tells by bit (length talkers) controllers hc)
+    ∙ lines_told tells by bit (length talkers) controllers hc)
 
 pub made : (plan : SegmentPlan) (trace : List Bit) (level : Bool) (t0 t1 t2 c0 c1 c2 : List Member) →
     Making plan trace level t0 t1 t2 c0 c1 c2 → Made plan trace level t2 c2
@@ -67,65 +67,69 @@ made plan trace level t0 t1 t2 c0 c1 c2 m =
     let c1_size : length c1 ≡ length plan.controllers.items = m.controls.mid_size ∙ m.stands.controllers_size in
     let c2_size : length c2 ≡ length plan.controllers.items = m.controls.after_size ∙ c1_size in
     let size : length acts ≡ length t2 + length c2 =
-        omega (arith, length-append tc.acts cc.acts, tc.size, cc.size, t2_size, c2_size) in
+    omega (arith, length-append tc.acts cc.acts, tc.size, cc.size, t2_size, c2_size) in
     let drive : list_all drives acts ≡ (list_all (drives_at b) t1 && list_all (drives_at b) c1) =
     list_all-append drives tc.acts cc.acts
     ∙ ap (λ x. x && list_all drives cc.acts)
-        (drives_all (TalkerActed plan trace level) b 0 plan.talkers.items t1 t2 tc t1_size t2_size
-        (λ x k mid after act acted. acted.drives_is))
+    (drives_all (TalkerActed plan trace level) b 0 plan.talkers.items t1 t2 tc t1_size t2_size
+    (λ x k mid after act acted. acted.drives_is))
     ∙ ap (λ x. list_all (drives_at b) t1 && x)
-        (drives_all (ControllerActed plan trace level) b n plan.controllers.items c1 c2 cc c1_size c2_size
-        (λ x k mid after act acted. acted.drives_is)) in
+    (drives_all (ControllerActed plan trace level) b n plan.controllers.items c1 c2 cc c1_size c2_size
+    (λ x k mid after act acted. acted.drives_is)) in
     let talker_at : (i : ℕ) (talker : Talker) → slice_get plan.talkers.items i ≡ Some talker →
-        (mid : Member) × (after : Member) × (slice_get t2 i ≡ Some after)
+    (mid : Member) × (after : Member) × (slice_get t2 i ≡ Some after)
     × Placed (Talks trace talker.frames.items talker.on) talker.on i trace
-        (λ k. sampled_level plan.node_faults.items k b level) mid after bit =
+    (λ k. sampled_level plan.node_faults.items k b level) mid after bit =
     λ i talker p.
     let within = slice_get_within plan.talkers.items i talker p in
     let mid = some_there t1 i (omega (arith, within, t1_size)) in
     let after = some_there t2 i (omega (arith, within, t2_size)) in
     (mid.0, after.0, after.1, talker_placed plan trace level t1 t2 cc.acts tc i talker mid.0 after.0 p mid.1 after.1) in
     let controller_at : (i : ℕ) (controller : Controller) → slice_get plan.controllers.items i ≡ Some controller →
-        (mid : Member) × (after : Member) × (slice_get c2 i ≡ Some after)
+    (mid : Member) × (after : Member) × (slice_get c2 i ≡ Some after)
     × Placed (Controls trace) controller.on (n + i) trace (λ k. sampled_level plan.node_faults.items k b level) mid
-        after bit =
+    after bit =
     λ i controller p.
     let within = slice_get_within plan.controllers.items i controller p in
     let mid = some_there c1 i (omega (arith, within, c1_size)) in
-    let after = some_there c2 i (omega (arith, within, c2_size)) in
-    (mid.0, after.0, after.1, controller_placed plan trace level c1 c2 tc.acts tc.size cc i controller mid.0 after.0 p
-        mid.1 after.1) in
+    let after = some_there c2 i (omega (arith, within, c2_size)) in (
+      mid.0,
+      after.0,
+      after.1,
+      controller_placed plan trace level c1 c2 tc.acts tc.size cc i controller mid.0 after.0 p
+          mid.1 after.1,
+    ) in
     let start_t : (i : ℕ) (x : Member) → slice_get t2 i ≡ Some x → starts_of (act_of i bit) ≡ start_of x.deed =
     λ i x e.
     let talker =
-        some_there plan.talkers.items i (let within = slice_get_within t2 i x e in omega (arith, within, t2_size)) in
+    some_there plan.talkers.items i (let within = slice_get_within t2 i x e in omega (arith, within, t2_size)) in
     let p = talker_at i talker.0 talker.1 in
     ap starts_of p.3.is_its ∙ p.3.acted.starts ∙ ap (λ y. start_of y.deed) (same_some p.1 x (sym p.2 ∙ e)) in
     let rest_t : (i : ℕ) (x : Member) → slice_get t2 i ≡ Some x → rest_of (sending_of i trace) (act_of i bit)
-        ≡ rest_by x.deed =
+    ≡ rest_by x.deed =
     λ i x e.
     let talker =
-        some_there plan.talkers.items i (let within = slice_get_within t2 i x e in omega (arith, within, t2_size)) in
+    some_there plan.talkers.items i (let within = slice_get_within t2 i x e in omega (arith, within, t2_size)) in
     let p = talker_at i talker.0 talker.1 in
     ap (rest_of (sending_of i trace)) p.3.is_its ∙ p.3.acted.rest
-        ∙ ap (λ y. rest_by y.deed) (same_some p.1 x (sym p.2 ∙ e)) in
+    ∙ ap (λ y. rest_by y.deed) (same_some p.1 x (sym p.2 ∙ e)) in
     let start_c : (i : ℕ) (x : Member) → slice_get c2 i ≡ Some x → starts_of (act_of (length t2 + i) bit)
-        ≡ start_of x.deed =
+    ≡ start_of x.deed =
     λ i x e.
     let controller = some_there plan.controllers.items i (let within = slice_get_within c2 i x e in
-        omega (arith, within, c2_size)) in
+    omega (arith, within, c2_size)) in
     let p = controller_at i controller.0 controller.1 in
     ap (λ k. starts_of (act_of (k + i) bit)) t2_size ∙ ap starts_of p.3.is_its ∙ p.3.acted.starts
-        ∙ ap (λ y. start_of y.deed) (same_some p.1 x (sym p.2 ∙ e)) in
+    ∙ ap (λ y. start_of y.deed) (same_some p.1 x (sym p.2 ∙ e)) in
     let rest_c : (i : ℕ) (x : Member) → slice_get c2 i ≡ Some x →
-        rest_of (sending_of (length t2 + i) trace) (act_of (length t2 + i) bit) ≡ rest_by x.deed =
+    rest_of (sending_of (length t2 + i) trace) (act_of (length t2 + i) bit) ≡ rest_by x.deed =
     λ i x e.
     let controller = some_there plan.controllers.items i (let within = slice_get_within c2 i x e in
-        omega (arith, within, c2_size)) in
+    omega (arith, within, c2_size)) in
     let p = controller_at i controller.0 controller.1 in
     ap (λ k. rest_of (sending_of (k + i) trace) (act_of (k + i) bit)) t2_size
-        ∙ ap (rest_of (sending_of (n + i) trace)) p.3.is_its ∙ p.3.acted.rest
-        ∙ ap (λ y. rest_by y.deed) (same_some p.1 x (sym p.2 ∙ e)) in
+    ∙ ap (rest_of (sending_of (n + i) trace)) p.3.is_its ∙ p.3.acted.rest
+    ∙ ap (λ y. rest_by y.deed) (same_some p.1 x (sym p.2 ∙ e)) in
     record {
       bit = bit;
       level_is = refl;
@@ -144,19 +148,19 @@ made plan trace level t0 t1 t2 c0 c1 c2 m =
         talkers_stand = λ k talker member e f.
             let p = talker_at k talker e in
             subst (StandsBehind talker.on k (trace ++ bit ∷ [])) (same_some p.1 member (sym p.2 ∙ f))
-                (stands_at plan (Talks trace talker.frames.items talker.on) talker.on k trace bit p.0 p.1 p.3);
+            (stands_at plan (Talks trace talker.frames.items talker.on) talker.on k trace bit p.0 p.1 p.3);
         controllers_stand = λ k controller member e f.
             let p = controller_at k controller e in
             subst (StandsBehind controller.on (n + k) (trace ++ bit ∷ [])) (same_some p.1 member (sym p.2 ∙ f))
-                (stands_at plan (Controls trace) controller.on (n + k) trace bit p.0 p.1 p.3);
+            (stands_at plan (Controls trace) controller.on (n + k) trace bit p.0 p.1 p.3);
       };
       tells =
           ap (λ k. lines_from (λ i. starts_of (act_of i bit)) b 0 k
-              ++ lines_from (λ i. rest_of (sending_of i trace) (act_of i bit)) b 0 k) size
+          ++ lines_from (λ i. rest_of (sending_of i trace) (act_of i bit)) b 0 k) size
           ∙ ap (λ es. es ++ lines_from (λ i. rest_of (sending_of i trace) (act_of i bit)) b 0 (length t2 + length c2))
-              (told_all (λ i. starts_of (act_of i bit)) start_of b t2 c2 start_t start_c)
+          (told_all (λ i. starts_of (act_of i bit)) start_of b t2 c2 start_t start_c)
           ∙ ap (λ es. (told_by start_of b 0 t2 ++ told_by start_of b (length t2) c2) ++ es)
-              (told_all (λ i. rest_of (sending_of i trace) (act_of i bit)) rest_by b t2 c2 rest_t rest_c)
+          (told_all (λ i. rest_of (sending_of i trace) (act_of i bit)) rest_by b t2 c2 rest_t rest_c)
           ∙ ap (λ k. (told_by start_of b 0 t2 ++ told_by start_of b k c2)
-              ++ (told_by rest_by b 0 t2 ++ told_by rest_by b k c2)) t2_size;
+          ++ (told_by rest_by b 0 t2 ++ told_by rest_by b k c2)) t2_size;
     }

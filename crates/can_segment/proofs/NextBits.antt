@@ -30,7 +30,7 @@ pub record Made (plan : SegmentPlan) (trace : List Bit) (level : Bool)
   pub tells : events_at trace bit ≡ (told_by start_of (length trace) 0 talkers
       ++ told_by start_of (length trace) (length plan.talkers.items) controllers)
       ++ (told_by rest_by (length trace) 0 talkers ++ told_by rest_by (length trace)
-          (length plan.talkers.items) controllers)
+      (length plan.talkers.items) controllers)
 
 -- the acts at a bit, by their places
 abbrev pub acts_bit : Bool → List (Option Act) → Bit
@@ -88,29 +88,29 @@ pub record Making (plan : SegmentPlan) (trace : List Bit) (level : Bool)
 abbrev pub TalkerActed : SegmentPlan → List Bit → Bool → Talker → ℕ → Member → Member → Option Act → Type 0
 TalkerActed plan trace level talker k mid after act =
     Acted (Talks trace talker.frames.items talker.on k) talker.on k trace
-        (sampled_level plan.node_faults.items k (length trace) level) mid after act
+    (sampled_level plan.node_faults.items k (length trace) level) mid after act
 
 abbrev pub ControllerActed : SegmentPlan → List Bit → Bool → Controller → ℕ → Member → Member → Option Act → Type 0
 ControllerActed plan trace level controller k mid after act =
     Acted (Controls trace k) controller.on k trace (sampled_level plan.node_faults.items k (length trace) level) mid
-        after act
+    after act
 
 pub talkers_acts : (plan : SegmentPlan) (trace : List Bit) (level : Bool) (t0 t1 t2 c0 c1 c2 : List Member) →
     Making plan trace level t0 t1 t2 c0 c1 c2 →
     Collected (TalkerActed plan trace level) 0 plan.talkers.items t1 t2
 talkers_acts plan trace level t0 t1 t2 c0 c1 c2 m =
     collect (TalkerActed plan trace level) 0 plan.talkers.items t1 t2 (m.starts.size ∙ m.stands.talkers_size)
-        (m.samples.size ∙ m.starts.size ∙ m.stands.talkers_size)
+    (m.samples.size ∙ m.starts.size ∙ m.stands.talkers_size)
     (λ i talker mid after p q r.
     let old = some_there t0 i (let within = slice_get_within t1 i mid q in omega (arith, within, m.starts.size)) in
     let here : i ≡ 0 + i = omega arith in
     let stood : StandsBehind talker.on (0 + i) trace old.0 =
-        subst (λ n. StandsBehind talker.on n trace old.0) here (m.stands.talkers_stand i talker old.0 p old.1) in
+    subst (λ n. StandsBehind talker.on n trace old.0) here (m.stands.talkers_stand i talker old.0 p old.1) in
     let sampled = subst (λ n. TalkerSamples (length trace) level plan.node_faults.items n mid after) here
-        (m.samples.at i mid after q r) in
+    (m.samples.at i mid after q r) in
     talker_acts talker.on (0 + i) trace talker.frames.items
-        (sampled_level plan.node_faults.items (0 + i) (length trace) level) old.0 mid after stood
-        (m.starts.at i old.0 mid old.1 q talker p) sampled)
+    (sampled_level plan.node_faults.items (0 + i) (length trace) level) old.0 mid after stood
+    (m.starts.at i old.0 mid old.1 q talker p) sampled)
 
 pub controllers_acts : (plan : SegmentPlan) (trace : List Bit) (level : Bool) (t0 t1 t2 c0 c1 c2 : List Member) →
     Making plan trace level t0 t1 t2 c0 c1 c2 →
@@ -118,23 +118,23 @@ pub controllers_acts : (plan : SegmentPlan) (trace : List Bit) (level : Bool) (t
 controllers_acts plan trace level t0 t1 t2 c0 c1 c2 m =
     let n = length plan.talkers.items in
     collect (ControllerActed plan trace level) n plan.controllers.items c1 c2
-        (m.controls.mid_size ∙ m.stands.controllers_size) (m.controls.after_size ∙ m.controls.mid_size
-        ∙ m.stands.controllers_size)
+    (m.controls.mid_size ∙ m.stands.controllers_size) (m.controls.after_size ∙ m.controls.mid_size
+    ∙ m.stands.controllers_size)
     (λ i controller mid after p q r.
     let old =
-        some_there c0 i (let within = slice_get_within c1 i mid q in omega (arith, within, m.controls.mid_size)) in
+    some_there c0 i (let within = slice_get_within c1 i mid q in omega (arith, within, m.controls.mid_size)) in
     controller_acts controller.on (n + i) trace (sampled_level plan.node_faults.items (n + i) (length trace) level)
-        old.0 mid after (m.stands.controllers_stand i controller old.0 p old.1)
+    old.0 mid after (m.stands.controllers_stand i controller old.0 p old.1)
     (m.controls.starts i old.0 mid old.1 q) (m.controls.settles i mid after q r))
 
 -- the same, in their places among all acts
 pub talker_placed : (plan : SegmentPlan) (trace : List Bit) (level : Bool) (t1 t2 : List Member)
     (others : List (Option Act)) (tc : Collected (TalkerActed plan trace level) 0 plan.talkers.items t1 t2)
     (i : ℕ) (talker : Talker) (mid after : Member) → slice_get plan.talkers.items i ≡ Some talker →
-        slice_get t1 i ≡ Some mid → slice_get t2 i ≡ Some after →
+    slice_get t1 i ≡ Some mid → slice_get t2 i ≡ Some after →
     Placed (Talks trace talker.frames.items talker.on) talker.on i trace
-        (λ n. sampled_level plan.node_faults.items n (length trace) level) mid after
-        (acts_bit level (tc.acts ++ others))
+    (λ n. sampled_level plan.node_faults.items n (length trace) level) mid after
+    (acts_bit level (tc.acts ++ others))
 talker_placed plan trace level t1 t2 others tc i talker mid after p q r =
     let x = tc.at i talker mid after p q r in
     let found = get_left tc.acts others i x.0 x.1 in
@@ -150,13 +150,18 @@ pub controller_placed : (plan : SegmentPlan) (trace : List Bit) (level : Bool) (
     (others : List (Option Act)) → length others ≡ length plan.talkers.items →
     (cc : Collected (ControllerActed plan trace level) (length plan.talkers.items) plan.controllers.items c1 c2)
     (i : ℕ) (controller : Controller) (mid after : Member) → slice_get plan.controllers.items i ≡ Some controller →
-        slice_get c1 i ≡ Some mid → slice_get c2 i ≡ Some after →
+    slice_get c1 i ≡ Some mid → slice_get c2 i ≡ Some after →
     Placed (Controls trace) controller.on (length plan.talkers.items + i) trace
-        (λ n. sampled_level plan.node_faults.items n (length trace) level) mid after
-        (acts_bit level (others ++ cc.acts))
+    (λ n. sampled_level plan.node_faults.items n (length trace) level) mid after
+    (acts_bit level (others ++ cc.acts))
 controller_placed plan trace level c1 c2 others size c i controller mid after p q r =
     let x = c.at i controller mid after p q r in
     let found : slice_get (others ++ c.acts) (length plan.talkers.items + i) ≡ Some x.0 =
-        ap (λ n. slice_get (others ++ c.acts) (n + i)) (sym size) ∙ get_right others c.acts i ∙ x.1 in
-    record { act = x.0; found = found; is_its =
-        act_found level (others ++ c.acts) (length plan.talkers.items + i) x.0 found; acted = x.2 }
+    ap (λ n. slice_get (others ++ c.acts) (n + i)) (sym size) ∙ get_right others c.acts i ∙ x.1 in
+    record {
+      act = x.0;
+      found = found;
+      is_its =
+          act_found level (others ++ c.acts) (length plan.talkers.items + i) x.0 found;
+      acted = x.2;
+    }

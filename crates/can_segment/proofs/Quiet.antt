@@ -22,7 +22,7 @@ unfolding told_by
 told_nothing tells bit node [] h = refl
 told_nothing tells bit node (m ∷ members) h =
     ap (λ ts. lines bit node ts ++ told_by tells bit (node + 1) members) (h zero m refl)
-        ∙ told_nothing tells bit (node + 1) members (λ k x e. h (suc k) x e)
+    ∙ told_nothing tells bit (node + 1) members (λ k x e. h (suc k) x e)
 
 quiet_starts : (deed : Deed) → IsQuiet deed → start_of deed ≡ []
 quiet_starts deed quiet = ap (λ b. told_start (cond b deed.sent None)) quiet.no_start
@@ -53,18 +53,18 @@ quiet_lines plan levels events bit talkers controllers h size quiet_talkers quie
     let within = slice_get_within talkers k m e in
     let planned = some_there plan.talkers.items k (omega (arith, within, h.stands.talkers_size)) in
     quiet_deed planned.0.on k bit h.trace m (h.stands.talkers_stand k planned.0 m planned.1 e) behind
-        (quiet_talkers k m e) in
+    (quiet_talkers k m e) in
     let controller : (k : ℕ) (m : Member) → slice_get controllers k ≡ Some m → IsQuiet m.deed =
     λ k m e.
     let within = slice_get_within controllers k m e in
     let planned = some_there plan.controllers.items k (omega (arith, within, h.stands.controllers_size)) in
     quiet_deed planned.0.on (length plan.talkers.items + k) bit h.trace m
-        (h.stands.controllers_stand k planned.0 m planned.1 e) behind (quiet_controllers k m e) in
+    (h.stands.controllers_stand k planned.0 m planned.1 e) behind (quiet_controllers k m e) in
     let none : (tells : Deed → List Told) → ((deed : Deed) → IsQuiet deed → tells deed ≡ []) →
-        told_by tells bit 0 talkers ++ told_by tells bit (length talkers) controllers ≡ [] =
+    told_by tells bit 0 talkers ++ told_by tells bit (length talkers) controllers ≡ [] =
     λ tells nothing.
     ap (λ es. es ++ told_by tells bit (length talkers) controllers)
-        (told_nothing tells bit 0 talkers (λ k m e. nothing m.deed (talker k m e)))
+    (told_nothing tells bit 0 talkers (λ k m e. nothing m.deed (talker k m e)))
     ∙ told_nothing tells bit (length talkers) controllers (λ k m e. nothing m.deed (controller k m e)) in
     ap (λ es. es ++ (told_by rest_by bit 0 talkers ++ told_by rest_by bit (length talkers) controllers))
-        (none start_of quiet_starts) ∙ none rest_by quiet_rests
+    (none start_of quiet_starts) ∙ none rest_by quiet_rests

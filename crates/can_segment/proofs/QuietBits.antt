@@ -15,7 +15,8 @@ use Rattle.can_segment.specs.Moves.{NodesMove}
 use Rattle.can_station.specs.Ports.{item_of}
 use Rattle.can_segment.specs.Rests.{RestHolds, GoesQuietly, members_at}
 use Rattle.can_station.specs.RestingNodes.{TransmitsAll}
-use Rattle.can_segment.specs.Segments.{AreFrom, SegmentHolds, SegmentValue, sending_of_all}
+use Rattle.can_segment.specs.Segments.{AreFrom, ListsHold, SegmentHolds, SegmentValue, sending_of_all}
+use Rattle.can_confinement.specs.declared.counters.Counters.{Counters}
 use Rattle.can_station.specs.Tellings.{bit_lines}
 use Rattle.can_segment.specs.QuietBits.{GrowsQuietly, MakesQuietBit, MakeQuietBits}
 use Rattle.can_segment.specs.QuietBits.MakeQuietBits.{no_bit, one_more}
@@ -37,22 +38,25 @@ nodes_move_alone plan bit level old new t0 t1 c0 c1 h rests faultless =
     let whole = members_at old bit c0 in
     let ports = sending_of_all whole in
     let port : (k : ℕ) (m : Member) → slice_get whole k ≡ Some m → slice_get ports k
-        ≡ Some (item_of m.station.sending) =
-        λ k m e. map_there (λ member. item_of member.station.sending) whole k m e in
+    ≡ Some (item_of m.station.sending) =
+    λ k m e. map_there (λ member. item_of member.station.sending) whole k m e in
     let sends : TransmitsAll (λ p. p) whole ports =
-        λ k m p e f. same_some p (item_of m.station.sending) (sym f ∙ port k m e) in
+    λ k m p e f. same_some p (item_of m.station.sending) (sym f ∙ port k m e) in
     let sizes = length-map whole (λ member. item_of member.station.sending) ∙ members_length old bit c0 in
     let starts = controllers_start_alone (λ p past. Unit {0}) (λ p calls. Unit {0}) (λ p. p)
-        (λ p q. Unit {0}) plan.talkers.items bit level old new t0 t1 c0 c1 ports (λ p. tt) h rests sends sizes in
+    (λ p q. Unit {0}) plan.talkers.items bit level old new t0 t1 c0 c1 ports (λ p. tt) h rests sends sizes in
     let settles = controllers_settle_alone (λ p past. Unit {0}) (λ p calls. Unit {0}) (λ p. p) (λ p past. Unit {0})
-        (λ p q. Unit {0}) plan.talkers.items bit level old new t0 t1 c0 c1 ports (λ p. tt) h rests sends sizes in
+    (λ p q. Unit {0}) plan.talkers.items bit level old new t0 t1 c0 c1 ports (λ p. tt) h rests sends sizes in
     let samples = talkers_sample_alone plan.talkers.items bit level old new t0 t1 c0 c1 h rests in
     record {
       t1 = members_at old bit t0;
       c1 = whole;
       starts = talkers_start_alone plan.talkers.items bit level old new t0 t1 c0 c1 h rests;
-      samples = record { at = λ k a b e f. subst (λ l. Samples bit l a b) (sym (faultless.nodes k level))
-          (samples.at k a b e f); size = samples.size };
+      samples = record {
+        at = λ k a b e f. subst (λ l. Samples bit l a b) (sym (faultless.nodes k level))
+            (samples.at k a b e f);
+        size = samples.size;
+      };
       controls = record {
         starts = λ k a b ea eb. (starts.at k a b _ _ ea eb (port k a ea) (port k a ea)).member;
         settles = λ k a b ea eb. subst (λ l. SamplesAndSettles bit l a b)
@@ -83,11 +87,11 @@ kept_quietly plan levels events level old new t0 t1 c0 c1 kept still h rests fau
     let talkers = members_at new (bit + 1) t1 in
     let controllers = members_at new (bit + 1) c1 in
     let next = kept_on plan levels events bit level (members_at old bit t0) talkers
-        (members_at old bit c0) controllers kept refl still
-        (nodes_move_alone plan bit level old new t0 t1 c0 c1 h rests faultless) in
+    (members_at old bit c0) controllers kept refl still
+    (nodes_move_alone plan bit level old new t0 t1 c0 c1 h rests faultless) in
     let quiet = quiet_alone plan.talkers.items bit level old new t0 t1 c0 c1 h rests in
     let none = quiet_lines plan (levels ++ level ∷ []) (events ++ bit_lines bit talkers controllers) bit talkers
-        controllers next (length-append levels (level ∷ []) ∙ omega arith) quiet.0 quiet.1 in
+    controllers next (length-append levels (level ∷ []) ∙ omega arith) quiet.0 quiet.1 in
     record {
       no_lines = none;
       kept = subst (λ es. SegmentKept plan (levels ++ level ∷ []) es talkers controllers)
@@ -95,42 +99,45 @@ kept_quietly plan levels events level old new t0 t1 c0 c1 kept still h rests fau
     }
 
 -- and all else stands as it stood
-pub holds_quietly : (plan : SegmentPlan) (made next : Record) (level : Bool) (old new : Rest)
-    (t0 t1 c0 c1 : List Member) →
-    SegmentHolds plan made (members_at old (length made.levels.items) t0)
-    (members_at old (length made.levels.items) c0) →
-    KeptQuietly plan made.levels.items made.events.items level new t1 c1 →
-    GoesQuietly (length made.levels.items) level old new t0 t1 c0 c1 →
-    RestHolds old (length made.levels.items) plan.talkers.items t0 c0 → next.levels.items ≡ made.levels.items
-    ++ level ∷ [] → next.events.items ≡ made.events.items → next.counters.items ≡ made.counters.items →
-    SegmentHolds plan next (members_at new (length next.levels.items) t1) (members_at new (length next.levels.items) c1)
-holds_quietly plan made next level old new t0 t1 c0 c1 held quiet h rests levels_is events_are counters_are =
-    let bit = length made.levels.items in
+pub holds_quietly : (plan : SegmentPlan) (levels : List Bool) (events : List Event) (counters : List Counters)
+    (level : Bool) (old new : Rest) (t0 t1 c0 c1 : List Member) →
+    ListsHold plan levels events counters (members_at old (length levels) t0) (members_at old (length levels) c0) →
+    KeptQuietly plan levels events level new t1 c1 → GoesQuietly (length levels) level old new t0 t1 c0 c1 →
+    RestHolds old (length levels) plan.talkers.items t0 c0 →
+    ListsHold plan (levels ++ level ∷ []) events counters (members_at new (length levels + 1) t1)
+    (members_at new (length levels + 1) c1)
+holds_quietly plan levels events counters level old new t0 t1 c0 c1 held quiet h rests =
+    let bit = length levels in
     let talkers = members_at new (bit + 1) t1 in
     let before = held.kept.stands in
     let behind = quiet.kept.stands in
-    let longer : bit + 1 ≡ length next.levels.items =
-        sym (ap length levels_is ∙ length-append made.levels.items (level ∷ [])) in
     let size : length (members_at old bit t0) ≡ length talkers = before.talkers_size ∙ sym behind.talkers_size in
-    subst (λ n. SegmentHolds plan next (members_at new n t1) (members_at new n c1)) longer
-    (record {
-      kept = subst (λ ls. SegmentKept plan ls next.events.items talkers (members_at new (bit + 1) c1)) (sym levels_is)
-          (subst (λ es. SegmentKept plan (made.levels.items ++ level ∷ []) es talkers (members_at new (bit + 1) c1))
-              (sym events_are) quiet.kept);
-      few = omega (arith, held.few, before.talkers_size, before.controllers_size, behind.talkers_size,
-          behind.controllers_size);
-      size = omega (arith, ap length counters_are, held.size, before.talkers_size, before.controllers_size,
-          behind.talkers_size, behind.controllers_size);
-      talkers_shown = subst (AreFrom 0 talkers) (sym counters_are)
-          (from_real 0 new (bit + 1) t1 made.counters.items
-          ((shown_alone 0 plan.talkers.items bit level old new t0 t1 c0 c1 made.counters.items h rests).0
-              (from_whole 0 old bit t0 made.counters.items held.talkers_shown)));
-      controllers_shown = subst (AreFrom (length talkers) (members_at new (bit + 1) c1)) (sym counters_are)
-          (from_real (length talkers) new (bit + 1) c1 made.counters.items
-          ((shown_alone (length talkers) plan.talkers.items bit level old new t0 t1 c0 c1 made.counters.items h rests).1
-          (subst (λ n. AreFrom n c0 made.counters.items) size
-              (from_whole (length (members_at old bit t0)) old bit c0 made.counters.items held.controllers_shown))));
-    })
+    record {
+      kept = quiet.kept;
+      few = omega (
+        arith,
+        held.few,
+        before.talkers_size,
+        before.controllers_size,
+        behind.talkers_size,
+        behind.controllers_size,
+      );
+      size = omega (
+        arith,
+        held.size,
+        before.talkers_size,
+        before.controllers_size,
+        behind.talkers_size,
+        behind.controllers_size,
+      );
+      talkers_shown = from_real 0 new (bit + 1) t1 counters
+          ((shown_alone 0 plan.talkers.items bit level old new t0 t1 c0 c1 counters h rests).0
+          (from_whole 0 old bit t0 counters held.talkers_shown));
+      controllers_shown = from_real (length talkers) new (bit + 1) c1 counters
+          ((shown_alone (length talkers) plan.talkers.items bit level old new t0 t1 c0 c1 counters h rests).1
+          (subst (λ n. AreFrom n c0 counters) size
+          (from_whole (length (members_at old bit t0)) old bit c0 counters held.controllers_shown)));
+    }
 
 -- so the record that grew quietly is that of a run, behind which all stands,
 pub grown_kept : (plan : SegmentPlan) (faults : FaultOrder) (made next : Record) (old new : Rest)
@@ -142,7 +149,7 @@ pub grown_kept : (plan : SegmentPlan) (faults : FaultOrder) (made next : Record)
     KeptQuietly plan made.levels.items made.events.items h.level new t1 c1
 grown_kept plan faults made next old new t0 t1 c0 c1 h holds still stands rests =
     kept_quietly plan made.levels.items made.events.items h.level old new t0 t1 c0 c1 holds.kept still h.sends rests
-        (h.faultless plan stands)
+    (h.faultless plan stands)
 
 pub grown_holds : (plan : SegmentPlan) (faults : FaultOrder) (made next : Record) (old new : Rest)
     (t0 t1 c0 c1 : List Member) → GrowsQuietly faults made next old new t0 t1 c0 c1 →
@@ -152,9 +159,11 @@ pub grown_holds : (plan : SegmentPlan) (faults : FaultOrder) (made next : Record
     RestHolds old (length made.levels.items) plan.talkers.items t0 c0 →
     SegmentHolds plan next (members_at new (length next.levels.items) t1) (members_at new (length next.levels.items) c1)
 grown_holds plan faults made next old new t0 t1 c0 c1 h holds still stands rests =
-    holds_quietly plan made next h.level old new t0 t1 c0 c1 holds
-        (grown_kept plan faults made next old new t0 t1 c0 c1 h holds still stands rests) h.sends rests h.levels_is
-        (ap (λ v. v.items) h.events_is) (ap (λ v. v.items) h.counters_is)
+    let longer : length next.levels.items ≡ length made.levels.items + 1 =
+    ap length h.levels_is ∙ length-append made.levels.items (h.level ∷ []) in
+    rw (longer, h.levels_is, h.events_is, h.counters_is)
+    (holds_quietly plan made.levels.items made.events.items made.counters.items h.level old new t0 t1 c0 c1 holds
+    (grown_kept plan faults made next old new t0 t1 c0 c1 h holds still stands rests) h.sends rests)
 
 -- and its nodes rest on
 pub grown_rests : (plan : SegmentPlan) (faults : FaultOrder) (made next : Record) (old new : Rest)
@@ -163,29 +172,39 @@ pub grown_rests : (plan : SegmentPlan) (faults : FaultOrder) (made next : Record
     RestHolds new (length next.levels.items) plan.talkers.items t1 c1
 grown_rests plan faults made next old new t0 t1 c0 c1 h rests =
     subst (λ n. RestHolds new n plan.talkers.items t1 c1)
-        (sym (ap length h.levels_is ∙ length-append made.levels.items (h.level ∷ [])))
+    (sym (ap length h.levels_is ∙ length-append made.levels.items (h.level ∷ [])))
     (rests_alone plan.talkers.items (length made.levels.items) h.level old new t0 t1 c0 c1 h.sends rests)
 
--- quiet bits so far, so many levels in all
-pub record QuietSoFar (old new : SegmentValue) (made : ℕ) : Type 0 where
+-- quiet bits so far, and not too many
+pub record QuietSoFar (old new : SegmentValue) (limit : ℕ) : Type 0 where
   pub bits : MakeQuietBits old new
-  pub plan_is : new.plan ≡ old.plan
-  pub here : length new.levels ≡ made
+  pub within : length old.levels ≤ limit → length new.levels ≤ limit
   pub still : length old.levels ≤ old.plan.bits → length new.levels ≤ new.plan.bits
 
-pub quiet_start : (segment : SegmentValue) (made : ℕ) → length segment.levels ≡ made → QuietSoFar segment segment made
-quiet_start segment made here = record { bits = no_bit; plan_is = refl; here = here; still = λ h. h }
+pub quiet_start : (segment : SegmentValue) (limit : ℕ) → QuietSoFar segment segment limit
+quiet_start segment limit = record { bits = no_bit; within = λ h. h; still = λ h. h }
 
-pub quiet_more : (old mid new : SegmentValue) (made : ℕ) → MakesQuietBit mid new → length mid.levels < mid.plan.bits →
-    QuietSoFar old mid made → QuietSoFar old new (made + 1)
-quiet_more old mid new made bit less h =
+pub quiet_on : {old mid new : SegmentValue} → MakeQuietBits old mid → MakeQuietBits mid new → MakeQuietBits old new
+quiet_on bits no_bit = bits
+quiet_on bits (one_more more bit) = one_more (quiet_on bits more) bit
+
+pub quiet_both : {old mid new : SegmentValue} {limit : ℕ} → QuietSoFar old mid limit → QuietSoFar mid new limit →
+    QuietSoFar old new limit
+quiet_both first more = record {
+  bits = quiet_on first.bits more.bits;
+  within = λ h. more.within (first.within h);
+  still = λ h. more.still (first.still h);
+}
+
+pub quiet_more : (old mid new : SegmentValue) (limit : ℕ) → MakesQuietBit mid new → length mid.levels < mid.plan.bits →
+    length mid.levels < limit → QuietSoFar old mid limit → QuietSoFar old new limit
+quiet_more old mid new limit bit less free h =
     let longer : length new.levels ≡ length mid.levels + 1 =
-        ap length bit.levels_is ∙ length-append mid.levels (bit.level ∷ []) in
+    ap length bit.levels_is ∙ length-append mid.levels (bit.level ∷ []) in
     record {
       bits = one_more h.bits bit;
-      plan_is = bit.plan_is ∙ h.plan_is;
-      here = omega (arith, longer, h.here);
-      still = λ within. omega (arith, longer, less, ap (λ (p : SegmentPlan). p.bits) bit.plan_is);
+      within = λ h. omega (arith, longer, free);
+      still = λ h. omega (arith, longer, less, ap (λ (p : SegmentPlan). p.bits) bit.plan_is);
     }
 
 -- what quiet bits leave of a segment, whatever its ports are

@@ -45,17 +45,21 @@ talks_none rest bit m frames none left =
     tells : (past : Past) → StandsAfter (caught_up rest.listener bit m).station.node past → StartsNone rest →
         (is : Bool) × IsWanting past is × (false ≡ (is && is_some (slice_get frames m.station.completed)))
     tells past stood (inl spent) =
-        let node = (caught_up rest.listener bit m).station.node in
-        (may_begin node, wanting node (may_begin node) refl past stood,
-            sym (ap (λ o. may_begin node && is_some o) (left spent) ∙ and_false (may_begin node)))
-    tells past stood (inr wants) =
-        (false, wanting (caught_up rest.listener bit m).station.node false (sym (wants m.station.node bit)) past stood,
-        refl)
+        let node = (caught_up rest.listener bit m).station.node in (
+          may_begin node,
+          wanting node (may_begin node) refl past stood,
+          sym (ap (λ o. may_begin node && is_some o) (left spent) ∙ and_false (may_begin node)),
+        )
+    tells past stood (inr wants) = (
+      false,
+      wanting (caught_up rest.listener bit m).station.node false (sym (wants m.station.node bit)) past stood,
+      refl,
+    )
 
 sleeper_talks : (rest : Rest) (bit : ℕ) (talkers : List Talker) (k : ℕ) (m : Member) → StartsNone rest →
     IsResting rest bit m →
     (rest.spent ≡ true → (talker : Talker) → slice_get talkers k ≡ Some talker →
-        slice_get talker.frames.items m.station.completed ≡ None) →
+    slice_get talker.frames.items m.station.completed ≡ None) →
     TalkerStarts bit talkers k (caught_up rest.listener bit m) (caught_up rest.listener bit m)
 sleeper_talks rest bit talkers k m none rests left talker e = record {
   off = λ early. refl;
@@ -72,7 +76,7 @@ sleeper_requests : {P : Type 0} (after : P → BusPast → Type 0) (asked : P �
     PortStarts after asked transmitting stays bit (caught_up rest.listener bit m) (caught_up rest.listener bit m) p p
 sleeper_requests after asked transmitting stays rest bit m p wants rests sends same =
     unmoved_requests after asked transmitting stays bit (caught_up rest.listener bit m) p
-        (wants m.station.node bit) rests.quiet sends same
+    (wants m.station.node bit) rests.quiet sends same
 
 -- drives what the listener does,
 on_at : (on bit : ℕ) → on ≤ bit → nat_le on bit ≡ true
@@ -83,7 +87,7 @@ sleeper_drives : (rest : Rest) (bit : ℕ) (m : Member) (drive : Bool) → Drive
     drives_at bit (caught_up rest.listener bit m) ≡ drive
 sleeper_drives rest bit m drive drives rests =
     ap (λ b. cond b (driven_by (caught_up rest.listener bit m).station.node) true) (on_at m.on bit rests.is_on)
-        ∙ sym (drives rests.listening m.station.node bit)
+    ∙ sym (drives rests.listening m.station.node bit)
 
 -- and samples the level, of which nothing is told
 sleeper_samples_on : (old new : Rest) (bit : ℕ) (level : Bool) (m : Member) → RestsThrough bit level old new →
@@ -119,7 +123,7 @@ sleeper_settles : {P : Type 0} (after : P → BusPast → Type 0) (asked : P →
     (caught_up new.listener (bit + 1) m) p p
 sleeper_settles after asked transmitting sink stays old new bit level m p through rests sends same =
     unmoved_settles after asked transmitting sink stays bit level (caught_up old.listener bit m)
-        (caught_up new.listener (bit + 1) m) p rests.is_on refl
+    (caught_up new.listener (bit + 1) m) p rests.is_on refl
     (sleeper_samples_on old new bit level m through rests) rests.quiet sends same
 
 -- The talkers of which those that are awake start: so do all for which they stand.
@@ -150,9 +154,9 @@ pub controllers_start : {P : Type 0} (after : P → BusPast → Type 0) (asked :
     (members_at rest bit c1) from to
 controllers_start after asked transmitting stays rest bit c0 c1 from to same none rests awake sends sizes moves =
     lift_both (λ k. PortStarts after asked transmitting stays bit) rest.listener rest.listener bit bit c0 c1 from to
-        sizes
+    sizes
     (λ k m p e f is. sleeper_requests after asked transmitting stays rest bit m p
-        (wishes_none rest c0 none awake k m e is) (rests k m e is) (sends k m p e f) (same p)) moves
+    (wishes_none rest c0 none awake k m e is) (rests k m e is) (sends k m p e f) (same p)) moves
 
 -- the AND of what all drive
 pub all_drive : (rest : Rest) (bit : ℕ) (drive : Bool) (members : List Member) → Drives rest drive →
@@ -163,7 +167,7 @@ all_drive rest bit drive [] drives rests = refl
 all_drive rest bit drive (m ∷ members) drives rests =
     ap (λ b. b && list_all (λ x. cond x.rests drive (drives_at bit x)) members) (by m.rests refl)
     ∙ ap (λ b. drives_at bit (woken rest.listener bit m) && b)
-        (all_drive rest bit drive members drives (λ k x e is. rests (suc k) x e is))
+    (all_drive rest bit drive members drives (λ k x e is. rests (suc k) x e is))
   where
     by : (b : Bool) → m.rests ≡ b → cond m.rests drive (drives_at bit m) ≡ drives_at bit (woken rest.listener bit m)
     by true is = ap (λ b. cond b drive (drives_at bit m)) is
@@ -189,30 +193,30 @@ pub members_sample : (old new : Rest) (bit first : ℕ) (level : Bool) (faults :
 members_sample old new bit first level faults before after rests undisturbed through moves =
     lift_places (NodeSamples first bit level faults) old.listener new.listener bit (bit + 1) before after
     (λ k m e is. subst (λ l. Samples bit l (caught_up old.listener bit m) (caught_up new.listener (bit + 1) m))
-        (undisturbed_level faults (first + k) bit level (undisturbed k m e is))
+    (undisturbed_level faults (first + k) bit level (undisturbed k m e is))
     (sleeper_samples old new bit level m (through k m e is) (rests k m e is))) moves
 
 pub controllers_sample : {P : Type 0} (after : P → BusPast → Type 0) (asked : P → List BusCall → Type 0)
     (transmitting : P → Option Item) (sink : P → List FrameValue → Type 0) (stays : P → P → Type 0) (old new : Rest)
     (bit first : ℕ) (level : Bool) (faults : List NodeFault)
     (c0 c1 : List Member) (from to : List P) → ((x : P) → stays x x) → AreResting old bit c0 →
-        Undisturbed faults first bit c0 → ((k : ℕ) (m : Member) → slice_get c0 k ≡ Some m → m.rests ≡ true →
-        RestsThrough bit level old new) →
+    Undisturbed faults first bit c0 → ((k : ℕ) (m : Member) → slice_get c0 k ≡ Some m → m.rests ≡ true →
+    RestsThrough bit level old new) →
     TransmitsAll transmitting c0 from → length from ≡ length c0 →
     AtBoth
     (λ k. IfAwakeBoth (PortSettles after asked transmitting sink stays bit
-          (sampled_level faults (first + k) bit level))) c0 c1 from to →
+    (sampled_level faults (first + k) bit level))) c0 c1 from to →
     AtBoth (λ k. PortSettles after asked transmitting sink stays bit (sampled_level faults (first + k) bit level))
-        (members_at old bit c0) (members_at new (bit + 1) c1) from to
+    (members_at old bit c0) (members_at new (bit + 1) c1) from to
 controllers_sample after asked transmitting sink stays old new bit first level faults c0 c1 from to same rests
     undisturbed through sends sizes moves =
     lift_both (λ k. PortSettles after asked transmitting sink stays bit (sampled_level faults (first + k) bit level))
-        old.listener new.listener bit (bit + 1) c0 c1 from to sizes
+    old.listener new.listener bit (bit + 1) c0 c1 from to sizes
     (λ k m p e f is. subst (λ l. PortSettles after asked transmitting sink stays bit l (caught_up old.listener bit m)
-          (caught_up new.listener (bit + 1) m) p p)
-        (undisturbed_level faults (first + k) bit level (undisturbed k m e is))
+    (caught_up new.listener (bit + 1) m) p p)
+    (undisturbed_level faults (first + k) bit level (undisturbed k m e is))
     (sleeper_settles after asked transmitting sink stays old new bit level m p (through k m e is) (rests k m e is)
-        (sends k m p e f) (same p))) moves
+    (sends k m p e f) (same p))) moves
 
 -- behind a bit through which they rest
 pub next_rests : (old new : Rest) (bit : ℕ) (level : Bool) (m : Member) → RestsThrough bit level old new →

@@ -38,7 +38,7 @@ sole_level : (place bit : ℕ) (before after : Listener) (level : Bool) (old new
 sole_level place bit before after level old new h =
     let from = h.from in
     h.step.sends.drives ∙ ap (λ b. cond b (driven_by from.station.node) true) (sym (on_at from.on bit h.step.is_on))
-        ∙ ap (passes (drives_at bit)) (sym h.from_is)
+    ∙ ap (passes (drives_at bit)) (sym h.from_is)
   where
     on_at : (on bit : ℕ) → on ≤ bit → nat_le on bit ≡ true
     on_at on bit h =
@@ -48,8 +48,11 @@ sole_level place bit before after level old new h =
 none_moves : (place : ℕ) (Step : Member → Member → Type 0) (members : List Member) → length members ≤ place →
     MovesOne place Step members members
 none_moves place Step members past =
-    record { at = λ a b p q. absurd (let within = slice_get_within members place a p in omega (arith, within, past));
-    others = λ k not. refl; size = refl }
+    record {
+      at = λ a b p q. absurd (let within = slice_get_within members place a p in omega (arith, within, past));
+      others = λ k not. refl;
+      size = refl;
+    }
 
 none_passes : (place bit : ℕ) (members : List Member) → length members ≤ place →
     passes (drives_at bit) (slice_get members place) ≡ true
@@ -75,7 +78,7 @@ sole_drives : (place bit : ℕ) (members : List Member) → OthersRest place mem
     driven_beside bit true members ≡ passes (drives_at bit) (slice_get members place)
 sole_drives place bit members others awake =
     one_passes (λ m. cond m.rests true (drives_at bit m)) place members
-        (λ k m e not. ap (λ b. cond b true (drives_at bit m)) (others k m e not)) ∙ by (slice_get members place) refl
+    (λ k m e not. ap (λ b. cond b true (drives_at bit m)) (others k m e not)) ∙ by (slice_get members place) refl
   where
     by : (found : Option Member) → slice_get members place ≡ found →
         passes (λ m. cond m.rests true (drives_at bit m)) found ≡ passes (drives_at bit) found
@@ -98,9 +101,20 @@ sole_awake place bit before after level old new moves m e =
 
 rests_through_alone : (rest : Rest) (place bit : ℕ) (after : Listener) (level : Bool) (old new : List Member) →
     OneSends place bit rest.listener level after old new →
-    RestsThrough bit level rest (record { listener = after; resting = rest.resting; known = rest.known;
-          spent = rest.spent; talkers = rest.talkers; controllers = rest.controllers; few = rest.few; settled =
-          rest.settled; asleep = rest.asleep; steady = rest.steady; leader = rest.leader })
+    RestsThrough bit level rest (record {
+      listener = after;
+      resting = rest.resting;
+      known = rest.known;
+      spent = rest.spent;
+      talkers = rest.talkers;
+      controllers = rest.controllers;
+      few = rest.few;
+      settled =
+          rest.settled;
+      asleep = rest.asleep;
+      steady = rest.steady;
+      leader = rest.leader;
+    })
 rests_through_alone rest place bit after level old new h = record {
   resting = refl;
   talkers_is = refl;
@@ -119,9 +133,20 @@ drives_alone rest place bit after level old new h = λ listening node at. sym (h
 pub talker_alone : (rest : Rest) (sender controller bit : ℕ) (after : Listener) (level : Bool) (t0 t1 c : List Member) →
     length c ≤ controller → OneSends sender bit rest.listener level after t0 t1 →
     SendsAlone bit level sender controller rest
-    (record { listener = after; resting = rest.resting; known = rest.known; spent = rest.spent; talkers = rest.talkers;
-          controllers = rest.controllers; few = rest.few; settled = rest.settled; asleep = rest.asleep; steady =
-          rest.steady; leader = rest.leader }) t0 t1 c c
+    (record {
+      listener = after;
+      resting = rest.resting;
+      known = rest.known;
+      spent = rest.spent;
+      talkers = rest.talkers;
+      controllers = rest.controllers;
+      few = rest.few;
+      settled = rest.settled;
+      asleep = rest.asleep;
+      steady =
+          rest.steady;
+      leader = rest.leader;
+    }) t0 t1 c c
 talker_alone rest sender controller bit after level t0 t1 c past h = record {
   starts_none = inr h.step.sends.others_begin;
   through = rests_through_alone rest sender bit after level t0 t1 h;
@@ -136,9 +161,20 @@ talker_alone rest sender controller bit after level t0 t1 c past h = record {
 pub controller_alone : (rest : Rest) (sender controller bit : ℕ) (after : Listener) (level : Bool)
     (t c0 c1 : List Member) → length t ≤ sender → OneSends controller bit rest.listener level after c0 c1 →
     SendsAlone bit level sender controller rest
-    (record { listener = after; resting = rest.resting; known = rest.known; spent = rest.spent; talkers = rest.talkers;
-          controllers = rest.controllers; few = rest.few; settled = rest.settled; asleep = rest.asleep; steady =
-          rest.steady; leader = rest.leader }) t t c0 c1
+    (record {
+      listener = after;
+      resting = rest.resting;
+      known = rest.known;
+      spent = rest.spent;
+      talkers = rest.talkers;
+      controllers = rest.controllers;
+      few = rest.few;
+      settled = rest.settled;
+      asleep = rest.asleep;
+      steady =
+          rest.steady;
+      leader = rest.leader;
+    }) t t c0 c1
 controller_alone rest sender controller bit after level t c0 c1 past h = record {
   starts_none = inr h.step.sends.others_begin;
   through = rests_through_alone rest controller bit after level c0 c1 h;
@@ -192,7 +228,7 @@ alone_goes_quietly bit level sender controller old new t0 t1 c0 c1 others others
   level_is = h.level_is ∙ ap (λ b. b && passes (drives_at bit) (slice_get c0 controller))
       (sym (others_drive sender bit old.listener new.listener level t0 t1 others h.talkers))
       ∙ ap (λ b. driven_beside bit true t0 && b)
-          (sym (others_drive controller bit old.listener new.listener level c0 c1 others_too h.controllers));
+      (sym (others_drive controller bit old.listener new.listener level c0 c1 others_too h.controllers));
 }
 
 pub talkers_start_alone : (plan : List Talker) (bit : ℕ) (level : Bool) (old new : Rest) (t0 t1 c0 c1 : List Member) →
@@ -200,43 +236,43 @@ pub talkers_start_alone : (plan : List Talker) (bit : ℕ) (level : Bool) (old n
     AtPlaces (TalkerStarts bit plan) (members_at old bit t0) (members_at old bit t0)
 talkers_start_alone plan bit level old new t0 t1 c0 c1 h rests =
     talkers_start old bit plan t0 t0 h.starts_none rests.talkers_rest rests.talkers_spent
-        (go_starts bit level plan t0 t1 h.talkers)
+    (go_starts bit level plan t0 t1 h.talkers)
 
 pub talkers_sample_alone : (plan : List Talker) (bit : ℕ) (level : Bool) (old new : Rest) (t0 t1 c0 c1 : List Member) →
     GoesQuietly bit level old new t0 t1 c0 c1 → RestHolds old bit plan t0 c0 →
     AtPlaces (λ k. Samples bit level) (members_at old bit t0) (members_at new (bit + 1) t1)
 talkers_sample_alone plan bit level old new t0 t1 c0 c1 h rests =
     members_sample old new bit 0 level [] t0 t1 rests.talkers_rest (λ k m e is. refl) (λ k m e is. h.through)
-        (go_samples bit level t0 t1 h.talkers)
+    (go_samples bit level t0 t1 h.talkers)
 
 pub controllers_start_alone : {P : Type 0} (after : P → BusPast → Type 0) (asked : P → List BusCall → Type 0)
     (transmitting : P → Option Item) (stays : P → P → Type 0) (plan : List Talker) (bit : ℕ) (level : Bool)
     (old new : Rest)
     (t0 t1 c0 c1 : List Member) (ports : List P) → ((x : P) → stays x x) → GoesQuietly bit level old new t0 t1 c0 c1 →
-        RestHolds old bit plan t0 c0 → TransmitsAll transmitting (members_at old bit c0) ports →
-        length ports ≡ length c0 →
+    RestHolds old bit plan t0 c0 → TransmitsAll transmitting (members_at old bit c0) ports →
+    length ports ≡ length c0 →
     AtBoth (λ k. PortStarts after asked transmitting stays bit) (members_at old bit c0)
-        (members_at old bit c0) ports ports
+    (members_at old bit c0) ports ports
 controllers_start_alone after asked transmitting stays plan bit level old new t0 t1 c0 c1 ports same h rests whole
     sizes =
     let sends = transmits_real transmitting old bit c0 ports whole in
     controllers_start after asked transmitting stays old bit c0 c0 ports ports same h.starts_none rests.controllers_rest
-        rests.controllers_awake sends sizes
+    rests.controllers_awake sends sizes
     (go_requests after asked transmitting stays bit level c0 c1 ports same h.controllers sends)
 
 pub controllers_settle_alone : {P : Type 0} (after : P → BusPast → Type 0) (asked : P → List BusCall → Type 0)
     (transmitting : P → Option Item) (sink : P → List FrameValue → Type 0) (stays : P → P → Type 0) (plan : List Talker)
     (bit : ℕ) (level : Bool)
     (old new : Rest) (t0 t1 c0 c1 : List Member) (ports : List P) → ((x : P) → stays x x) →
-        GoesQuietly bit level old new t0 t1 c0 c1 → RestHolds old bit plan t0 c0 →
-        TransmitsAll transmitting (members_at old bit c0) ports → length ports ≡ length c0 →
+    GoesQuietly bit level old new t0 t1 c0 c1 → RestHolds old bit plan t0 c0 →
+    TransmitsAll transmitting (members_at old bit c0) ports → length ports ≡ length c0 →
     AtBoth (λ k. PortSettles after asked transmitting sink stays bit level) (members_at old bit c0)
-        (members_at new (bit + 1) c1) ports ports
+    (members_at new (bit + 1) c1) ports ports
 controllers_settle_alone after asked transmitting sink stays plan bit level old new t0 t1 c0 c1 ports same h rests whole
     sizes =
     let sends = transmits_real transmitting old bit c0 ports whole in
     controllers_sample after asked transmitting sink stays old new bit 0 level [] c0 c1 ports ports same
-        rests.controllers_rest (λ k m e is. refl) (λ k m e is. h.through) sends sizes
+    rests.controllers_rest (λ k m e is. refl) (λ k m e is. h.through) sends sizes
     (go_settles after asked transmitting sink stays bit level c0 c1 ports same h.controllers sends)
 
 -- the line has the AND of what all drive
@@ -245,9 +281,9 @@ pub level_alone : (plan : List Talker) (bit : ℕ) (level : Bool) (old new : Res
     level ≡ (list_all (drives_at bit) (members_at old bit t0) && list_all (drives_at bit) (members_at old bit c0))
 level_alone plan bit level old new t0 t1 c0 c1 h rests =
     h.level_is ∙ ap (λ b. b && driven_beside bit h.resting c0)
-        (all_drive old bit h.resting t0 h.drives rests.talkers_rest)
+    (all_drive old bit h.resting t0 h.drives rests.talkers_rest)
     ∙ ap (λ b. list_all (drives_at bit) (members_at old bit t0) && b)
-        (all_drive old bit h.resting c0 h.drives rests.controllers_rest)
+    (all_drive old bit h.resting c0 h.drives rests.controllers_rest)
 
 -- those that rest still do,
 pub rests_alone : (plan : List Talker) (bit : ℕ) (level : Bool) (old new : Rest) (t0 t1 c0 c1 : List Member) →
@@ -256,10 +292,10 @@ rests_alone plan bit level old new t0 t1 c0 c1 h rests =
     let talkers = h.talkers in
     let controllers = h.controllers in
     left_holds new (bit + 1) plan t0 t1 c0 c1 (left_places (λ k. MemberGoes bit level) t0 t1 talkers)
-        (left_places (λ k. MemberGoes bit level) c0 c1 controllers)
+    (left_places (λ k. MemberGoes bit level) c0 c1 controllers)
     (λ span. within_places (λ k. MemberGoes bit level) span t0 t1 talkers)
-        (λ span. within_places (λ k. MemberGoes bit level) span c0 c1 controllers)
-        (through_holds old new bit level plan t0 c0 h.through rests)
+    (λ span. within_places (λ k. MemberGoes bit level) span c0 c1 controllers)
+    (through_holds old new bit level plan t0 c0 h.through rests)
 
 -- nothing is told,
 pub quiet_alone : (plan : List Talker) (bit : ℕ) (level : Bool) (old new : Rest) (t0 t1 c0 c1 : List Member) →
@@ -317,9 +353,9 @@ sending_alone plan bit level old new t0 t1 c0 c1 h rests =
     let item : Member → Option Item = λ member. item_of member.station.sending in
     let ports = sending_of_all whole in
     let sends : TransmitsAll (λ p. p) whole ports =
-        λ k m p e f. same_some p (item m) (sym f ∙ map_there item whole k m e) in
+    λ k m p e f. same_some p (item m) (sym f ∙ map_there item whole k m e) in
     let settles = controllers_settle_alone (λ p past. Unit {0}) (λ p calls. Unit {0}) (λ p. p) (λ p past. Unit {0})
-        (λ p q. Unit {0}) plan bit level old new t0 t1 c0 c1 ports (λ p. tt) h rests sends
+    (λ p q. Unit {0}) plan bit level old new t0 t1 c0 c1 ports (λ p. tt) h rests sends
     (length-map whole item ∙ members_length old bit c0) in
     same_list ports (sending_of_all behind) (length-map behind item ∙ settles.size ∙ sym (length-map whole item))
     (λ k x y e f.

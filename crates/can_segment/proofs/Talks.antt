@@ -53,7 +53,7 @@ talked_by on k trace frames level old mid after true h late mid_on after_on bega
     let start = t.2 in
     let sent : Transmission = record { start = start.start; frame = t.0; label = None } in
     let begun : begun_by after.deed ≡ Some sent = begun_is after.deed true (Some sent) (s.began_is ∙ began)
-        (named_start after.deed mid.station.sending s.names (s.began_is ∙ began) ∙ start.sending_is) in
+    (named_start after.deed mid.station.sending s.names (s.began_is ∙ began) ∙ start.sending_is) in
     let w = talk.wants past h.stands in
     record {
       made = done on k trace level old mid after (Some sent) h late after_on
@@ -61,9 +61,11 @@ talked_by on k trace frames level old mid after true h late mid_on after_on bega
       begins = λ other is.
           let same : sent ≡ other = some_same sent other (sym begun ∙ is) in
           subst (IsBegun past) same
-              (record
-              { wants = subst (IsWanting past) (wants_true w.0 (is_some (slice_get frames old.station.completed)) w.2)
-                w.1; sends = start.sends past h.stands });
+          (record {
+            wants = subst (IsWanting past) (wants_true w.0 (is_some (slice_get frames old.station.completed)) w.2)
+                w.1;
+            sends = start.sends past h.stands;
+          });
       wants = w.0;
       is_wanting = w.1;
       rule = ap (option_map (λ x. x.frame)) begun ∙ wants_then w.0 frames old.station.completed t.0 w.2 t.1
@@ -102,4 +104,4 @@ pub talked : (on k : ℕ) (trace : List Bit) (frames : List FrameValue) (level :
     Talked on k trace frames level mid after
 talked on k trace frames level old mid after h late starts samples =
     talked_by on k trace frames level old mid after mid.deed.began h late (starts.on_is ∙ h.on_is)
-        (samples.on_is ∙ starts.on_is ∙ h.on_is) refl (starts.talks (omega (arith, h.on_is, late))) samples
+    (samples.on_is ∙ starts.on_is ∙ h.on_is) refl (starts.talks (omega (arith, h.on_is, late))) samples

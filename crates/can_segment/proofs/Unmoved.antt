@@ -31,8 +31,11 @@ unmoved_talks bit talkers k m wants quiet talker e = record {
   off = λ early. refl;
   on_is = refl;
   talks = λ late. subst (IsTalk m.station m.station talker.frames.items) (sym quiet.no_start)
-      (record { begins = λ e. absurd (cc e); stays = λ e. refl;
-            wants = λ past stood. (false, wanting m.station.node false (sym wants) past stood, refl) });
+      (record {
+        begins = λ e. absurd (cc e);
+        stays = λ e. refl;
+        wants = λ past stood. (false, wanting m.station.node false (sym wants) past stood, refl);
+      });
 }
 
 -- its port is asked for none,
@@ -45,8 +48,12 @@ unmoved_requests after asked transmitting stays bit m p wants quiet sends same =
     let began : m.deed.began ≡ true → ⊥ = λ e. cc (e, quiet.no_start) in
     let no_wish : wants_at bit m ≡ false = ap (λ b. is_on bit m && b) wants ∙ and_false (is_on bit m) in
     record {
-      member = record { off = λ early. refl; on_is = refl; requests =
-          λ late. record { begins = λ e. absurd (began e); stays = λ e. refl; wants = λ e. absurd (began e) } };
+      member = record {
+        off = λ early. refl;
+        on_is = refl;
+        requests =
+            λ late. record { begins = λ e. absurd (began e); stays = λ e. refl; wants = λ e. absurd (began e) };
+      };
       bus = λ past h. subst (λ b. after p (started past (started_item b m.station.sending))) (sym none) h;
       undone = λ past h. subst (λ b. Undone past (started_item b m.station.sending)) (sym none) tt;
       asks = record {

@@ -34,15 +34,15 @@ lines_whole bit rest at t c =
     let wt = members_at rest at t in
     let wc = members_at rest at c in
     ap (λ n. (told_by start_of bit 0 wt ++ told_by start_of bit n wc)
-        ++ (told_by rest_by bit 0 wt ++ told_by rest_by bit n wc)) (members_length rest at t)
+    ++ (told_by rest_by bit 0 wt ++ told_by rest_by bit n wc)) (members_length rest at t)
     ∙ ap (λ es. (es ++ told_by start_of bit (length t) wc)
-        ++ (told_by rest_by bit 0 wt ++ told_by rest_by bit (length t) wc)) (told_whole start_of bit 0 rest at t)
+    ++ (told_by rest_by bit 0 wt ++ told_by rest_by bit (length t) wc)) (told_whole start_of bit 0 rest at t)
     ∙ ap (λ es. (told_by start_of bit 0 t ++ es) ++ (told_by rest_by bit 0 wt ++ told_by rest_by bit (length t) wc))
-        (told_whole start_of bit (length t) rest at c)
+    (told_whole start_of bit (length t) rest at c)
     ∙ ap (λ es. (told_by start_of bit 0 t ++ told_by start_of bit (length t) c)
-        ++ (es ++ told_by rest_by bit (length t) wc)) (told_whole rest_by bit 0 rest at t)
+    ++ (es ++ told_by rest_by bit (length t) wc)) (told_whole rest_by bit 0 rest at t)
     ∙ ap (λ es. (told_by start_of bit 0 t ++ told_by start_of bit (length t) c) ++ (told_by rest_by bit 0 t ++ es))
-        (told_whole rest_by bit (length t) rest at c)
+    (told_whole rest_by bit (length t) rest at c)
 
 -- counters that are shown
 pub from_real : (first : ℕ) (rest : Rest) (at : ℕ) (members : List Member) (counters : List Counters) →
@@ -93,7 +93,7 @@ kept_alike plan levels events t0 t1 c0 c1 talkers controllers h = record {
     controllers_stand = λ k controller m e f.
         let x = some_there c0 k (let within = slice_get_within c1 k m f in omega (arith, within, controllers.size)) in
         behind_alike controller.on (length plan.talkers.items + k) h.trace x.0 m (controllers.at k x.0 m x.1 f)
-            (h.stands.controllers_stand k controller x.0 e x.1);
+        (h.stands.controllers_stand k controller x.0 e x.1);
   };
 }
 
@@ -116,4 +116,4 @@ pub holds_awake : (plan : SegmentPlan) (made : Record) (rest : Rest) (bit : ℕ)
     NoneRests c → SegmentHolds plan made t c → SegmentHolds plan made (members_at rest bit t) (members_at rest bit c)
 holds_awake plan made rest bit t c awake awake_too h =
     subst (λ ms. SegmentHolds plan made ms (members_at rest bit c)) (sym (none_resting rest.listener bit t awake))
-        (subst (SegmentHolds plan made t) (sym (none_resting rest.listener bit c awake_too)) h)
+    (subst (SegmentHolds plan made t) (sym (none_resting rest.listener bit c awake_too)) h)

@@ -14,13 +14,17 @@ use Rattle.can_segment.proofs.Shown.{map_at, map_there}
 
 -- a member with this node
 abbrev built : Member → Node → Bool → Member
-built m node rests = record { on = m.on; rests = rests;
-    station = record { node = node; sending = m.station.sending; completed = m.station.completed }; deed = m.deed }
+built m node rests = record {
+  on = m.on;
+  rests = rests;
+  station = record { node = node; sending = m.station.sending; completed = m.station.completed };
+  deed = m.deed;
+}
 
 pub awake_woken : (listener : Listener) (bit : ℕ) (m : Member) → m.rests ≡ false → woken listener bit m ≡ m
 awake_woken listener bit m h =
     ap (λ b. built m (cond b (node_caught_up m.station.node listener bit) m.station.node) false) h
-        ∙ ap (λ b. built m m.station.node b) (sym h)
+    ∙ ap (λ b. built m m.station.node b) (sym h)
 
 pub resting_woken : (listener : Listener) (bit : ℕ) (m : Member) → m.rests ≡ true →
     woken listener bit m ≡ caught_up listener bit m
@@ -35,7 +39,7 @@ same_list [] (y ∷ ys) e h = absurd (omega (arith, e))
 same_list (x ∷ xs) [] e h = absurd (omega (arith, e))
 same_list (x ∷ xs) (y ∷ ys) e h =
     ap (λ z. z ∷ ys) (h zero x y refl refl)
-        ∙ ap (λ zs. x ∷ zs) (same_list xs ys (omega (arith, e)) (λ k a b p q. h (suc k) a b p q))
+    ∙ ap (λ zs. x ∷ zs) (same_list xs ys (omega (arith, e)) (λ k a b p q. h (suc k) a b p q))
 
 -- who wakes stands for the same
 may_wake_same : (listener : Listener) (bit : ℕ) (old new : Member) → MayWake listener bit old new →
@@ -103,20 +107,20 @@ lift_step Step one other bit next old new sleeps s = by old.rests refl
     by : (b : Bool) → old.rests ≡ b → Step (woken one bit old) (woken other next new)
     by true e = subst (λ m. Step (woken one bit old) (woken other next m)) (sym (s.rests_on e))
         (subst (λ m. Step m (woken other next old)) (sym (resting_woken one bit old e))
-            (subst (Step (caught_up one bit old)) (sym (resting_woken other next old e)) (sleeps e)))
+        (subst (Step (caught_up one bit old)) (sym (resting_woken other next old e)) (sleeps e)))
     by false e = subst (Step (woken one bit old)) (sym (awake_woken other next new (s.stays_awake e)))
         (subst (λ m. Step m new) (sym (awake_woken one bit old e)) (s.steps e))
 
 pub lift_places : (Step : ℕ → Member → Member → Type 0) (one other : Listener) (bit next : ℕ) (old new : List Member) →
     ((k : ℕ) (m : Member) → slice_get old k ≡ Some m → m.rests ≡ true →
-        Step k (caught_up one bit m) (caught_up other next m)) → AtPlaces (λ k. IfAwake (Step k)) old new →
+    Step k (caught_up one bit m) (caught_up other next m)) → AtPlaces (λ k. IfAwake (Step k)) old new →
     AtPlaces Step (map (woken one bit) old) (map (woken other next) new)
 lift_places Step one other bit next old new sleeps h = record {
   at = λ k a b p q.
       let x = map_at (woken one bit) old k a p in
       let y = map_at (woken other next) new k b q in
       subst (λ z. Step k z b) x.2 (subst (Step k (woken one bit x.0)) y.2
-          (lift_step (Step k) one other bit next x.0 y.0 (sleeps k x.0 x.1) (h.at k x.0 y.0 x.1 y.1)));
+      (lift_step (Step k) one other bit next x.0 y.0 (sleeps k x.0 x.1) (h.at k x.0 y.0 x.1 y.1)));
   size = length-map new (woken other next) ∙ h.size ∙ sym (length-map old (woken one bit));
 }
 
@@ -132,14 +136,14 @@ lift_with Step one other bit next old new from to sleeps s = by old.rests refl
         subst (Step (woken one bit old) (woken other next new) from) (sym on.1)
         (subst (λ m. Step (woken one bit old) (woken other next m) from from) (sym on.0)
         (subst (λ m. Step m (woken other next old) from from) (sym (resting_woken one bit old e))
-            (subst (λ m. Step (caught_up one bit old) m from from) (sym (resting_woken other next old e)) (sleeps e))))
+        (subst (λ m. Step (caught_up one bit old) m from from) (sym (resting_woken other next old e)) (sleeps e))))
     by false e = subst (λ m. Step (woken one bit old) m from to) (sym (awake_woken other next new (s.stays_awake e)))
         (subst (λ m. Step m new from to) (sym (awake_woken one bit old e)) (s.steps e))
 
 pub lift_both : {P : Type 0} (Step : ℕ → Member → Member → P → P → Type 0) (one other : Listener) (bit next : ℕ)
     (old new : List Member) (from to : List P) → length from ≡ length old →
     ((k : ℕ) (m : Member) (p : P) → slice_get old k ≡ Some m → slice_get from k ≡ Some p → m.rests ≡ true →
-        Step k (caught_up one bit m) (caught_up other next m) p p) →
+    Step k (caught_up one bit m) (caught_up other next m) p p) →
     AtBoth (λ k. IfAwakeBoth (Step k)) old new from to →
     AtBoth Step (map (woken one bit) old) (map (woken other next) new) from to
 lift_both Step one other bit next old new from to sizes sleeps h = record {
@@ -147,8 +151,8 @@ lift_both Step one other bit next old new from to sizes sleeps h = record {
       let x = map_at (woken one bit) old k a ea in
       let y = map_at (woken other next) new k b eb in
       subst (λ z. Step k z b p q) x.2 (subst (λ z. Step k (woken one bit x.0) z p q) y.2
-          (lift_with (Step k) one other bit next x.0 y.0 p q (sleeps k x.0 p x.1 ep)
-            (h.at k x.0 y.0 p q x.1 y.1 ep eq)));
+      (lift_with (Step k) one other bit next x.0 y.0 p q (sleeps k x.0 p x.1 ep)
+      (h.at k x.0 y.0 p q x.1 y.1 ep eq)));
   size = length-map new (woken other next) ∙ h.size ∙ sym (length-map old (woken one bit));
   size_too = h.size_too;
 }

@@ -1,6 +1,6 @@
 -- Nodes that are left alone while a listener follows the line for them. Private clauses cite it.
 use Rattle.std.specs.Prelude.{◌≡◌, ◌⊎◌, ℕ, ◌+◌, ◌≤◌, ◌&&◌, Bool, true, false}
-use Rattle.std.specs.Prelude.{None, Some, List, map, slice_get, if◌then◌else◌}
+use Rattle.std.specs.Prelude.{None, Some, List, [], ◌∷◌, map, slice_get, if◌then◌else◌}
 use Rattle.std.specs.List.{list_all}
 use Rattle.can_confinement.specs.KnownCounts.{Knows}
 use Rattle.can_node.specs.Listener.{Follows, IsListening, caught_up as node_caught_up}
@@ -146,3 +146,9 @@ pub record GoesQuietly (bit : ℕ) (level : Bool) (old new : Rest) (t0 t1 c0 c1 
   pub talkers : AllGo bit level t0 t1
   pub controllers : AllGo bit level c0 c1
   pub level_is : level ≡ (driven_beside bit resting t0 && driven_beside bit resting c0)
+
+-- such bits with these levels, one after another
+abbrev pub GoQuietlyBy : ℕ → List Bool → Rest → Rest → List Member → List Member → List Member → List Member → Type 0
+GoQuietlyBy bit [] old new t0 t1 c0 c1 = (new ≡ old) × (t1 ≡ t0) × (c1 ≡ c0)
+GoQuietlyBy bit (level ∷ levels) old new t0 t1 c0 c1 = (mid : Rest) × (t : List Member) × (c : List Member)
+    × GoesQuietly bit level old mid t0 t c0 c × GoQuietlyBy (bit + 1) levels mid new t t1 c c1

@@ -94,13 +94,18 @@ AreFromResting first members counters =
     (k : ℕ) (member : Member) (shown : Counters) → member.rests ≡ true → slice_get members k ≡ Some member →
     slice_get counters (first + k) ≡ Some shown → AreOf member shown
 
--- what stands in a segment between two bits
-pub record SegmentHolds (plan : SegmentPlan) (record_of : Record) (talkers controllers : List Member) : Type 0 where
-  pub kept : SegmentKept plan record_of.levels.items record_of.events.items talkers controllers
+-- what stands in a segment between two bits, where these are recorded
+pub record ListsHold (plan : SegmentPlan) (levels : List Bool) (events : List Event) (counters : List Counters)
+    (talkers controllers : List Member) : Type 0 where
+  pub kept : SegmentKept plan levels events talkers controllers
   pub few : length talkers + length controllers ≤ 16
-  pub size : length record_of.counters.items ≡ length talkers + length controllers
-  pub talkers_shown : AreFrom 0 talkers record_of.counters.items
-  pub controllers_shown : AreFrom (length talkers) controllers record_of.counters.items
+  pub size : length counters ≡ length talkers + length controllers
+  pub talkers_shown : AreFrom 0 talkers counters
+  pub controllers_shown : AreFrom (length talkers) controllers counters
+
+-- so with this record
+abbrev pub SegmentHolds : SegmentPlan → Record → List Member → List Member → Type 0
+SegmentHolds plan made = ListsHold plan made.levels.items made.events.items made.counters.items
 
 -- the requests that these nodes have on the bus
 abbrev pub sending_of_all : List Member → List (Option Item)

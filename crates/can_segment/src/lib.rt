@@ -6,6 +6,7 @@ mod awake;
 mod counts_shown;
 mod leader;
 mod make_bit;
+mod opening;
 mod record;
 mod rest;
 mod seg_fault;

@@ -13,11 +13,12 @@ use Rattle.std.proofs.lemmas.List.Sums.{take_while-cons, prefix_len-le-length}
 use Rattle.std.specs.List.{All, prefix_len, take_while}
 use Rattle.std.specs.List.Sorted.{IsNonDecreasingBy, IsStableByKey, ties}
 use Rattle.std.specs.Ordering.{nat_cmp}
-use Rattle.can_station.specs.FaultOrder.{at_bit, IsAhead, IsWithin}
+use Rattle.can_station.specs.FaultOrder.{at_bit, IsAhead, IsFaultless, IsWithin, StandsAt}
 use Rattle.can_station.specs.declared.fault_order.FaultOrder.{FaultOrder}
 use Rattle.can_station.specs.Faults.{line_level, is_inverted, sampled_level}
 use Rattle.can_station.specs.declared.plan.LineFault.{LineFault}
 use Rattle.can_station.specs.declared.plan.NodeFault.{NodeFault}
+use Rattle.can_station.specs.declared.plan.SegmentPlan.{SegmentPlan}
 use Rattle.can_station.proofs.Places.{same_some}
 
 filter-same : {X : Type 0} (p q : X → Bool) → ((x : X) → p x ≡ q x) → (xs : List X) → filter p xs ≡ filter q xs
@@ -61,7 +62,7 @@ module _ {X : Type 0} (bit_of : X → ℕ) where
   none_at bit (x ∷ xs) late =
       let behind = late zero x (omega arith) in
       first_not_at bit x xs (omega (arith, behind))
-          ∙ none_at bit xs (All-tail (λ fault. bit + 1 ≤ bit_of fault) x xs late)
+      ∙ none_at bit xs (All-tail (λ fault. bit + 1 ≤ bit_of fault) x xs late)
 
   -- the run of those at a bit has all of them
   run_at : (bit : ℕ) (xs : List X) → IsNonDecreasingBy bit_of xs → All (λ fault. bit ≤ bit_of fault) xs →
@@ -73,13 +74,13 @@ module _ {X : Type 0} (bit_of : X → ℕ) where
       elim (cases_eq (bit_of x) bit) [
         | inl here ↦
             first_at bit x xs here
-                ∙ ap (λ ys. x ∷ ys) (run_at bit xs (rising_tail x xs rising)
-                (All-tail (λ fault. bit ≤ bit_of fault) x xs late))
+            ∙ ap (λ ys. x ∷ ys) (run_at bit xs (rising_tail x xs rising)
+            (All-tail (λ fault. bit ≤ bit_of fault) x xs late))
             ∙ sym (begins ∙ ap (λ b. cond b (x ∷ run) []) (eq-eqb (bit_of x) bit here))
         | inr other ↦
             first_not_at bit x xs other
             ∙ none_at bit xs (λ k d w. (let above = rising zero (suc k) d (omega arith) (omega (arith, w)) in
-                  let behind = late zero x (omega arith) in omega (arith, above, behind, other)))
+            let behind = late zero x (omega arith) in omega (arith, above, behind, other)))
             ∙ sym (begins ∙ ap (λ b. cond b (x ∷ run) []) (ne_eqb (bit_of x) bit other))
       ]
 
@@ -103,7 +104,7 @@ module _ {X : Type 0} (bit_of : X → ℕ) where
             (run_passed bit xs (rising_tail x xs rising) (All-tail (λ fault. bit ≤ bit_of fault) x xs late))
         | inr other ↦ subst (All (λ fault. bit + 1 ≤ bit_of fault)) (sym (run_none bit x xs other))
             (λ k d w. (let above = rising zero k d (omega arith) w in let behind = late zero x (omega arith) in
-                  omega (arith, above, behind, other)))
+            omega (arith, above, behind, other)))
       ]
 
   pub ahead_sorted : ((bit : ℕ) → (x : X) × (bit_of x ≡ bit)) → (all sorted : List X) →
@@ -114,9 +115,9 @@ module _ {X : Type 0} (bit_of : X → ℕ) where
     same = λ at late.
         let x = some at in
         let tied : (ys : List X) → at_bit bit_of at ys
-            ≡ filter (ties (λ a b. is_lt (nat_cmp (bit_of a) (bit_of b))) x.0) ys =
+        ≡ filter (ties (λ a b. is_lt (nat_cmp (bit_of a) (bit_of b))) x.0) ys =
         λ ys. ap (λ b. at_bit bit_of b ys) (sym x.1) ∙ filter-same _ _
-            (λ y. sym (ties_is (bit_of x.0) (bit_of y))) ys in
+        (λ y. sym (ties_is (bit_of x.0) (bit_of y))) ys in
         tied sorted ∙ stable x.0 ∙ sym (tied all);
   }
 
@@ -129,7 +130,7 @@ module _ {X : Type 0} (bit_of : X → ℕ) where
       All (λ fault. next ≤ bit_of fault) ahead → at_bit bit_of bit all ≡ []
   none_here bit next all ahead before h late =
       sym (h.same bit (omega arith)) ∙ none_at bit ahead (λ k d w. let behind = late k d w in
-          omega (arith, before, behind))
+      omega (arith, before, behind))
 
   pub ahead_of_next : (bit next : ℕ) (all ahead : List X) → bit < next → IsAhead bit_of all bit ahead →
       All (λ fault. next ≤ bit_of fault) ahead → IsAhead bit_of all (bit + 1) ahead
@@ -215,9 +216,36 @@ inverted_at (fault ∷ faults) node bit =
       | inr other ↦ ap (λ fs. is_inverted fs node bit) (first_not_at (λ f. f.bit) bit fault faults other)
           ∙ inverted_at faults node bit
           ∙ sym (ap (λ b. (fault.node == node && b) || is_inverted faults node bit) (ne_eqb fault.bit bit other)
-              ∙ ap (λ b. b || is_inverted faults node bit) (and_false (fault.node == node)))
+          ∙ ap (λ b. b || is_inverted faults node bit) (and_false (fault.node == node)))
     ]
 
 pub sampled_level_at : (faults : List NodeFault) (node bit : ℕ) (level : Bool) →
     sampled_level (at_bit (λ fault. fault.bit) bit faults) node bit level ≡ sampled_level faults node bit level
 sampled_level_at faults node bit level = ap (λ b. cond b (not level) level) (inverted_at faults node bit)
+
+-- before the bit that is named as the next with a fault none stands,
+pub faultless_before : (plan : SegmentPlan) (bit : ℕ) (order : FaultOrder) → bit < order.next_bit →
+    StandsAt plan bit order → IsFaultless plan bit
+faultless_before plan bit order less stands =
+    let next = order.next_bit in
+    let no_line = none_here (λ fault. fault.bit) bit next plan.line_faults.items _ less stands.line stands.next.line in
+    let no_node =
+    none_here (λ fault. fault.bit) bit next plan.node_faults.items _ less stands.nodes stands.next.nodes in
+    record {
+      line = λ driven. sym (line_level_at plan.line_faults.items bit driven)
+          ∙ ap (λ faults. line_level faults bit driven) no_line;
+      nodes = λ node level. sym (sampled_level_at plan.node_faults.items node bit level)
+          ∙ ap (λ faults. sampled_level faults node bit level) no_node;
+    }
+
+-- and the cursors stand where they do behind it too
+pub stands_before : (plan : SegmentPlan) (bit : ℕ) (order : FaultOrder) → bit < order.next_bit →
+    StandsAt plan bit order → StandsAt plan (bit + 1) order
+stands_before plan bit order less stands = record {
+  within = stands.within;
+  next = stands.next;
+  line = ahead_of_next (λ fault. fault.bit) bit order.next_bit plan.line_faults.items _ less stands.line
+      stands.next.line;
+  nodes = ahead_of_next (λ fault. fault.bit) bit order.next_bit plan.node_faults.items _ less stands.nodes
+      stands.next.nodes;
+}

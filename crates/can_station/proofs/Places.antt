@@ -62,7 +62,7 @@ places_step Step old new i a b room here step e = record {
     | inr more ↦ (let is : k ≡ i = omega arith in
         let qa : Some a ≡ Some c = sym here ∙ e.above i (omega arith) ∙ ap (slice_get old) (sym is) ∙ p in
         let qb : Some b ≡ Some d =
-            sym (get_set_same new i b (omega (arith, e.size))) ∙ ap (slice_get (set new i b)) (sym is) ∙ q in
+        sym (get_set_same new i b (omega (arith, e.size))) ∙ ap (slice_get (set new i b)) (sym is) ∙ q in
         same_step Step i k a b c d (sym is) qa qb step)
   ];
   above = λ k h. (let ne : k ≢ i = omega arith in get_set_other new i k b ne ∙ e.above k (omega arith));
@@ -71,8 +71,13 @@ places_step Step old new i a b room here step e = record {
 
 pub both_start : {M P : Type 0} (Step : ℕ → M → M → P → P → Type 0) (xs : List M) (ps : List P) →
     AtBothBelow Step xs xs ps ps 0
-both_start Step xs ps = record { below = λ k a b p q h e f g j. absurd (omega (arith, h)); above = λ k h. refl;
-    above_too = λ k h. refl; size = refl; size_too = refl }
+both_start Step xs ps = record {
+  below = λ k a b p q h e f g j. absurd (omega (arith, h));
+  above = λ k h. refl;
+  above_too = λ k h. refl;
+  size = refl;
+  size_too = refl;
+}
 
 pub both_end : {M P : Type 0} (Step : ℕ → M → M → P → P → Type 0) (old new : List M) (from to : List P) (i : ℕ) →
     length old ≤ i → AtBothBelow Step old new from to i → AtBoth Step old new from to
@@ -91,8 +96,8 @@ same_both Step i k a b c d p q r s ei ea eb ep eq step =
     let same_p : p ≡ r = cc ep in
     let same_q : q ≡ s = cc eq in
     subst (λ n. Step n c d r s) ei (subst (λ z. Step i c d r z) same_q
-        (subst (λ z. Step i c d z q) same_p (subst (λ z. Step i c z p q) same_b
-            (subst (λ z. Step i z b p q) same_a step))))
+    (subst (λ z. Step i c d z q) same_p (subst (λ z. Step i c z p q) same_b
+    (subst (λ z. Step i z b p q) same_a step))))
 
 pub both_step : {M P : Type 0} (Step : ℕ → M → M → P → P → Type 0) (old new : List M) (from to : List P) (i : ℕ)
     (a b : M) (p q : P) → i < length old → length from ≡ length old →
@@ -105,10 +110,10 @@ both_step Step old new from to i a b p q room sizes here there step e = record {
     | inr more ↦ (let is : k ≡ i = omega arith in
         let qa : Some a ≡ Some c = sym here ∙ e.above i (omega arith) ∙ ap (slice_get old) (sym is) ∙ ec in
         let qb : Some b ≡ Some d =
-            sym (get_set_same new i b (omega (arith, e.size))) ∙ ap (slice_get (set new i b)) (sym is) ∙ ed in
+        sym (get_set_same new i b (omega (arith, e.size))) ∙ ap (slice_get (set new i b)) (sym is) ∙ ed in
         let qp : Some p ≡ Some r = sym there ∙ e.above_too i (omega arith) ∙ ap (slice_get from) (sym is) ∙ er in
         let qq : Some q ≡ Some s =
-            sym (get_set_same to i q (omega (arith, e.size_too, sizes))) ∙ ap (slice_get (set to i q)) (sym is) ∙ es in
+        sym (get_set_same to i q (omega (arith, e.size_too, sizes))) ∙ ap (slice_get (set to i q)) (sym is) ∙ es in
         same_both Step i k a b c d p q r s (sym is) qa qb qp qq step)
   ];
   above = λ k h. (let ne : k ≢ i = omega arith in get_set_other new i k b ne ∙ e.above k (omega arith));

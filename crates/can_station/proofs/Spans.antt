@@ -19,8 +19,11 @@ rests_step Step old new same is =
 
 rests_both : {P : Type 0} (Step : Member → Member → P → P → Type 0) (old new : Member) (from to : P) → new ≡ old →
     to ≡ from → old.rests ≡ true → IfAwakeBoth Step old new from to
-rests_both Step old new from to same same_port is = record { rests_on = λ e. (same, same_port);
-    stays_awake = λ e. absurd (cc (e, is)); steps = λ e. absurd (cc (e, is)) }
+rests_both Step old new from to same same_port is = record {
+  rests_on = λ e. (same, same_port);
+  stays_awake = λ e. absurd (cc (e, is));
+  steps = λ e. absurd (cc (e, is));
+}
 
 -- those before the first that may be awake have made no step, and neither have those behind the last
 pub places_from : (Step : ℕ → Member → Member → Type 0) (xs : List Member) (span : Span) → AwakeWithin span xs →
@@ -63,7 +66,7 @@ both_to Step old new from to span i all h e = record {
     | inl less ↦ e.below k a b p q less ea eb ep eq
     | inr more ↦ (let behind : i ≤ k = omega (arith, more) in
         rests_both (Step k) a b p q (same_some b a (sym eb ∙ e.above k behind ∙ ea))
-            (same_some q p (sym eq ∙ e.above_too k behind ∙ ep)) (h.outside k a ea (inr (omega (arith, all, behind)))))
+        (same_some q p (sym eq ∙ e.above_too k behind ∙ ep)) (h.outside k a ea (inr (omega (arith, all, behind)))))
   ];
   size = e.size;
   size_too = e.size_too;
@@ -99,8 +102,10 @@ pub whole_within : (span : Span) (len : ℕ) (members : List Member) → IsWhole
 whole_within span len members whole here = record {
   within = omega (arith, whole.to_is, here);
   outside = λ k m e out. absurd (let there = slice_get_within members k m e in
-      elim out [ inl less ↦ omega (arith, less, whole.from_is)
-        | inr more ↦ omega (arith, more, whole.to_is, here, there) ]);
+      elim out [
+        | inl less ↦ omega (arith, less, whole.from_is)
+        | inr more ↦ omega (arith, more, whole.to_is, here, there)
+      ]);
 }
 
 -- where there is one place at most, all others rest
@@ -124,9 +129,9 @@ quiet_step bit members i m room here below k x h e awake on = elim (cases_lt k i
   | inl less ↦ (let ne : k ≢ i = omega arith in below k x less (sym (get_set_other members i k m ne) ∙ e) awake on)
   | inr more ↦ (let is : k ≡ i = omega arith in
       let same : m ≡ x =
-          same_some m x (sym (get_set_same members i m room) ∙ ap (slice_get (set members i m)) (sym is) ∙ e) in
+      same_some m x (sym (get_set_same members i m room) ∙ ap (slice_get (set members i m)) (sym is) ∙ e) in
       subst (λ y. IsQuiet y.deed) same (here (subst (λ y. y.rests ≡ false) (sym same) awake)
-          (subst (λ y. y.on ≤ bit) (sym same) on)))
+      (subst (λ y. y.on ≤ bit) (sym same) on)))
 ]
 
 pub quiet_to : (bit : ℕ) (old new : List Member) (span : Span) (i : ℕ) → span.to ≤ i → AwakeWithin span old →
@@ -145,8 +150,10 @@ pub record AwakeBelow (span : Span) (members : List Member) (i : ℕ) : Type 0 w
 
 pub awake_start : (span at : Span) (members : List Member) → at.to ≡ length members → AwakeWithin span members →
     AwakeBelow at members span.from
-awake_start span at members here h = record { within = omega (arith, here);
-    inside = λ k m less e awake. absurd (let is = h.outside k m e (inl less) in cc (is, awake)) }
+awake_start span at members here h = record {
+  within = omega (arith, here);
+  inside = λ k m less e awake. absurd (let is = h.outside k m e (inl less) in cc (is, awake));
+}
 
 pub awake_step : (before after : Span) (members : List Member) (i : ℕ) (m : Member) → i < length members →
     slice_get members i ≡ Some m → (m.rests ≡ true → after ≡ before) → after.from ≤ before.from →

@@ -21,9 +21,9 @@ told-append tells bit node [] m =
 told-append tells bit node (x ∷ xs) m =
     ap (λ es. lines bit node (tells x.deed) ++ es) (told-append tells bit (node + 1) xs m)
     ∙ sym (append_assoc (lines bit node (tells x.deed)) (told_by tells bit (node + 1) xs)
-        (lines bit (node + 1 + length xs) (tells m.deed)))
+    (lines bit (node + 1 + length xs) (tells m.deed)))
     ∙ ap (λ n. (lines bit node (tells x.deed) ++ told_by tells bit (node + 1) xs) ++ lines bit n (tells m.deed))
-        (omega arith)
+    (omega arith)
 
 -- one node more
 pub told_next : (tells : Deed → List Told) (bit node : ℕ) (members : List Member) (i : ℕ) (d : Member) →
@@ -35,4 +35,4 @@ told_next tells bit node members i d room =
     ap (λ n. told_by tells bit node (take n members)) one ∙ ap (told_by tells bit node) (take-suc members i d room)
     ∙ told-append tells bit node (take i members) (get_or members i d)
     ∙ ap (λ n. told_by tells bit node (take i members) ++ lines bit (node + n) (tells (get_or members i d).deed))
-        (length-take i members ∙ omega (arith, room))
+    (length-take i members ∙ omega (arith, room))

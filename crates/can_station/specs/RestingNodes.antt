@@ -1,6 +1,6 @@
 -- Nodes of which some are left alone while a listener follows the line for them.
 use Rattle.std.specs.Prelude.{◌≡◌, ◌≢◌, ◌⊎◌, ℕ, ◌+◌, ◌≤◌, ◌<◌, Bool, true, false}
-use Rattle.std.specs.Prelude.{Option, None, Some, List, length, slice_get, if◌then◌else◌}
+use Rattle.std.specs.Prelude.{Option, None, Some, List, [], ◌∷◌, length, slice_get, if◌then◌else◌}
 use Rattle.bx_core.specs.TxBus.{Item}
 use Rattle.can_node.specs.Histories.{Past, IsHistory}
 use Rattle.can_node.specs.Listener.{SendsTo, StandsWith, caught_up as node_caught_up}
@@ -180,6 +180,12 @@ pub record OneSends (place bit : ℕ) (before : Listener) (level : Bool) (after 
   pub from_is : slice_get old place ≡ Some from
   pub step : MemberSends bit before level after from to
   pub moves : MovesOne place (MemberSends bit before level after) old new
+
+-- bits of that kind with these levels, one after another
+abbrev pub MemberSendsRun : ℕ → Listener → List Bool → Listener → Member → Member → Type 0
+MemberSendsRun bit before [] after old new = (new ≡ old) × (after ≡ before)
+MemberSendsRun bit before (level ∷ levels) after old new = (mid : Member) × (between : Listener)
+    × MemberSends bit before level between old mid × MemberSendsRun (bit + 1) between levels after mid new
 
 -- it goes on with this bit, if that has this level, and nothing is told of it
 pub record MayGo (bit : ℕ) (level : Bool) (member : Member) : Type 0 where

@@ -1,6 +1,6 @@
 //! The faults of a plan in the order of their bits.
 
-ghost use Rattle.std.specs.Prelude.{◌≡◌, ◌≤◌, ◌+◌, ◌==◌, ℕ, Bool, true, IfOk, drop, take_while};
+ghost use Rattle.std.specs.Prelude.{◌≡◌, ◌≤◌, ◌<◌, ◌+◌, ◌==◌, ℕ, Bool, true, IfOk, drop, take_while};
 ghost use Rattle.std.specs.List.{All, prefix_len};
 ghost use Rattle.std.specs.List.Sorted.{IsNonDecreasingBy};
 ghost use Rattle.can_station.specs.FaultOrder.{IsAhead, IsFaultless, IsWithin, StandsAt};
@@ -140,6 +140,17 @@ impl FaultOrder {
         ensures { result ≡ true → (plan : SegmentPlan) → StandsAt plan bit self.now → IsFaultless plan bit }
     {
         bit < self.next_bit
+    }
+
+    /// A bit before which no fault stands behind the cursors, `limit` at most: up to it they stand where they do, and
+    /// pass nothing.
+    #[inline]
+    pub fn quiet_until(&self, limit: u64) -> u64
+        ensures limit { result ≤ limit }
+        ensures quiet { (plan : SegmentPlan) (bit : ℕ) → bit < result → StandsAt plan bit self.now
+            → IsFaultless plan bit × StandsAt plan (bit + 1) self.now }
+    {
+        limit.min(self.next_bit)
     }
 
     /// The cursors pass the bit at which they stand, to the next one.

@@ -1,7 +1,7 @@
 //! A node of a segment, from the bit on at which it is switched on.
 
 ghost use Rattle.std.specs.Prelude.{◌≡◌, ℕ, ◌<◌, ◌≤◌, ◌++◌, ◌&&◌, true, false, None, List, slice_get};
-ghost use Rattle.std.specs.Prelude.{if◌then◌else◌, IfSome, IfNone};
+ghost use Rattle.std.specs.Prelude.{if◌then◌else◌, IfSome, IfNone, Bool, ◌+◌, length, vec_capacity, vec_len};
 ghost use Rattle.can_frame.specs.Frames.{FrameValue};
 ghost use Rattle.bx_core.specs.TxBus.{BusPast, BusCall};
 ghost use Rattle.can_confinement.specs.KnownCounts.{Knows};
@@ -10,7 +10,7 @@ ghost use Rattle.can_station.specs.Ports.{item_of, Undone, Asks, started, starte
 ghost use Rattle.can_station.specs.Fresh.{IsFresh};
 ghost use Rattle.can_station.specs.Deeds.{IsQuiet, no_deed};
 ghost use Rattle.can_station.specs.RestingNodes.{MayFallSilent, MayGo, MayRest, MayWake, MemberGoes, MemberSends};
-ghost use Rattle.can_station.specs.RestingNodes.{laid_down, woken};
+ghost use Rattle.can_station.specs.RestingNodes.{MemberSendsRun, laid_down, woken};
 ghost use Rattle.can_station.specs.Members.{
   AreOf,
   is_on,
@@ -340,5 +340,29 @@ impl Member {
             return None;
         }
         self.station.node.send_to(listener)
+    }
+
+    /// As many bits of the stuffed region of a frame as there are that `send_to` would make one after another from this
+    /// one on (`Node::send_run`), `most` at most. Their levels are kept behind those of `levels`, which has room for
+    /// them.
+    pub fn send_run(
+        &mut self,
+        bit: u64,
+        listener: &mut Listener,
+        levels: &mut Vec<bool>,
+        most: usize,
+    )
+        requires bits { self.old.rests ≡ false → self.old.on ≤ bit
+            → bit_of self.old.station.node + most ≤ u64.MAX }
+        requires room { vec_len levels.old + most ≤ vec_capacity levels.old }
+        ensures { (sent : List Bool) × (length sent ≤ most) × (levels.new.items ≡ levels.old.items ++ sent)
+            × MemberSendsRun bit listener.old sent listener.new self.old self.new }
+    {
+        if self.rests || bit < self.on {
+            return;
+        }
+        if self.deed.is_quiet() {
+            self.station.node.send_run(listener, levels, most);
+        }
     }
 }

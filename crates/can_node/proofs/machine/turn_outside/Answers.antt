@@ -20,6 +20,6 @@ returns c spelling no_take no_send = record {
   advances = other_advances c.args.state.now c.args.reader.now c.args.reader.now spelling c.args.now
       c.state-errors.result c.args.level c.turn_of-turn.result no_send (c.turn_of-turn.ensures.goes no_take no_send)
       (λ is. absurd (cc (is, c.is_taking.ensures, c.if-is_taking.false)))
-          (λ is. absurd (cc (is, c.is_taking.ensures, c.if-is_taking.false)));
+      (λ is. absurd (cc (is, c.is_taking.ensures, c.if-is_taking.false)));
   is_made = c.make-2.ensures;
 }

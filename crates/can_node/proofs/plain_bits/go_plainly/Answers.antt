@@ -37,9 +37,9 @@ pub returns-in_default-state : goal.returns-in_default-state
 returns-in_default-state c plain =
     let same = c.count_on.ensures.other c.if-count_on.false in
     turn_leaves c.args.state.now c.args.counters.now c.args.now c.args.level c.state.result c.turn_of.result
-        c.in_default.not-Recovering
+    c.in_default.not-Recovering
     (subst (λ state. (role : Role) (owes : Bool) (ones zeros : ℕ) → state ≡ PassiveFlagging role owes ones zeros → ⊥)
-        same c.in_default-state.not-PassiveFlagging) plain c.state.ensures.shown
+    same c.in_default-state.not-PassiveFlagging) plain c.state.ensures.shown
     (subst (λ state. is_taking state ≡ false → is_sending state ≡ false →
-          Goes state c.args.now c.state.result c.args.level c.turn_of.result) same c.turn_of.ensures.goes)
+    Goes state c.args.now c.state.result c.args.level c.turn_of.result) same c.turn_of.ensures.goes)
     (subst (λ state. turns_plainly c.args.level state ≡ true → IsPlain c.turn_of.result) same c.turn_of.ensures.plain)

@@ -11,7 +11,7 @@ returns-in-Arbitration-clause-goes c =
 pub returns-in-ArbitrationStuffBit-clause-goes : goal.returns-in-ArbitrationStuffBit-clause-goes
 returns-in-ArbitrationStuffBit-clause-goes c = rw c.in-ArbitrationStuffBit.is
     (λ place spelling. send_stuff_lost c.args.start place spelling c.args.errors c.error_flag.result
-        c.error_flag.ensures)
+    c.error_flag.ensures)
 
 pub returns-in-Other-clause-goes : goal.returns-in-Other-clause-goes
 returns-in-Other-clause-goes c = rw c.in-Other.is

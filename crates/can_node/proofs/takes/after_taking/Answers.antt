@@ -23,7 +23,7 @@ returns-in-Taken-clause-goes c =
 pub returns-in-Fault-clause-goes : goal.returns-in-Fault-clause-goes
 returns-in-Fault-clause-goes c = rw (c.in-Fault.is, c.error_kind.ensures)
     (λ may. take_fault c.args.start may c.args.stage c.args.errors c.args.level c.in-Fault.kind c.error_flag.result
-        c.error_flag.ensures)
+    c.error_flag.ensures)
 
 pub returns-in-More-clause-alike : goal.returns-in-More-clause-alike
 returns-in-More-clause-alike c told other =

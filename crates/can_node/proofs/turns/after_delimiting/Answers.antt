@@ -12,7 +12,7 @@ returns-then-level-clause-goes c now = rw (c.plain-then-level.ensures, c.if-leve
 pub returns-then-ones-lt7-2-clause-goes : goal.returns-then-ones-lt7-2-clause-goes
 returns-then-ones-lt7-2-clause-goes c now = rw (c.if-level.false, c.error_event.ensures)
     (delimit_cut c.args.role c.args.ones now c.args.errors c.error_flag.result c.if-ones-lt7-2.true
-        c.error_flag.ensures)
+    c.error_flag.ensures)
 
 pub returns-clause-goes : goal.returns-clause-goes
 returns-clause-goes c now = rw (c.plain-2.ensures, c.if-level.false)

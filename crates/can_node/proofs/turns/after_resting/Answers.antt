@@ -21,17 +21,17 @@ returns-then-ones-lt2-clause-goes c = rw (c.plain-then-ones-lt2.ensures, c.if-le
 pub returns-then-not-level-clause-goes : goal.returns-then-not-level-clause-goes
 returns-then-not-level-clause-goes c = rw (c.plain-then-not-level.ensures, c.if-not-level.true)
     (rest_hurried c.args.role c.args.ones c.args.now c.args.errors c.if-ones-lt2.false c.is_suspended-waits.result
-        (sym c.is_suspended-waits.ensures))
+    (sym c.is_suspended-waits.ensures))
 
 pub returns-then-waits-clause-goes : goal.returns-then-waits-clause-goes
 returns-then-waits-clause-goes c = rw (c.plain-then-waits.ensures, c.if-not-level.false)
     (rest_waits c.args.role c.args.ones c.args.now c.args.errors c.if-ones-lt2.false
-        (sym c.is_suspended-waits.ensures ∙ c.if-waits.true))
+    (sym c.is_suspended-waits.ensures ∙ c.if-waits.true))
 
 pub returns-clause-goes : goal.returns-clause-goes
 returns-clause-goes c = rw (c.plain-2.ensures, c.if-not-level.false)
     (rest_ends c.args.role c.args.ones c.args.now c.args.errors c.if-ones-lt2.false
-        (sym c.is_suspended-waits.ensures ∙ c.if-waits.false))
+    (sym c.is_suspended-waits.ensures ∙ c.if-waits.false))
 
 pub returns-then-level-clause-alike : goal.returns-then-level-clause-alike
 returns-then-level-clause-alike c is other =
@@ -44,7 +44,7 @@ returns-then-ones-lt2-clause-alike c is other = rw (c.plain-then-ones-lt2.ensure
 pub returns-then-not-level-clause-alike : goal.returns-then-not-level-clause-alike
 returns-then-not-level-clause-alike c is other = rw (c.plain-then-not-level.ensures, c.if-not-level.true)
     (rest_hurried c.args.role c.args.ones c.args.now other c.if-ones-lt2.false c.is_suspended-waits.result
-        (never c.args.role c.args.errors other is ∙ sym c.is_suspended-waits.ensures))
+    (never c.args.role c.args.errors other is ∙ sym c.is_suspended-waits.ensures))
 
 pub returns-then-waits-clause-alike : goal.returns-then-waits-clause-alike
 returns-then-waits-clause-alike c is other = absurd (let never_waits = ap (λ role. suspends role c.args.errors) is in

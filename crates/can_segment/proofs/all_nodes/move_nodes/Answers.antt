@@ -15,13 +15,13 @@ sample_all-told-requires-clause-talker_room g c k m e awake on =
     let rest = c.args.rest.now in
     let size = members_length rest c.args.bit c.args.talkers.now in
     let within =
-        slice_get_within (members_at c.start_all-driven.new.rest c.args.bit c.start_all-driven.new.talkers) k m e in
+    slice_get_within (members_at c.start_all-driven.new.rest c.args.bit c.start_all-driven.new.talkers) k m e in
     let old = some_there (members_at rest c.args.bit c.args.talkers.now) k (omega (arith, within, starts.size)) in
     let talker =
-        some_there c.args.plan.now.talkers.items k (omega (arith, within, starts.size, size, c.requires.talkers)) in
+    some_there c.args.plan.now.talkers.items k (omega (arith, within, starts.size, size, c.requires.talkers)) in
     talker_clock c.args.bit _ old.0 m talker.0.frames.items
-        (starts.at k old.0 m old.1 e talker.0 (rw c.as_slice-talkers_plan.ensures.value talker.1))
-        (c.requires.talker_clocks k old.0 old.1 (awake_at rest c.args.bit c.args.talkers.now k old.0 old.1)) on
+    (starts.at k old.0 m old.1 e talker.0 (rw c.as_slice-talkers_plan.ensures.value talker.1))
+    (c.requires.talker_clocks k old.0 old.1 (awake_at rest c.args.bit c.args.talkers.now k old.0 old.1)) on
 
 pub sample_all-told-requires-clause-room : goal.sample_all-told-requires-clause-room
 sample_all-told-requires-clause-room g c k m e awake on =
@@ -29,13 +29,13 @@ sample_all-told-requires-clause-room g c k m e awake on =
     let rest = c.args.rest.now in
     let size = members_length rest c.args.bit c.args.controllers.now in
     let within =
-        slice_get_within (members_at c.start_all-driven.new.rest c.args.bit c.start_all-driven.new.controllers) k m e in
+    slice_get_within (members_at c.start_all-driven.new.rest c.args.bit c.start_all-driven.new.controllers) k m e in
     let old = some_there (members_at rest c.args.bit c.args.controllers.now) k (omega (arith, within, starts.size)) in
     let from = some_there c.args.ports.now k (omega (arith, within, starts.size, size, c.requires.ports)) in
     let to = some_there c.start_all-driven.new.ports k
-        (omega (arith, within, starts.size, starts.size_too, size, c.requires.ports)) in
+    (omega (arith, within, starts.size, starts.size_too, size, c.requires.ports)) in
     controller_clock c.args.bit _ old.0 m (starts.at k old.0 m from.0 to.0 old.1 e from.1 to.1).member
-        (c.requires.clocks k old.0 old.1 (awake_at rest c.args.bit c.args.controllers.now k old.0 old.1)) on
+    (c.requires.clocks k old.0 old.1 (awake_at rest c.args.bit c.args.controllers.now k old.0 old.1)) on
 
 pub sample_all-told-requires-clause-port : goal.sample_all-told-requires-clause-port
 sample_all-told-requires-clause-port g c k m p e f =
@@ -43,7 +43,7 @@ sample_all-told-requires-clause-port g c k m p e f =
     let rest = c.args.rest.now in
     let size = members_length rest c.args.bit c.args.controllers.now in
     let within =
-        slice_get_within (members_at c.start_all-driven.new.rest c.args.bit c.start_all-driven.new.controllers) k m e in
+    slice_get_within (members_at c.start_all-driven.new.rest c.args.bit c.start_all-driven.new.controllers) k m e in
     let old = some_there (members_at rest c.args.bit c.args.controllers.now) k (omega (arith, within, starts.size)) in
     let from = some_there c.args.ports.now k (omega (arith, within, starts.size, size, c.requires.ports)) in
     (starts.at k old.0 m from.0 p old.1 e from.1 f).transmits
@@ -57,8 +57,13 @@ returns-clause-nodes g c =
     let level = c.line_level-level.result in
     let mid = c.start_all-driven.new.rest in
     let talkers_size : length c.start_all-driven.new.talkers ≡ length c.args.plan.now.talkers.items =
-    omega (arith, c.requires.talkers, c.start_all-driven.ensures.talkers.size,
-        members_length rest bit c.args.talkers.now, members_length mid bit c.start_all-driven.new.talkers) in
+    omega (
+      arith,
+      c.requires.talkers,
+      c.start_all-driven.ensures.talkers.size,
+      members_length rest bit c.args.talkers.now,
+      members_length mid bit c.start_all-driven.new.talkers,
+    ) in
     let size = members_length rest bit c.args.controllers.now in
     record {
       t1 = members_at mid bit c.start_all-driven.new.talkers;
@@ -68,9 +73,9 @@ returns-clause-nodes g c =
         at = λ k a b e f.
             let here : 0 + k ≡ k = omega arith in
             let own : sampled_level c.inverting-here.result.now (0 + k) bit level
-                ≡ sampled_level c.args.plan.now.node_faults.items k bit level =
+            ≡ sampled_level c.args.plan.now.node_faults.items k bit level =
             ap (λ n. sampled_level c.inverting-here.result.now n bit level) here
-                ∙ c.inverting-here.ensures c.args.plan.now c.requires.stands k level in
+            ∙ c.inverting-here.ensures c.args.plan.now c.requires.stands k level in
             subst (λ l. Samples bit l a b) own (c.sample_all-told.ensures.talkers.at k a b e f);
         size = c.sample_all-told.ensures.talkers.size;
       };
@@ -79,20 +84,20 @@ returns-clause-nodes g c =
             let within = slice_get_within (members_at rest bit c.args.controllers.now) k a ea in
             let from = some_there c.args.ports.now k (omega (arith, within, size, c.requires.ports)) in
             let to = some_there c.start_all-driven.new.ports k
-                (omega (arith, within, size, starts.size_too, c.requires.ports)) in
+            (omega (arith, within, size, starts.size_too, c.requires.ports)) in
             (starts.at k a b from.0 to.0 ea eb from.1 to.1).member;
         settles = λ k a b ea eb.
             let within = slice_get_within (members_at mid bit c.start_all-driven.new.controllers) k a ea in
             let from = some_there c.start_all-driven.new.ports k
-                (omega (arith, within, size, starts.size, starts.size_too, c.requires.ports)) in
+            (omega (arith, within, size, starts.size, starts.size_too, c.requires.ports)) in
             let to = some_there c.sample_all-told.new.ports k
-                (omega (arith, within, size, starts.size, starts.size_too, settles.size_too, c.requires.ports)) in
+            (omega (arith, within, size, starts.size, starts.size_too, settles.size_too, c.requires.ports)) in
             subst (λ n. SamplesAndSettles bit (sampled_level c.args.plan.now.node_faults.items (n + k) bit level) a b)
-                talkers_size
+            talkers_size
             (subst (λ l. SamplesAndSettles bit l a b)
-                (c.inverting-here.ensures c.args.plan.now c.requires.stands
-                  (length c.start_all-driven.new.talkers + k) level)
-                (settles.at k a b from.0 to.0 ea eb from.1 to.1).member);
+            (c.inverting-here.ensures c.args.plan.now c.requires.stands
+            (length c.start_all-driven.new.talkers + k) level)
+            (settles.at k a b from.0 to.0 ea eb from.1 to.1).member);
         mid_size = starts.size;
         after_size = settles.size;
       };
@@ -110,12 +115,12 @@ returns-clause-port g c k a m p q d e f h =
     let size = members_length rest c.args.bit c.args.controllers.now in
     let within = slice_get_within (members_at after (c.args.bit + 1) c.sample_all-told.new.controllers) k m e in
     let mid = some_there (members_at start c.args.bit c.start_all-driven.new.controllers) k
-        (omega (arith, within, settles.size)) in
+    (omega (arith, within, settles.size)) in
     let between = some_there c.start_all-driven.new.ports k
-        (omega (arith, within, size, starts.size, settles.size, starts.size_too, c.requires.ports)) in
+    (omega (arith, within, size, starts.size, settles.size, starts.size_too, c.requires.ports)) in
     port_moves g.P.TxBus.bus_after g.P.TxBus.bus_asked g.P.TxBus.transmitting g.P.RxSink.sink_after g.P.TxBus.bus_stays
-        g.P.RxSink.port_stays c.args.bit _ a mid.0 m p between.0 q g.met.P.RxSink.port_of_bus
-        g.met.P.RxSink.port_stays_on g.met.P.RxSink.sink_stays
+    g.P.RxSink.port_stays c.args.bit _ a mid.0 m p between.0 q g.met.P.RxSink.port_of_bus
+    g.met.P.RxSink.port_stays_on g.met.P.RxSink.sink_stays
     (starts.at k a mid.0 p between.0 d mid.1 f between.1) (settles.at k mid.0 m between.0 q mid.1 e between.1 h)
 
 pub returns-clause-left : goal.returns-clause-left

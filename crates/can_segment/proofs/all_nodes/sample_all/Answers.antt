@@ -15,22 +15,22 @@ use Rattle.can_segment.proofs.all_nodes.sample_all.Goals as goal
 pub sample_nodes-talkers_told-requires-clause-room : goal.sample_nodes-talkers_told-requires-clause-room
 sample_nodes-talkers_told-requires-clause-room g c =
     room_real _ c.disturb.new.self c.args.bit c.go_through.new.talkers
-        (subst (HasRoom _ c.args.bit) (sym (c.go_through.ensures.talkers.same ∙ c.disturb.ensures.talkers))
-        c.requires.talker_room)
+    (subst (HasRoom _ c.args.bit) (sym (c.go_through.ensures.talkers.same ∙ c.disturb.ensures.talkers))
+    c.requires.talker_room)
 
 pub sample_controllers-controllers_told-requires-clause-room :
     goal.sample_controllers-controllers_told-requires-clause-room
 sample_controllers-controllers_told-requires-clause-room g c =
     room_real _ c.disturb.new.self c.args.bit c.go_through.new.controllers
-        (subst (HasRoom _ c.args.bit) (sym (c.go_through.ensures.controllers.same ∙ c.disturb.ensures.controllers))
-        c.requires.room)
+    (subst (HasRoom _ c.args.bit) (sym (c.go_through.ensures.controllers.same ∙ c.disturb.ensures.controllers))
+    c.requires.room)
 
 pub sample_controllers-controllers_told-requires-clause-port :
     goal.sample_controllers-controllers_told-requires-clause-port
 sample_controllers-controllers_told-requires-clause-port g c =
     transmits_real g.P.TxBus.transmitting c.disturb.new.self c.args.bit c.go_through.new.controllers c.args.ports.now
     (subst (λ ms. TransmitsAll g.P.TxBus.transmitting ms c.args.ports.now)
-        (sym (c.go_through.ensures.controllers.same ∙ c.disturb.ensures.controllers)) c.requires.port)
+    (sym (c.go_through.ensures.controllers.same ∙ c.disturb.ensures.controllers)) c.requires.port)
 
 pub returns-clause-talkers : goal.returns-clause-talkers
 returns-clause-talkers g c =
@@ -39,12 +39,12 @@ returns-clause-talkers g c =
     let t = c.go_through.new.talkers in
     let goes = c.go_through.ensures.talkers in
     subst (λ ms. AtPlaces (NodeSamples 0 c.args.bit c.args.level c.args.faults.now) ms
-        (members_at after (c.args.bit + 1) c.sample_nodes-talkers_told.new.members))
-        (goes.same ∙ c.disturb.ensures.talkers)
+    (members_at after (c.args.bit + 1) c.sample_nodes-talkers_told.new.members))
+    (goes.same ∙ c.disturb.ensures.talkers)
     (members_sample before after c.args.bit 0 c.args.level c.args.faults.now t c.sample_nodes-talkers_told.new.members
-        (left_rests before c.args.bit c.disturb.new.talkers t goes.left c.disturb.ensures.holds.talkers_rest)
+    (left_rests before c.args.bit c.disturb.new.talkers t goes.left c.disturb.ensures.holds.talkers_rest)
     (λ k m e is. c.disturb.ensures.talkers_undisturbed k m (goes.left k m e is) is) goes.through
-        c.sample_nodes-talkers_told.ensures.samples)
+    c.sample_nodes-talkers_told.ensures.samples)
 
 pub returns-clause-controllers : goal.returns-clause-controllers
 returns-clause-controllers g c =
@@ -55,22 +55,22 @@ returns-clause-controllers g c =
     let first = length c.args.talkers.now in
     let same = goes.same ∙ c.disturb.ensures.controllers in
     let size : length c.args.ports.now ≡ length cs = c.requires.ports
-        ∙ sym (members_length c.args.rest.now c.args.bit c.args.controllers.now) ∙ ap length (sym same)
-        ∙ members_length before c.args.bit cs in
+    ∙ sym (members_length c.args.rest.now c.args.bit c.args.controllers.now) ∙ ap length (sym same)
+    ∙ members_length before c.args.bit cs in
     let sends = transmits_real g.P.TxBus.transmitting before c.args.bit cs c.args.ports.now
-        (subst (λ ms. TransmitsAll g.P.TxBus.transmitting ms c.args.ports.now) (sym same) c.requires.port) in
+    (subst (λ ms. TransmitsAll g.P.TxBus.transmitting ms c.args.ports.now) (sym same) c.requires.port) in
     subst
-        (λ ms. AtBoth (λ k. PortSettles g.P.TxBus.bus_after g.P.TxBus.bus_asked g.P.TxBus.transmitting
-          g.P.RxSink.sink_after g.P.RxSink.port_stays c.args.bit
-          (sampled_level c.args.faults.now (first + k) c.args.bit c.args.level)) ms
+    (λ ms. AtBoth (λ k. PortSettles g.P.TxBus.bus_after g.P.TxBus.bus_asked g.P.TxBus.transmitting
+    g.P.RxSink.sink_after g.P.RxSink.port_stays c.args.bit
+    (sampled_level c.args.faults.now (first + k) c.args.bit c.args.level)) ms
     (members_at after (c.args.bit + 1) c.sample_controllers-controllers_told.new.members) c.args.ports.now
-        c.sample_controllers-controllers_told.new.ports) same
+    c.sample_controllers-controllers_told.new.ports) same
     (controllers_sample g.P.TxBus.bus_after g.P.TxBus.bus_asked g.P.TxBus.transmitting g.P.RxSink.sink_after
-        g.P.RxSink.port_stays before after c.args.bit first c.args.level c.args.faults.now cs
+    g.P.RxSink.port_stays before after c.args.bit first c.args.level c.args.faults.now cs
     c.sample_controllers-controllers_told.new.members c.args.ports.now c.sample_controllers-controllers_told.new.ports
-        (λ x. g.met.P.RxSink.port_of_bus x x (g.met.P.TxBus.bus_stays_self x))
+    (λ x. g.met.P.RxSink.port_of_bus x x (g.met.P.TxBus.bus_stays_self x))
     (left_rests before c.args.bit c.disturb.new.controllers cs goes.left c.disturb.ensures.holds.controllers_rest)
-        (λ k m e is. c.disturb.ensures.undisturbed k m (goes.left k m e is) is) goes.through
+    (λ k m e is. c.disturb.ensures.undisturbed k m (goes.left k m e is) is) goes.through
     sends size c.sample_controllers-controllers_told.ensures.settles)
 
 pub returns-clause-rests : goal.returns-clause-rests
@@ -82,16 +82,16 @@ returns-clause-rests g c =
     let settles = c.sample_controllers-controllers_told.ensures.settles in
     let same = c.go_through.ensures.controllers.same ∙ c.disturb.ensures.controllers in
     let size : length c.args.ports.now ≡ length cs = c.requires.ports
-        ∙ sym (members_length c.args.rest.now c.args.bit c.args.controllers.now) ∙ ap length (sym same)
-        ∙ members_length before c.args.bit cs in
+    ∙ sym (members_length c.args.rest.now c.args.bit c.args.controllers.now) ∙ ap length (sym same)
+    ∙ members_length before c.args.bit cs in
     left_holds c.go_through.new.self (c.args.bit + 1) c.args.plan.now t c.sample_nodes-talkers_told.new.members cs
-        c.sample_controllers-controllers_told.new.members
-        (left_places _ t c.sample_nodes-talkers_told.new.members samples)
+    c.sample_controllers-controllers_told.new.members
+    (left_places _ t c.sample_nodes-talkers_told.new.members samples)
     (left_both _ cs c.sample_controllers-controllers_told.new.members c.args.ports.now
-        c.sample_controllers-controllers_told.new.ports size settles)
+    c.sample_controllers-controllers_told.new.ports size settles)
     (λ span. within_places _ span t c.sample_nodes-talkers_told.new.members samples)
-        (λ span. within_both _ span cs c.sample_controllers-controllers_told.new.members c.args.ports.now
-        c.sample_controllers-controllers_told.new.ports size settles)
+    (λ span. within_both _ span cs c.sample_controllers-controllers_told.new.members c.args.ports.now
+    c.sample_controllers-controllers_told.new.ports size settles)
     c.go_through.ensures.holds
 
 pub returns-clause-quiet : goal.returns-clause-quiet
@@ -112,16 +112,16 @@ returns-clause-left g c =
     let cs = c.go_through.new.controllers in
     let same = goes.controllers.same ∙ c.disturb.ensures.controllers in
     let size : length c.args.ports.now ≡ length cs = c.requires.ports
-        ∙ sym (members_length c.args.rest.now c.args.bit c.args.controllers.now) ∙ ap length (sym same)
-        ∙ members_length before c.args.bit cs in (
+    ∙ sym (members_length c.args.rest.now c.args.bit c.args.controllers.now) ∙ ap length (sym same)
+    ∙ members_length before c.args.bit cs in (
       left_on c.args.talkers.now c.disturb.new.talkers c.sample_nodes-talkers_told.new.members c.disturb.ensures.left.0
           (left_on c.disturb.new.talkers c.go_through.new.talkers c.sample_nodes-talkers_told.new.members
-              goes.talkers.left (left_places _ c.go_through.new.talkers c.sample_nodes-talkers_told.new.members
-                c.sample_nodes-talkers_told.ensures.samples)),
+          goes.talkers.left (left_places _ c.go_through.new.talkers c.sample_nodes-talkers_told.new.members
+          c.sample_nodes-talkers_told.ensures.samples)),
       left_on c.args.controllers.now c.disturb.new.controllers c.sample_controllers-controllers_told.new.members
           c.disturb.ensures.left.1
           (left_on c.disturb.new.controllers cs c.sample_controllers-controllers_told.new.members goes.controllers.left
           (left_both _ cs c.sample_controllers-controllers_told.new.members c.args.ports.now
-              c.sample_controllers-controllers_told.new.ports size
-              c.sample_controllers-controllers_told.ensures.settles)),
+          c.sample_controllers-controllers_told.new.ports size
+          c.sample_controllers-controllers_told.ensures.settles)),
     )

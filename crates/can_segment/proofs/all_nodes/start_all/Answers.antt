@@ -13,8 +13,8 @@ use Rattle.can_segment.proofs.all_nodes.start_all.Goals as goal
 pub start_controllers-requires-clause-port : goal.start_controllers-requires-clause-port
 start_controllers-requires-clause-port g c =
     transmits_real g.P.TxBus.transmitting c.rouse.new.self c.args.bit c.rouse.new.controllers c.args.ports.now
-        (subst (λ ms. TransmitsAll g.P.TxBus.transmitting ms c.args.ports.now)
-        (sym c.rouse.ensures.controllers) c.requires.port)
+    (subst (λ ms. TransmitsAll g.P.TxBus.transmitting ms c.args.ports.now)
+    (sym c.rouse.ensures.controllers) c.requires.port)
 
 pub driven_by_all-requires-clause-talkers : goal.driven_by_all-requires-clause-talkers
 driven_by_all-requires-clause-talkers g c = within_places _ c.rouse.new.self.talkers c.rouse.new.talkers
@@ -24,18 +24,18 @@ pub driven_by_all-requires-clause-controllers : goal.driven_by_all-requires-clau
 driven_by_all-requires-clause-controllers g c =
     let size : length c.args.ports.now ≡ length c.rouse.new.controllers =
     c.requires.ports ∙ sym (members_length c.args.rest.now c.args.bit c.args.controllers.now)
-        ∙ ap length (sym c.rouse.ensures.controllers)
-        ∙ members_length c.rouse.new.self c.args.bit c.rouse.new.controllers in
+    ∙ ap length (sym c.rouse.ensures.controllers)
+    ∙ members_length c.rouse.new.self c.args.bit c.rouse.new.controllers in
     within_both _ c.rouse.new.self.controllers c.rouse.new.controllers c.start_controllers.new.members c.args.ports.now
-        c.start_controllers.new.ports size c.start_controllers.ensures c.rouse.ensures.holds.controllers_within
+    c.start_controllers.new.ports size c.start_controllers.ensures c.rouse.ensures.holds.controllers_within
 
 pub returns-clause-talkers : goal.returns-clause-talkers
 returns-clause-talkers g c =
     let roused = c.rouse.ensures in
     subst (λ ms. AtPlaces (TalkerStarts c.args.bit c.args.plan.now) ms
-        (members_at c.rouse.new.self c.args.bit c.start_talkers.new.members)) roused.talkers
+    (members_at c.rouse.new.self c.args.bit c.start_talkers.new.members)) roused.talkers
     (talkers_start c.rouse.new.self c.args.bit c.args.plan.now c.rouse.new.talkers c.start_talkers.new.members
-        roused.none roused.holds.talkers_rest roused.holds.talkers_spent c.start_talkers.ensures)
+    roused.none roused.holds.talkers_rest roused.holds.talkers_spent c.start_talkers.ensures)
 
 pub returns-clause-controllers : goal.returns-clause-controllers
 returns-clause-controllers g c =
@@ -43,19 +43,19 @@ returns-clause-controllers g c =
     let rest = c.rouse.new.self in
     let size : length c.args.ports.now ≡ length c.rouse.new.controllers =
     c.requires.ports ∙ sym (members_length c.args.rest.now c.args.bit c.args.controllers.now)
-        ∙ ap length (sym roused.controllers) ∙ members_length rest c.args.bit c.rouse.new.controllers in
+    ∙ ap length (sym roused.controllers) ∙ members_length rest c.args.bit c.rouse.new.controllers in
     let sends = transmits_real g.P.TxBus.transmitting rest c.args.bit c.rouse.new.controllers c.args.ports.now
-        (subst (λ ms. TransmitsAll g.P.TxBus.transmitting ms c.args.ports.now)
-        (sym roused.controllers) c.requires.port) in
+    (subst (λ ms. TransmitsAll g.P.TxBus.transmitting ms c.args.ports.now)
+    (sym roused.controllers) c.requires.port) in
     subst
-        (λ ms. AtBoth (λ k. PortStarts g.P.TxBus.bus_after g.P.TxBus.bus_asked g.P.TxBus.transmitting
-          g.P.TxBus.bus_stays c.args.bit) ms (members_at rest c.args.bit c.start_controllers.new.members)
-        c.args.ports.now c.start_controllers.new.ports) roused.controllers
+    (λ ms. AtBoth (λ k. PortStarts g.P.TxBus.bus_after g.P.TxBus.bus_asked g.P.TxBus.transmitting
+    g.P.TxBus.bus_stays c.args.bit) ms (members_at rest c.args.bit c.start_controllers.new.members)
+    c.args.ports.now c.start_controllers.new.ports) roused.controllers
     (controllers_start g.P.TxBus.bus_after g.P.TxBus.bus_asked g.P.TxBus.transmitting g.P.TxBus.bus_stays rest
-        c.args.bit c.rouse.new.controllers c.start_controllers.new.members c.args.ports.now
-        c.start_controllers.new.ports
+    c.args.bit c.rouse.new.controllers c.start_controllers.new.members c.args.ports.now
+    c.start_controllers.new.ports
     g.met.P.TxBus.bus_stays_self roused.none roused.holds.controllers_rest roused.holds.controllers_awake sends size
-        c.start_controllers.ensures)
+    c.start_controllers.ensures)
 
 pub returns-clause-driven : goal.returns-clause-driven
 returns-clause-driven g c =
@@ -66,17 +66,17 @@ returns-clause-driven g c =
     let after = c.start_controllers.new.members in
     let size : length c.args.ports.now ≡ length c.rouse.new.controllers =
     c.requires.ports ∙ sym (members_length c.args.rest.now bit c.args.controllers.now)
-        ∙ ap length (sym roused.controllers) ∙ members_length rest bit c.rouse.new.controllers in
+    ∙ ap length (sym roused.controllers) ∙ members_length rest bit c.rouse.new.controllers in
     let talkers = left_rests rest bit c.rouse.new.talkers t
-        (left_places _ c.rouse.new.talkers t c.start_talkers.ensures) roused.holds.talkers_rest in
+    (left_places _ c.rouse.new.talkers t c.start_talkers.ensures) roused.holds.talkers_rest in
     let controllers = left_rests rest bit c.rouse.new.controllers after
-        (left_both _ c.rouse.new.controllers after c.args.ports.now c.start_controllers.new.ports size
-        c.start_controllers.ensures) roused.holds.controllers_rest in
+    (left_both _ c.rouse.new.controllers after c.args.ports.now c.start_controllers.new.ports size
+    c.start_controllers.ensures) roused.holds.controllers_rest in
     c.driven_by_all.ensures
     ∙ ap (λ b. b && list_all (λ m. cond m.rests c.drive.result (drives_at bit m)) after)
-        (all_drive rest bit c.drive.result t c.drive.ensures talkers)
+    (all_drive rest bit c.drive.result t c.drive.ensures talkers)
     ∙ ap (λ b. list_all (drives_at bit) (members_at rest bit t) && b)
-        (all_drive rest bit c.drive.result after c.drive.ensures controllers)
+    (all_drive rest bit c.drive.result after c.drive.ensures controllers)
 
 pub returns-clause-rests : goal.returns-clause-rests
 returns-clause-rests g c =
@@ -87,24 +87,24 @@ returns-clause-rests g c =
     let after = c.start_controllers.new.members in
     let size : length c.args.ports.now ≡ length c.rouse.new.controllers =
     c.requires.ports ∙ sym (members_length c.args.rest.now bit c.args.controllers.now)
-        ∙ ap length (sym roused.controllers) ∙ members_length rest bit c.rouse.new.controllers in
+    ∙ ap length (sym roused.controllers) ∙ members_length rest bit c.rouse.new.controllers in
     left_holds rest bit c.args.plan.now c.rouse.new.talkers t c.rouse.new.controllers after
-        (left_places _ c.rouse.new.talkers t c.start_talkers.ensures)
+    (left_places _ c.rouse.new.talkers t c.start_talkers.ensures)
     (left_both _ c.rouse.new.controllers after c.args.ports.now c.start_controllers.new.ports size
-        c.start_controllers.ensures)
+    c.start_controllers.ensures)
     (λ span. within_places _ span c.rouse.new.talkers t c.start_talkers.ensures)
-        (λ span. within_both _ span c.rouse.new.controllers after c.args.ports.now c.start_controllers.new.ports size
-        c.start_controllers.ensures) roused.holds
+    (λ span. within_both _ span c.rouse.new.controllers after c.args.ports.now c.start_controllers.new.ports size
+    c.start_controllers.ensures) roused.holds
 
 pub returns-clause-left : goal.returns-clause-left
 returns-clause-left g c =
     let roused = c.rouse.ensures in
     let size : length c.args.ports.now ≡ length c.rouse.new.controllers =
     c.requires.ports ∙ sym (members_length c.args.rest.now c.args.bit c.args.controllers.now)
-        ∙ ap length (sym roused.controllers) ∙ members_length c.rouse.new.self c.args.bit c.rouse.new.controllers in (
+    ∙ ap length (sym roused.controllers) ∙ members_length c.rouse.new.self c.args.bit c.rouse.new.controllers in (
       left_on c.args.talkers.now c.rouse.new.talkers c.start_talkers.new.members roused.left.0
           (left_places _ c.rouse.new.talkers c.start_talkers.new.members c.start_talkers.ensures),
       left_on c.args.controllers.now c.rouse.new.controllers c.start_controllers.new.members roused.left.1
           (left_both _ c.rouse.new.controllers c.start_controllers.new.members c.args.ports.now
-              c.start_controllers.new.ports size c.start_controllers.ensures),
+          c.start_controllers.new.ports size c.start_controllers.ensures),
     )

@@ -9,5 +9,5 @@ loop-place-init c = shown_start c.args.first c.args.members.now c.args.counters.
 pub returns-clause-shown : goal.returns-clause-shown
 returns-clause-shown c =
     shown_end c.args.first c.args.members.now c.args.counters.now.items c.loop-place.counters.items c.args.awake
-        c.loop-place.place (omega (arith, c.loop-place-test.false)) c.requires.awake c.requires.resting
-        c.loop-place.invariant
+    c.loop-place.place (omega (arith, c.loop-place-test.false)) c.requires.awake c.requires.resting
+    c.loop-place.invariant

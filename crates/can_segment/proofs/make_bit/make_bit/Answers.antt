@@ -22,10 +22,10 @@ move_nodes-level-requires-clause-talker_clocks g c k m e awake on =
     let rest = c.args.rest.now in
     let bit = c.len-bit.result in
     let kept = subst (λ n. SegmentKept c.args.plan.now c.args.levels.now.items c.args.events.now.items
-        (members_at rest n c.args.talkers.now) (members_at rest n c.args.controllers.now)) (sym here) c.requires.kept in
+    (members_at rest n c.args.talkers.now) (members_at rest n c.args.controllers.now)) (sym here) c.requires.kept in
     talker_clocks c.args.plan.now c.args.levels.now.items c.args.events.now.items
-        (members_at rest bit c.args.talkers.now) (members_at rest bit c.args.controllers.now) bit _ kept here
-        (search rules) k m e on
+    (members_at rest bit c.args.talkers.now) (members_at rest bit c.args.controllers.now) bit _ kept here
+    (search rules) k m e on
 
 pub move_nodes-level-requires-clause-clocks : goal.move_nodes-level-requires-clause-clocks
 move_nodes-level-requires-clause-clocks g c k m e awake on =
@@ -33,10 +33,10 @@ move_nodes-level-requires-clause-clocks g c k m e awake on =
     let rest = c.args.rest.now in
     let bit = c.len-bit.result in
     let kept = subst (λ n. SegmentKept c.args.plan.now c.args.levels.now.items c.args.events.now.items
-        (members_at rest n c.args.talkers.now) (members_at rest n c.args.controllers.now)) (sym here) c.requires.kept in
+    (members_at rest n c.args.talkers.now) (members_at rest n c.args.controllers.now)) (sym here) c.requires.kept in
     controller_clocks c.args.plan.now c.args.levels.now.items c.args.events.now.items
-        (members_at rest bit c.args.talkers.now) (members_at rest bit c.args.controllers.now) bit _ kept here
-        (search rules) k m e on
+    (members_at rest bit c.args.talkers.now) (members_at rest bit c.args.controllers.now) bit _ kept here
+    (search rules) k m e on
 
 pub tell-requires-clause-quiet : goal.tell-requires-clause-quiet
 tell-requires-clause-quiet g c none =
@@ -45,18 +45,18 @@ tell-requires-clause-quiet g c none =
     let new = c.move_nodes-level.new.rest in
     let bit = c.len-bit.result in
     let kept = subst (λ n. SegmentKept c.args.plan.now c.args.levels.now.items c.args.events.now.items
-        (members_at old n c.args.talkers.now) (members_at old n c.args.controllers.now)) (sym here) c.requires.kept in
+    (members_at old n c.args.talkers.now) (members_at old n c.args.controllers.now)) (sym here) c.requires.kept in
     let talkers = members_at new (bit + 1) c.move_nodes-level.new.talkers in
     let controllers = members_at new (bit + 1) c.move_nodes-level.new.controllers in
     let next = kept_on c.args.plan.now c.args.levels.now.items c.args.events.now.items bit
-        c.move_nodes-level.result.level (members_at old bit c.args.talkers.now) talkers
-        (members_at old bit c.args.controllers.now) controllers
+    c.move_nodes-level.result.level (members_at old bit c.args.talkers.now) talkers
+    (members_at old bit c.args.controllers.now) controllers
     kept here c.requires.still c.move_nodes-level.ensures.nodes in
     let quiet = c.move_nodes-level.ensures.quiet none in
     sym (lines_whole bit new (bit + 1) c.move_nodes-level.new.talkers c.move_nodes-level.new.controllers)
     ∙ quiet_lines c.args.plan.now _ _ bit talkers controllers next
-        (length-append c.args.levels.now.items (c.move_nodes-level.result.level ∷ []) ∙ omega (arith, here)) quiet.0
-        quiet.1
+    (length-append c.args.levels.now.items (c.move_nodes-level.result.level ∷ []) ∙ omega (arith, here)) quiet.0
+    quiet.1
 
 pub returns-clause-kept : goal.returns-clause-kept
 returns-clause-kept g c =
@@ -65,23 +65,23 @@ returns-clause-kept g c =
     let new = c.move_nodes-level.new.rest in
     let bit = c.len-bit.result in
     let kept = subst (λ n. SegmentKept c.args.plan.now c.args.levels.now.items c.args.events.now.items
-        (members_at old n c.args.talkers.now) (members_at old n c.args.controllers.now)) (sym here) c.requires.kept in
+    (members_at old n c.args.talkers.now) (members_at old n c.args.controllers.now)) (sym here) c.requires.kept in
     let talkers = members_at new (bit + 1) c.move_nodes-level.new.talkers in
     let controllers = members_at new (bit + 1) c.move_nodes-level.new.controllers in
     let next = kept_on c.args.plan.now c.args.levels.now.items c.args.events.now.items bit
-        c.move_nodes-level.result.level (members_at old bit c.args.talkers.now) talkers
-        (members_at old bit c.args.controllers.now) controllers
+    c.move_nodes-level.result.level (members_at old bit c.args.talkers.now) talkers
+    (members_at old bit c.args.controllers.now) controllers
     kept here c.requires.still c.move_nodes-level.ensures.nodes in
     let told : c.args.events.now.items ++ bit_lines bit talkers controllers ≡ c.tell.new.events.items =
     ap (λ es. c.args.events.now.items ++ es)
-        (lines_whole bit new (bit + 1) c.move_nodes-level.new.talkers c.move_nodes-level.new.controllers)
-        ∙ sym c.tell.ensures in
+    (lines_whole bit new (bit + 1) c.move_nodes-level.new.talkers c.move_nodes-level.new.controllers)
+    ∙ sym c.tell.ensures in
     subst (λ n. SegmentKept c.args.plan.now c.keep.new.levels.items c.tell.new.events.items
-        (members_at new (n + 1) c.move_nodes-level.new.talkers)
-        (members_at new (n + 1) c.move_nodes-level.new.controllers)) here
+    (members_at new (n + 1) c.move_nodes-level.new.talkers)
+    (members_at new (n + 1) c.move_nodes-level.new.controllers)) here
     (subst (λ ls. SegmentKept c.args.plan.now ls c.tell.new.events.items talkers controllers) (sym c.keep.ensures)
     (subst (λ es. SegmentKept c.args.plan.now (c.args.levels.now.items ++ c.move_nodes-level.result.level ∷ []) es
-          talkers controllers) told next))
+    talkers controllers) told next))
 
 pub returns-clause-events : goal.returns-clause-events
 returns-clause-events g c =
@@ -89,11 +89,11 @@ returns-clause-events g c =
     let new = c.move_nodes-level.new.rest in
     c.tell.ensures
     ∙ ap (λ es. c.args.events.now.items ++ es)
-        (sym (lines_whole c.len-bit.result new (length c.args.levels.now.items + 1) c.move_nodes-level.new.talkers
-          c.move_nodes-level.new.controllers))
+    (sym (lines_whole c.len-bit.result new (length c.args.levels.now.items + 1) c.move_nodes-level.new.talkers
+    c.move_nodes-level.new.controllers))
     ∙ ap (λ n. c.args.events.now.items
-        ++ bit_lines n (members_at new (length c.args.levels.now.items + 1) c.move_nodes-level.new.talkers)
-        (members_at new (length c.args.levels.now.items + 1) c.move_nodes-level.new.controllers)) here
+    ++ bit_lines n (members_at new (length c.args.levels.now.items + 1) c.move_nodes-level.new.talkers)
+    (members_at new (length c.args.levels.now.items + 1) c.move_nodes-level.new.controllers)) here
 
 pub returns-clause-port : goal.returns-clause-port
 returns-clause-port g c k a m p q d e f h =
@@ -101,6 +101,6 @@ returns-clause-port g c k a m p q d e f h =
     let old = c.args.rest.now in
     let new = c.move_nodes-level.new.rest in
     subst (λ b. PortMoves g.P.TxBus.bus_after g.P.TxBus.bus_asked g.P.TxBus.transmitting g.P.RxSink.sink_after
-        g.P.RxSink.port_stays b (wants_at b a) m p q) here
+    g.P.RxSink.port_stays b (wants_at b a) m p q) here
     (c.move_nodes-level.ensures.port k a m p q (ap (λ n. slice_get (members_at old n c.args.controllers.now) k) here
-          ∙ d) (ap (λ n. slice_get (members_at new (n + 1) c.move_nodes-level.new.controllers) k) here ∙ e) f h)
+    ∙ d) (ap (λ n. slice_get (members_at new (n + 1) c.move_nodes-level.new.controllers) k) here ∙ e) f h)

@@ -22,7 +22,7 @@ grow_quietly-requires-clause-talker_room g c k m e awake on =
     let levels = c.args.made.now.levels.items in
     let bit = length levels in
     talker_clocks c.args.plan.now levels c.args.made.now.events.items (members_at rest bit c.args.talkers.now)
-        (members_at rest bit c.args.controllers.now) bit _ c.requires.holds.kept refl (search rules) k m
+    (members_at rest bit c.args.controllers.now) bit _ c.requires.holds.kept refl (search rules) k m
     (found_awake rest.listener bit c.args.talkers.now k m e awake) on
 
 pub grow_quietly-requires-clause-room : goal.grow_quietly-requires-clause-room
@@ -31,22 +31,22 @@ grow_quietly-requires-clause-room g c k m e awake on =
     let levels = c.args.made.now.levels.items in
     let bit = length levels in
     controller_clocks c.args.plan.now levels c.args.made.now.events.items (members_at rest bit c.args.talkers.now)
-        (members_at rest bit c.args.controllers.now) bit _ c.requires.holds.kept refl (search rules) k m
+    (members_at rest bit c.args.controllers.now) bit _ c.requires.holds.kept refl (search rules) k m
     (found_awake rest.listener bit c.args.controllers.now k m e awake) on
 
 pub returns-then-grow_quietly-clause-holds : goal.returns-then-grow_quietly-clause-holds
 returns-then-grow_quietly-clause-holds g c =
     grown_holds c.args.plan.now c.args.faults.now c.args.made.now c.grow_quietly.new.made c.args.rest.now
-        c.grow_quietly.new.rest c.args.talkers.now c.grow_quietly.new.talkers c.args.controllers.now
-        c.grow_quietly.new.controllers
+    c.grow_quietly.new.rest c.args.talkers.now c.grow_quietly.new.talkers c.args.controllers.now
+    c.grow_quietly.new.controllers
     (c.grow_quietly.ensures.quiet c.if-grow_quietly.true) c.requires.holds c.requires.still c.requires.stands
-        c.requires.rests
+    c.requires.rests
 
 pub returns-then-grow_quietly-clause-rests : goal.returns-then-grow_quietly-clause-rests
 returns-then-grow_quietly-clause-rests g c =
     grown_rests c.args.plan.now c.args.faults.now c.args.made.now c.grow_quietly.new.made c.args.rest.now
-        c.grow_quietly.new.rest c.args.talkers.now c.grow_quietly.new.talkers c.args.controllers.now
-        c.grow_quietly.new.controllers
+    c.grow_quietly.new.rest c.args.talkers.now c.grow_quietly.new.talkers c.args.controllers.now
+    c.grow_quietly.new.controllers
     (c.grow_quietly.ensures.quiet c.if-grow_quietly.true) c.requires.rests
 
 pub returns-then-grow_quietly-clause-bit : goal.returns-then-grow_quietly-clause-bit
@@ -65,20 +65,20 @@ returns-then-grow_quietly-clause-bit g c =
     let level = grown.level in
     let h = grown.sends in
     let quiet = grown_kept plan c.args.faults.now made c.grow_quietly.new.made old new t0 t1 c0 c1 grown
-        c.requires.holds c.requires.still c.requires.stands c.requires.rests in
+    c.requires.holds c.requires.still c.requires.stands c.requires.rests in
     let talkers = members_at new (bit + 1) t1 in
     let controllers = members_at new (bit + 1) c1 in
     let lines = bit_lines bit talkers controllers in
     let stands = quiet.kept.stands in
     let longer : length c.grow_quietly.new.made.levels.items ≡ bit + 1 =
-        ap length grown.levels_is ∙ length-append made.levels.items (level ∷ []) in
+    ap length grown.levels_is ∙ length-append made.levels.items (level ∷ []) in
     let starts = controllers_start_alone g.P.TxBus.bus_after g.P.TxBus.bus_asked g.P.TxBus.transmitting
-        g.P.TxBus.bus_stays plan.talkers.items bit level old new t0 t1 c0 c1 ports g.met.P.TxBus.bus_stays_self h
-        c.requires.rests c.requires.transmits c.requires.ports in
+    g.P.TxBus.bus_stays plan.talkers.items bit level old new t0 t1 c0 c1 ports g.met.P.TxBus.bus_stays_self h
+    c.requires.rests c.requires.transmits c.requires.ports in
     let settles = controllers_settle_alone g.P.TxBus.bus_after g.P.TxBus.bus_asked g.P.TxBus.transmitting
-        g.P.RxSink.sink_after g.P.RxSink.port_stays plan.talkers.items bit level old new t0 t1 c0 c1 ports
+    g.P.RxSink.sink_after g.P.RxSink.port_stays plan.talkers.items bit level old new t0 t1 c0 c1 ports
     (λ x. g.met.P.RxSink.port_of_bus x x (g.met.P.TxBus.bus_stays_self x)) h c.requires.rests c.requires.transmits
-        c.requires.ports in
+    c.requires.ports in
     record {
       level = level;
       lines = lines;
@@ -91,14 +91,14 @@ returns-then-grow_quietly-clause-bit g c =
           let planned = some_there plan.controllers.items k (omega (arith, within, stands.controllers_size)) in
           let stood = stands.controllers_stand k planned.0 m planned.1 there in
           let behind : length quiet.kept.trace ≡ bit + 1 =
-              sym (run_length quiet.kept.run) ∙ length-append made.levels.items (level ∷ []) in
+          sym (run_length quiet.kept.run) ∙ length-append made.levels.items (level ∷ []) in
           port_brought g.P.TxBus.bus_after g.P.TxBus.bus_asked g.P.TxBus.transmitting g.P.RxSink.sink_after
-              g.P.RxSink.port_stays bit (wants_at bit a) _ m p q
+          g.P.RxSink.port_stays bit (wants_at bit a) _ m p q
           (ap (λ n. told_of (n + k) lines) (sym stands.talkers_size) ∙ of_controller bit talkers controllers k m there)
           (λ early. stood.quiet (omega (arith, behind, early, stood.on_is)))
           (port_moves g.P.TxBus.bus_after g.P.TxBus.bus_asked g.P.TxBus.transmitting g.P.RxSink.sink_after
-              g.P.TxBus.bus_stays g.P.RxSink.port_stays bit _ a a m p p q g.met.P.RxSink.port_of_bus
-              g.met.P.RxSink.port_stays_on g.met.P.RxSink.sink_stays
+          g.P.TxBus.bus_stays g.P.RxSink.port_stays bit _ a a m p p q g.met.P.RxSink.port_of_bus
+          g.met.P.RxSink.port_stays_on g.met.P.RxSink.sink_stays
           (starts.at k a a p p d d f f) (settles.at k a m p q d there f l));
       size = refl;
     }

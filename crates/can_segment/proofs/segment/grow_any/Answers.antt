@@ -20,8 +20,12 @@ pub make_bit-told-requires-clause-few : goal.make_bit-told-requires-clause-few
 make_bit-told-requires-clause-few g c =
     let rest = c.args.rest.now in
     let bit = length c.args.made.now.levels.items in
-    omega (arith, c.requires.holds.few, members_length rest bit c.args.talkers.now,
-        members_length rest bit c.args.controllers.now)
+    omega (
+      arith,
+      c.requires.holds.few,
+      members_length rest bit c.args.talkers.now,
+      members_length rest bit c.args.controllers.now,
+    )
 
 pub show_all-requires-clause-size : goal.show_all-requires-clause-size
 show_all-requires-clause-size g c =
@@ -45,8 +49,8 @@ show_all-requires-clause-talkers g c =
     let old = c.args.rest.now in
     let counters = c.args.made.now.counters.items in
     from_left 0 c.args.talkers.now c.make_bit-told.new.talkers counters
-        (from_whole 0 old (length c.args.made.now.levels.items) c.args.talkers.now counters
-        c.requires.holds.talkers_shown) c.make_bit-told.ensures.left.0
+    (from_whole 0 old (length c.args.made.now.levels.items) c.args.talkers.now counters
+    c.requires.holds.talkers_shown) c.make_bit-told.ensures.left.0
 
 pub show_all-requires-clause-controllers : goal.show_all-requires-clause-controllers
 show_all-requires-clause-controllers g c =
@@ -55,19 +59,27 @@ show_all-requires-clause-controllers g c =
     let bit = length c.args.made.now.levels.items in
     let counters = c.args.made.now.counters.items in
     let size : length (members_at old bit c.args.talkers.now) ≡ length c.make_bit-told.new.talkers =
-    omega (arith, c.requires.holds.kept.stands.talkers_size, c.make_bit-told.ensures.kept.stands.talkers_size,
-        members_length new (bit + 1) c.make_bit-told.new.talkers) in
+    omega (
+      arith,
+      c.requires.holds.kept.stands.talkers_size,
+      c.make_bit-told.ensures.kept.stands.talkers_size,
+      members_length new (bit + 1) c.make_bit-told.new.talkers,
+    ) in
     from_left (length c.make_bit-told.new.talkers) c.args.controllers.now c.make_bit-told.new.controllers counters
     (subst (λ first. AreFrom first c.args.controllers.now counters) size
-        (from_whole _ old bit c.args.controllers.now counters c.requires.holds.controllers_shown))
-        c.make_bit-told.ensures.left.1
+    (from_whole _ old bit c.args.controllers.now counters c.requires.holds.controllers_shown))
+    c.make_bit-told.ensures.left.1
 
 pub come_to_rest-requires-clause-plan : goal.come_to_rest-requires-clause-plan
 come_to_rest-requires-clause-plan g c =
     let bit = length c.args.made.now.levels.items in
     let behind = c.make_bit-told.ensures.kept.stands in
-    omega (arith, ap length c.as_slice.ensures.value, behind.talkers_size,
-        members_length c.make_bit-told.new.rest (bit + 1) c.make_bit-told.new.talkers)
+    omega (
+      arith,
+      ap length c.as_slice.ensures.value,
+      behind.talkers_size,
+      members_length c.make_bit-told.new.rest (bit + 1) c.make_bit-told.new.talkers,
+    )
 
 pub returns-clause-holds : goal.returns-clause-holds
 returns-clause-holds g c =
@@ -78,29 +90,38 @@ returns-clause-holds g c =
     let bit = length c.args.made.now.levels.items in
     let next = length c.make_bit-told.new.levels.items in
     let longer : bit + 1 ≡ next =
-        sym (ap length made.level.1 ∙ length-append c.args.made.now.levels.items (made.level.0 ∷ [])) in
+    sym (ap length made.level.1 ∙ length-append c.args.made.now.levels.items (made.level.0 ∷ [])) in
     let here : c.len.result ≡ next = search rules in
     let t1 = c.make_bit-told.new.talkers in
     let c1 = c.make_bit-told.new.controllers in
     let kept = subst (λ n. SegmentKept c.args.plan.now c.make_bit-told.new.levels.items c.make_bit-told.new.events.items
-        (members_at mid n t1) (members_at mid n c1)) longer made.kept in
+    (members_at mid n t1) (members_at mid n c1)) longer made.kept in
     let talkers_size = members_length mid next t1 in
     let controllers_size = members_length mid next c1 in
     let before = c.requires.holds.kept.stands in
-    holds_alike c.args.plan.now (record { levels = c.make_bit-told.new.levels; events = c.make_bit-told.new.events;
-          counters = c.show_all.new.counters }) (members_at mid next t1)
-        (members_at new next c.come_to_rest.new.talkers)
+    holds_alike c.args.plan.now (record {
+      levels = c.make_bit-told.new.levels;
+      events = c.make_bit-told.new.events;
+      counters = c.show_all.new.counters;
+    }) (members_at mid next t1)
+    (members_at new next c.come_to_rest.new.talkers)
     (members_at mid next c1) (members_at new next c.come_to_rest.new.controllers)
     (subst (λ n. AreAlike (members_at mid n t1) (members_at new n c.come_to_rest.new.talkers)) here
-        c.come_to_rest.ensures.talkers)
+    c.come_to_rest.ensures.talkers)
     (subst (λ n. AreAlike (members_at mid n c1) (members_at new n c.come_to_rest.new.controllers)) here
-        c.come_to_rest.ensures.controllers) kept
-    (omega (arith, c.requires.holds.few, before.talkers_size, before.controllers_size, kept.stands.talkers_size,
-          kept.stands.controllers_size)) (omega (arith, c.show_all.ensures.size, talkers_size, controllers_size))
+    c.come_to_rest.ensures.controllers) kept
+    (omega (
+      arith,
+      c.requires.holds.few,
+      before.talkers_size,
+      before.controllers_size,
+      kept.stands.talkers_size,
+      kept.stands.controllers_size,
+    )) (omega (arith, c.show_all.ensures.size, talkers_size, controllers_size))
     (from_real 0 mid next t1 c.show_all.new.counters.items c.show_all.ensures.talkers)
     (from_real (length (members_at mid next t1)) mid next c1 c.show_all.new.counters.items
-        (subst (λ first. AreFrom first c1 c.show_all.new.counters.items)
-          (sym talkers_size) c.show_all.ensures.controllers))
+    (subst (λ first. AreFrom first c1 c.show_all.new.counters.items)
+    (sym talkers_size) c.show_all.ensures.controllers))
 
 pub returns-clause-bit : goal.returns-clause-bit
 returns-clause-bit g c =
@@ -110,16 +131,16 @@ returns-clause-bit g c =
     let bit = length c.args.made.now.levels.items in
     let next = length c.make_bit-told.new.levels.items in
     let longer : bit + 1 ≡ next =
-        sym (ap length made.level.1 ∙ length-append c.args.made.now.levels.items (made.level.0 ∷ [])) in
+    sym (ap length made.level.1 ∙ length-append c.args.made.now.levels.items (made.level.0 ∷ [])) in
     let here : c.len.result ≡ next = search rules in
     let talkers = members_at mid (bit + 1) c.make_bit-told.new.talkers in
     let controllers = members_at mid (bit + 1) c.make_bit-told.new.controllers in
     let lines = bit_lines bit talkers controllers in
     let stands = made.kept.stands in
     let alike = subst (λ n. AreAlike (members_at mid n c.make_bit-told.new.controllers)
-        (members_at new next c.come_to_rest.new.controllers)) (sym longer)
+    (members_at new next c.come_to_rest.new.controllers)) (sym longer)
     (subst (λ n. AreAlike (members_at mid n c.make_bit-told.new.controllers)
-          (members_at new n c.come_to_rest.new.controllers)) here c.come_to_rest.ensures.controllers) in
+    (members_at new n c.come_to_rest.new.controllers)) here c.come_to_rest.ensures.controllers) in
     record {
       level = made.level.0;
       lines = lines;
@@ -129,15 +150,15 @@ returns-clause-bit g c =
           let within = slice_get_within (members_at new next c.come_to_rest.new.controllers) k m e in
           let x = some_there controllers k (omega (arith, within, alike.size)) in
           let planned = some_there c.args.plan.now.controllers.items k
-              (omega (arith, within, alike.size, stands.controllers_size)) in
+          (omega (arith, within, alike.size, stands.controllers_size)) in
           let stood = stands.controllers_stand k planned.0 x.0 planned.1 x.1 in
           let behind : length made.kept.trace ≡ bit + 1 = sym (run_length made.kept.run) ∙ sym longer in
           subst (λ sends. IsBrought g.P.TxBus.bus_after g.P.TxBus.bus_asked g.P.TxBus.transmitting g.P.RxSink.sink_after
-              g.P.RxSink.port_stays (told_of (length c.args.plan.now.talkers.items + k) lines) (wants_at bit a)
-              (item_of sends) p q)
+          g.P.RxSink.port_stays (told_of (length c.args.plan.now.talkers.items + k) lines) (wants_at bit a)
+          (item_of sends) p q)
           (sym (alike.at k x.0 m x.1 e).sending_is)
           (port_brought g.P.TxBus.bus_after g.P.TxBus.bus_asked g.P.TxBus.transmitting g.P.RxSink.sink_after
-              g.P.RxSink.port_stays bit (wants_at bit a) _ x.0 p q
+          g.P.RxSink.port_stays bit (wants_at bit a) _ x.0 p q
           (ap (λ n. told_of (n + k) lines) (sym stands.talkers_size) ∙ of_controller bit talkers controllers k x.0 x.1)
           (λ early. stood.quiet (omega (arith, behind, early, stood.on_is))) (made.port k a x.0 p q d x.1 f h));
       size = made.size;

@@ -10,8 +10,8 @@ returns c =
     let sorted = c.sort_by_key.new.self.items in
     let same : c.in_ok-sorted.sorted.items ≡ c.args.faults.now = search rules in
     let rising = IsNonDecreasingBy-from_sort (λ fault. fault.bit) sorted
-        (c.in_ok-sort_by_key.ensures.sorted (λ fault. fault.bit) (answers_always _ _ _ (λ f a r g h. search rules))) in
+    (c.in_ok-sort_by_key.ensures.sorted (λ fault. fault.bit) (answers_always _ _ _ (λ f a r g h. search rules))) in
     let stable =
-        c.in_ok-sort_by_key.ensures.stable (λ fault. fault.bit) (answers_always _ _ _ (λ f a r g h. search rules)) in
+    c.in_ok-sort_by_key.ensures.stable (λ fault. fault.bit) (answers_always _ _ _ (λ f a r g h. search rules)) in
     ahead_sorted (λ fault. fault.bit) some_node_fault c.args.faults.now sorted rising
-        (subst (λ faults. IsStableByKey (λ fault. fault.bit) nat_cmp faults sorted) same stable)
+    (subst (λ faults. IsStableByKey (λ fault. fault.bit) nat_cmp faults sorted) same stable)

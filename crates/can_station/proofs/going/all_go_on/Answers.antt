@@ -12,9 +12,9 @@ loop-place-preserved c =
     let place = c.loop-place.place in
     let member = c.index-members-place.result in
     let here : slice_get members place ≡ Some member = slice_get-get_or members place member
-        (omega (arith, c.loop-place-test.true, c.requires.within)) ∙ ap (λ m. Some m) (sym c.index-members-place.is) in
+    (omega (arith, c.loop-place-test.true, c.requires.within)) ∙ ap (λ m. Some m) (sym c.index-members-place.is) in
     going_step c.args.bit c.args.level members place member here (c.holds_up.ensures c.if-holds_up.false)
-        c.loop-place.invariant
+    c.loop-place.invariant
 
 pub returns : goal.returns
 returns c is = going_to c.args.bit c.args.level c.args.members.now c.args.awake c.loop-place.place

@@ -14,7 +14,7 @@ go_on-requires-clause-goes c awake =
     let members = c.loop-place.members in
     let place = c.loop-place.place in
     let found = slice_get-get_or members place c.index-members-place.result
-        (omega (arith, c.loop-place-test.true, c.requires.awake.within, c.loop-place.invariant.size)) in
+    (omega (arith, c.loop-place-test.true, c.requires.awake.within, c.loop-place.invariant.size)) in
     c.requires.goes place _ (sym (c.loop-place.invariant.above place (omega arith)) ∙ found) awake
 
 pub go_on-requires-clause-room : goal.go_on-requires-clause-room
@@ -22,7 +22,7 @@ go_on-requires-clause-room c awake on =
     let members = c.loop-place.members in
     let place = c.loop-place.place in
     let found = slice_get-get_or members place c.index-members-place.result
-        (omega (arith, c.loop-place-test.true, c.requires.awake.within, c.loop-place.invariant.size)) in
+    (omega (arith, c.loop-place-test.true, c.requires.awake.within, c.loop-place.invariant.size)) in
     (c.requires.room place _ (sym (c.loop-place.invariant.above place (omega arith)) ∙ found) awake on).0
 
 pub loop-place-preserved : goal.loop-place-preserved
@@ -32,9 +32,12 @@ loop-place-preserved c =
     places_step (λ k. IfAwake (MemberGoes c.args.bit c.args.level)) c.args.members.now members place _ c.go_on.new.self
     (omega (arith, c.loop-place-test.true, c.requires.awake.within))
     (slice_get-get_or members place c.index-members-place.result
-        (omega (arith, c.loop-place-test.true, c.requires.awake.within, c.loop-place.invariant.size)))
-    (record { rests_on = c.go_on.ensures.rests; stays_awake = λ e. (c.go_on.ensures.goes e).awake_too;
-          steps = c.go_on.ensures.goes })
+    (omega (arith, c.loop-place-test.true, c.requires.awake.within, c.loop-place.invariant.size)))
+    (record {
+      rests_on = c.go_on.ensures.rests;
+      stays_awake = λ e. (c.go_on.ensures.goes e).awake_too;
+      steps = c.go_on.ensures.goes;
+    })
     c.loop-place.invariant
 
 pub returns : goal.returns

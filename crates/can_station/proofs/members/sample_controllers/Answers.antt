@@ -9,13 +9,13 @@ use Rattle.can_station.proofs.members.sample_controllers.Goals as goal
 pub returns-then-awake-clause-settles : goal.returns-then-awake-clause-settles
 returns-then-awake-clause-settles g c =
     both_to _ c.args.members.now c.args.members.now c.args.ports.now c.args.ports.now c.args.awake c.args.awake.from
-        c.if-awake.true c.requires.awake (both_from _ c.args.members.now c.args.ports.now c.args.awake c.requires.awake)
+    c.if-awake.true c.requires.awake (both_from _ c.args.members.now c.args.ports.now c.args.awake c.requires.awake)
 
 pub returns-then-awake-clause-quiet : goal.returns-then-awake-clause-quiet
 returns-then-awake-clause-quiet g c none =
     let members = c.args.members.now in
     quiet_to c.args.bit members members c.args.awake c.args.awake.from c.if-awake.true c.requires.awake
-        (λ k behind. refl) (quiet_from c.args.bit members c.args.awake c.requires.awake)
+    (λ k behind. refl) (quiet_from c.args.bit members c.args.awake c.requires.awake)
 
 pub settle_ports-requires-clause-awake : goal.settle_ports-requires-clause-awake
 settle_ports-requires-clause-awake g c = within_places _ c.args.awake c.args.members.now c.sample_nodes-told.new.members
@@ -27,8 +27,8 @@ settle_ports-requires-clause-unsettled g c k m p e f awake =
     let within = slice_get_within c.sample_nodes-told.new.members k m e in
     let old = some_there c.args.members.now k (omega (arith, within, samples.size)) in
     unsettled_awake (g.P.TxBus.transmitting p) c.args.bit
-        (sampled_level c.args.faults.now (c.args.first + k) c.args.bit c.args.level) old.0 m
-        (c.requires.port k old.0 p old.1 f) (samples.at k old.0 m old.1 e) awake
+    (sampled_level c.args.faults.now (c.args.first + k) c.args.bit c.args.level) old.0 m
+    (c.requires.port k old.0 p old.1 f) (samples.at k old.0 m old.1 e) awake
 
 pub returns-clause-settles : goal.returns-clause-settles
 returns-clause-settles g c =
@@ -39,8 +39,8 @@ returns-clause-settles g c =
           let within = slice_get_within c.args.members.now k a ea in
           let mid = some_there c.sample_nodes-told.new.members k (omega (arith, within, samples.size)) in
           settles_both g.P.TxBus.bus_after g.P.TxBus.bus_asked g.P.TxBus.transmitting g.P.RxSink.sink_after
-              g.P.RxSink.port_stays c.args.bit (sampled_level c.args.faults.now
-              (c.args.first + k) c.args.bit c.args.level) a mid.0 b p q
+          g.P.RxSink.port_stays c.args.bit (sampled_level c.args.faults.now
+          (c.args.first + k) c.args.bit c.args.level) a mid.0 b p q
           (samples.at k a mid.0 ea mid.1) (settles.at k mid.0 b p q mid.1 eb ep eq);
       size = omega (arith, samples.size, settles.size);
       size_too = settles.size_too;
@@ -52,10 +52,16 @@ returns-clause-quiet g c none k m e awake =
     let within = slice_get_within c.settle_ports.new.members k m e in
     let mid = some_there c.sample_nodes-told.new.members k (omega (arith, within, settles.size)) in
     let from = some_there c.args.ports.now k
-        (omega (arith, within, settles.size, c.sample_nodes-told.ensures.samples.size, c.requires.size)) in
+    (omega (arith, within, settles.size, c.sample_nodes-told.ensures.samples.size, c.requires.size)) in
     let to = some_there c.settle_ports.new.ports k
-        (omega (arith, within, settles.size, settles.size_too, c.sample_nodes-told.ensures.samples.size,
-          c.requires.size)) in
+    (omega (
+      arith,
+      within,
+      settles.size,
+      settles.size_too,
+      c.sample_nodes-told.ensures.samples.size,
+      c.requires.size,
+    )) in
     quiet_both g.P.TxBus.bus_after g.P.TxBus.bus_asked g.P.TxBus.transmitting g.P.RxSink.sink_after
-        g.P.RxSink.port_stays c.args.bit mid.0 m from.0 to.0 (settles.at k mid.0 m from.0 to.0 mid.1 e from.1 to.1)
+    g.P.RxSink.port_stays c.args.bit mid.0 m from.0 to.0 (settles.at k mid.0 m from.0 to.0 mid.1 e from.1 to.1)
     (c.sample_nodes-told.ensures.quiet none k mid.0 mid.1) awake

@@ -20,28 +20,31 @@ loop-place-preserved c =
     let place = c.loop-place.place in
     let sample = c.sample-told.ensures in
     let found = slice_get-get_or members place c.index-members-place.result
-        (omega (arith, c.loop-place-test.true, c.requires.awake.within, c.loop-place.invariant.samples.size)) in
-        record {
+    (omega (arith, c.loop-place-test.true, c.requires.awake.within, c.loop-place.invariant.samples.size)) in
+    record {
       samples = places_step (λ k. IfAwake (NodeSamples c.args.first c.args.bit c.args.level c.args.faults.now k))
           c.args.members.now members place _ c.sample-told.new.self
           (omega (arith, c.loop-place-test.true, c.requires.awake.within)) found
-          (record { rests_on = sample.rests; stays_awake = λ e. sample.awake ∙ e;
-                steps = λ e. let samples = sample.member e in rw c.sampled_level-own.ensures at samples })
-              c.loop-place.invariant.samples;
+          (record {
+            rests_on = sample.rests;
+            stays_awake = λ e. sample.awake ∙ e;
+            steps = λ e. let samples = sample.member e in rw c.sampled_level-own.ensures at samples;
+          })
+          c.loop-place.invariant.samples;
       quiet = λ e. let none = or_parts c.loop-place.told c.sample-told.result e in
           quiet_step c.args.bit members place c.sample-told.new.self
-              (omega (arith, c.loop-place-test.true, c.requires.awake.within, c.loop-place.invariant.samples.size))
-              (sample.quiet none.1) (c.loop-place.invariant.quiet none.0);
+          (omega (arith, c.loop-place-test.true, c.requires.awake.within, c.loop-place.invariant.samples.size))
+          (sample.quiet none.1) (c.loop-place.invariant.quiet none.0);
     }
 
 pub returns-clause-samples : goal.returns-clause-samples
 returns-clause-samples c =
     places_to (NodeSamples c.args.first c.args.bit c.args.level c.args.faults.now) c.args.members.now
-        c.loop-place.members c.args.awake c.loop-place.place (omega (arith, c.loop-place-test.false)) c.requires.awake
-        c.loop-place.invariant.samples
+    c.loop-place.members c.args.awake c.loop-place.place (omega (arith, c.loop-place-test.false)) c.requires.awake
+    c.loop-place.invariant.samples
 
 pub returns-clause-quiet : goal.returns-clause-quiet
 returns-clause-quiet c e =
     quiet_to c.args.bit c.args.members.now c.loop-place.members c.args.awake c.loop-place.place
-        (omega (arith, c.loop-place-test.false)) c.requires.awake c.loop-place.invariant.samples.above
-        (c.loop-place.invariant.quiet e)
+    (omega (arith, c.loop-place-test.false)) c.requires.awake c.loop-place.invariant.samples.above
+    (c.loop-place.invariant.quiet e)

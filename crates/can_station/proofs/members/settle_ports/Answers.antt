@@ -18,26 +18,37 @@ loop-place-preserved g c =
     let place = c.loop-place.place in
     let settle = c.settle.ensures in
     both_step
-        (λ k. IfAwakeBoth (PortSettled g.P.TxBus.bus_after g.P.TxBus.bus_asked g.P.TxBus.transmitting
-          g.P.RxSink.sink_after g.P.RxSink.port_stays c.args.bit)) c.args.members.now members c.args.ports.now ports
-        place
+    (λ k. IfAwakeBoth (PortSettled g.P.TxBus.bus_after g.P.TxBus.bus_asked g.P.TxBus.transmitting
+    g.P.RxSink.sink_after g.P.RxSink.port_stays c.args.bit)) c.args.members.now members c.args.ports.now ports
+    place
     _ c.settle.new.self _ c.settle.new.port
     (omega (arith, c.loop-place-test.true, c.requires.awake.within)) c.requires.size
     (slice_get-get_or members place c.index-members-place.result
-        (omega (arith, c.loop-place-test.true, c.requires.awake.within, c.loop-place.invariant.size)))
+    (omega (arith, c.loop-place-test.true, c.requires.awake.within, c.loop-place.invariant.size)))
     (slice_get-get_or ports place c.index-ports-place.result
-        (omega (arith, c.loop-place-test.true, c.requires.awake.within, c.loop-place.invariant.size_too,
-            c.requires.size)))
+    (omega (
+      arith,
+      c.loop-place-test.true,
+      c.requires.awake.within,
+      c.loop-place.invariant.size_too,
+      c.requires.size,
+    )))
     (record {
       rests_on = settle.rests;
       stays_awake = λ e. settle.awake ∙ e;
-      steps = λ e. record { member = settle.member e; bus = settle.bus e; asks_none = settle.asked;
-          transmits = settle.transmits e; offers = settle.sink e; stays_on = settle.stays };
+      steps = λ e. record {
+        member = settle.member e;
+        bus = settle.bus e;
+        asks_none = settle.asked;
+        transmits = settle.transmits e;
+        offers = settle.sink e;
+        stays_on = settle.stays;
+      };
     }) c.loop-place.invariant
 
 pub returns : goal.returns
 returns g c =
     both_to (λ k. PortSettled g.P.TxBus.bus_after g.P.TxBus.bus_asked g.P.TxBus.transmitting g.P.RxSink.sink_after
-        g.P.RxSink.port_stays c.args.bit) c.args.members.now c.loop-place.members c.args.ports.now c.loop-place.ports
-        c.args.awake c.loop-place.place
+    g.P.RxSink.port_stays c.args.bit) c.args.members.now c.loop-place.members c.args.ports.now c.loop-place.ports
+    c.args.awake c.loop-place.place
     (omega (arith, c.loop-place-test.false)) c.requires.awake c.loop-place.invariant

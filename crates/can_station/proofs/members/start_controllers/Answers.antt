@@ -18,25 +18,36 @@ loop-place-preserved g c =
     let place = c.loop-place.place in
     let start = c.start_request.ensures in
     both_step
-        (λ k. IfAwakeBoth (PortStarts g.P.TxBus.bus_after g.P.TxBus.bus_asked g.P.TxBus.transmitting g.P.TxBus.bus_stays
-          c.args.bit)) c.args.members.now members c.args.ports.now ports place
+    (λ k. IfAwakeBoth (PortStarts g.P.TxBus.bus_after g.P.TxBus.bus_asked g.P.TxBus.transmitting g.P.TxBus.bus_stays
+    c.args.bit)) c.args.members.now members c.args.ports.now ports place
     _ c.start_request.new.self _ c.start_request.new.port
     (omega (arith, c.loop-place-test.true, c.requires.awake.within)) c.requires.size
     (slice_get-get_or members place c.index-members-place.result
-        (omega (arith, c.loop-place-test.true, c.requires.awake.within, c.loop-place.invariant.size)))
+    (omega (arith, c.loop-place-test.true, c.requires.awake.within, c.loop-place.invariant.size)))
     (slice_get-get_or ports place c.index-ports-place.result
-        (omega (arith, c.loop-place-test.true, c.requires.awake.within, c.loop-place.invariant.size_too,
-            c.requires.size)))
+    (omega (
+      arith,
+      c.loop-place-test.true,
+      c.requires.awake.within,
+      c.loop-place.invariant.size_too,
+      c.requires.size,
+    )))
     (record {
       rests_on = start.rests;
       stays_awake = λ e. start.awake ∙ e;
-      steps = λ e. record { member = start.member e; bus = start.bus e; undone = start.undone e; asks = start.asks e;
-          transmits = start.transmits; stays_on = start.stays };
+      steps = λ e. record {
+        member = start.member e;
+        bus = start.bus e;
+        undone = start.undone e;
+        asks = start.asks e;
+        transmits = start.transmits;
+        stays_on = start.stays;
+      };
     }) c.loop-place.invariant
 
 pub returns : goal.returns
 returns g c =
     both_to (λ k. PortStarts g.P.TxBus.bus_after g.P.TxBus.bus_asked g.P.TxBus.transmitting g.P.TxBus.bus_stays
-        c.args.bit) c.args.members.now c.loop-place.members c.args.ports.now c.loop-place.ports c.args.awake
-        c.loop-place.place
+    c.args.bit) c.args.members.now c.loop-place.members c.args.ports.now c.loop-place.ports c.args.awake
+    c.loop-place.place
     (omega (arith, c.loop-place-test.false)) c.requires.awake c.loop-place.invariant

@@ -7,4 +7,4 @@ abbrev pub invariant-loop-place : goal.invariant-loop-place
 invariant-loop-place g l =
     AtBothBelow
     (λ k. IfAwakeBoth (PortStarts g.P.TxBus.bus_after g.P.TxBus.bus_asked g.P.TxBus.transmitting g.P.TxBus.bus_stays
-      l.bit)) l.initial.members l.members l.initial.ports l.ports l.place
+    l.bit)) l.initial.members l.members l.initial.ports l.ports l.place

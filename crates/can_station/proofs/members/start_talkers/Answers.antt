@@ -17,24 +17,24 @@ loop-place-preserved c =
     let old = get_or members place c.index-members-place.result in
     let talker = get_or c.args.talkers.now place c.index-talkers-place.result in
     places_step (λ k. IfAwake (TalkerStarts c.args.bit c.args.talkers.now k)) c.args.members.now members place old
-        c.start_talking.new.self
+    c.start_talking.new.self
     (omega (arith, c.loop-place-test.true, c.requires.awake.within))
-        (slice_get-get_or members place c.index-members-place.result
-        (omega (arith, c.loop-place-test.true, c.requires.awake.within, c.loop-place.invariant.size)))
+    (slice_get-get_or members place c.index-members-place.result
+    (omega (arith, c.loop-place-test.true, c.requires.awake.within, c.loop-place.invariant.size)))
     (record {
       rests_on = c.start_talking.ensures.rests;
       stays_awake = λ e. c.start_talking.ensures.awake ∙ e;
       steps = λ e t is.
           let same = same_some talker t
-              (sym (slice_get-get_or c.args.talkers.now place c.index-talkers-place.result
-                (omega (arith, c.loop-place-test.true, c.requires.awake.within, c.requires.talkers))) ∙ is) in
+          (sym (slice_get-get_or c.args.talkers.now place c.index-talkers-place.result
+          (omega (arith, c.loop-place-test.true, c.requires.awake.within, c.requires.talkers))) ∙ is) in
           let starts = c.start_talking.ensures.starts e in
           subst (λ x. StartsTalking c.args.bit old c.start_talking.new.self x.frames.items) same
-              (rw c.as_slice.ensures.value at starts);
+          (rw c.as_slice.ensures.value at starts);
     })
     c.loop-place.invariant
 
 pub returns : goal.returns
 returns c =
     places_to (TalkerStarts c.args.bit c.args.talkers.now) c.args.members.now c.loop-place.members c.args.awake
-        c.loop-place.place (omega (arith, c.loop-place-test.false)) c.requires.awake c.loop-place.invariant
+    c.loop-place.place (omega (arith, c.loop-place-test.false)) c.requires.awake c.loop-place.invariant

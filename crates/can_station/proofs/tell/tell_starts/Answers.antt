@@ -16,13 +16,13 @@ loop-place-init c = record {
 pub loop-place-preserved : goal.loop-place-preserved
 loop-place-preserved c =
     let more = lines c.args.bit (c.args.first + c.loop-place.place)
-        (start_of (get_or c.args.members.now c.loop-place.place c.index-members-place.result).deed) in
+    (start_of (get_or c.args.members.now c.loop-place.place c.index-members-place.result).deed) in
     record {
       value = c.tell_start.ensures.value ∙ ap (λ es. es ++ more) c.loop-place.invariant.value
           ∙ append_assoc c.args.events.now.items _ more
           ∙ ap (λ es. c.args.events.now.items ++ es)
-              (sym (told_next start_of c.args.bit c.args.first c.args.members.now c.loop-place.place
-                c.index-members-place.result (omega (arith, c.loop-place-test.true))));
+          (sym (told_next start_of c.args.bit c.args.first c.args.members.now c.loop-place.place
+          c.index-members-place.result (omega (arith, c.loop-place-test.true))));
       len = omega (arith, c.tell_start.ensures.len, c.loop-place.invariant.len);
       capacity = omega (arith, c.tell_start.ensures.capacity, c.loop-place.invariant.capacity);
     }

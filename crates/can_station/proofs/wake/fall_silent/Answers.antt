@@ -21,10 +21,13 @@ loop-place-preserved c =
     let place = c.loop-place.place in
     places_step (λ k. IfAwake MayFallSilent) c.args.members.now members place _ c.fall_silent.new.self
     (omega (arith, c.loop-place-test.true, c.requires.within))
-        (slice_get-get_or members place c.index-members-place.result
-        (omega (arith, c.loop-place-test.true, c.requires.within, c.loop-place.invariant.size)))
-    (record { rests_on = c.fall_silent.ensures.rests; stays_awake = λ e. c.fall_silent.ensures.awake ∙ e;
-          steps = λ e. c.fall_silent.ensures.silent })
+    (slice_get-get_or members place c.index-members-place.result
+    (omega (arith, c.loop-place-test.true, c.requires.within, c.loop-place.invariant.size)))
+    (record {
+      rests_on = c.fall_silent.ensures.rests;
+      stays_awake = λ e. c.fall_silent.ensures.awake ∙ e;
+      steps = λ e. c.fall_silent.ensures.silent;
+    })
     c.loop-place.invariant
 
 pub returns : goal.returns

@@ -10,8 +10,8 @@ loop-place-preserved c =
     let place = c.loop-place.place in
     places_step (λ k a b. b ≡ woken c.args.listener.now c.args.bit a) c.args.members.now members place _ c.wake.new.self
     (omega (arith, c.loop-place-test.true, c.loop-place.invariant.size))
-        (slice_get-get_or members place c.index-members-place.result (omega (arith, c.loop-place-test.true)))
-        c.wake.ensures c.loop-place.invariant
+    (slice_get-get_or members place c.index-members-place.result (omega (arith, c.loop-place-test.true)))
+    c.wake.ensures c.loop-place.invariant
 
 pub returns : goal.returns
 returns c = places_end (λ k a b. b ≡ woken c.args.listener.now c.args.bit a) c.args.members.now c.loop-place.members

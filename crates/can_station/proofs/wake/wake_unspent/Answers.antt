@@ -12,20 +12,20 @@ loop-place-preserved c =
     let asked = get_or members place c.index-members-place.result in
     let old = get_or members place c.index-members-place-in-loop-place.result in
     let here = slice_get-get_or members place c.index-members-place-in-loop-place.result
-        (omega (arith, c.loop-place-test.true)) in
+    (omega (arith, c.loop-place-test.true)) in
     let same = same_some asked old
-        (sym (slice_get-get_or members place c.index-members-place.result (omega (arith, c.loop-place-test.true)))
-        ∙ here) in
+    (sym (slice_get-get_or members place c.index-members-place.result (omega (arith, c.loop-place-test.true)))
+    ∙ here) in
     let talker = get_or c.args.plan.now place c.index-plan-place.result in
     let there = slice_get-get_or c.args.plan.now place c.index-plan-place.result
-        (omega (arith, c.loop-place-test.true, c.loop-place.invariant.size, c.requires)) in
+    (omega (arith, c.loop-place-test.true, c.loop-place.invariant.size, c.requires)) in
     let spent = c.is_spent-spent.ensures in
     let told = rw c.as_slice.ensures.value at spent in
     places_step (WakesUnspent c.args.listener.now c.args.bit c.args.plan.now) c.args.members.now members place old
-        c.wake_unless.new.self
+    c.wake_unless.new.self
     (omega (arith, c.loop-place-test.true, c.loop-place.invariant.size)) here
     (wakes_unspent c.args.listener.now c.args.bit c.args.plan.now place old c.wake_unless.new.self talker
-        c.is_spent-spent.result there c.wake_unless.ensures.wakes c.wake_unless.ensures.awake
+    c.is_spent-spent.result there c.wake_unless.ensures.wakes c.wake_unless.ensures.awake
     (λ e. subst (λ m. slice_get talker.frames.items m.station.completed ≡ None) same (told e)))
     c.loop-place.invariant
 

@@ -17,5 +17,5 @@ make_bits-requires c =
       size = sym (opening.one_each ∙ one);
       transmits = λ k sends p e f.
           ap (λ (q : Port). sending (core_of q.mail)) (sym (only port.field-0 p k f)) ∙ port.ensures
-              ∙ sym (opening.idle k sends e);
+          ∙ sym (opening.idle k sends e);
     }

@@ -10,7 +10,7 @@ pub returns-clause-more : goal.returns-clause-more
 returns-clause-more c is =
     let here = c.is_in_region.ensures c.if-not-is_in_region.false in
     plain_push c.args.self.now _ c.args.level here here
-        (λ text ends. (sym (c.is_full.ensures text ends) ∙ c.if-is_full.false, c.push.ensures text ends))
+    (λ text ends. (sym (c.is_full.ensures text ends) ∙ c.if-is_full.false, c.push.ensures text ends))
     (not_none c.args.self.now.levels.items c.is_empty.result c.is_empty.ensures c.if-is_empty.false) c.keep.ensures
     (λ full. c.is_complete_next.ensures c.if-is_complete_next.false
-        (subst (λ t. length t + 1 ≡ fields_length t + 15) (sym c.as_slice.ensures.value) full))
+    (subst (λ t. length t + 1 ≡ fields_length t + 15) (sym c.as_slice.ensures.value) full))

@@ -21,7 +21,7 @@ pub returns-then-is_empty : goal.returns-then-is_empty
 returns-then-is_empty c text place h =
     let none = is_none c.args.self.now.levels.items (sym c.is_empty.ensures ∙ c.if-is_empty.true) in
     rw c.fail.ensures.answer (next_sof c.args.self.now.levels.items text c.args.level c.fail.new.self h.inside
-        (no_length _ none) c.if-level.true c.fail.ensures.place)
+    (no_length _ none) c.if-level.true c.fail.ensures.place)
 
 pub returns-then-is_full : goal.returns-then-is_full
 returns-then-is_full c text place h =
@@ -32,11 +32,11 @@ returns-then-not-wants_stuff_bit c text place h =
     let u = c.args.self.now.levels.items in
     let v = c.keep.new.levels.items in
     let full : length v ≡ fields_length v + 15 = subst (λ t. length t ≡ fields_length t + 15) c.as_slice.ensures.value
-        (c.is_complete-complete.ensures.whole c.if-complete.true) in
+    (c.is_complete-complete.ensures.whole c.if-complete.true) in
     let bodies : Bodies c.body.result c.body.new.place v =
     subst (Bodies c.body.result c.body.new.place) c.as_slice-then-not-wants_stuff_bit.ensures.value
     (c.body.ensures (subst (λ t. length t ≡ fields_length t + 15)
-          (sym c.as_slice-then-not-wants_stuff_bit.ensures.value) full)) in
+    (sym c.as_slice-then-not-wants_stuff_bit.ensures.value) full)) in
     let sof : u ≡ [] → c.args.level ≡ false = λ none. elim c.else-level.branch [
       | else-level-via-then-level+else-is_empty w ↦
           absurd (not_none u w.is_empty.result w.is_empty.ensures w.if-is_empty.false none)
@@ -44,7 +44,7 @@ returns-then-not-wants_stuff_bit c text place h =
     ] in
     let plain : five_equal (reverse text) ≡ false = sym (c.is_full.ensures _ h.ends) ∙ c.if-is_full.false in
     let short : five_equal (c.args.level ∷ reverse text) ≡ false =
-        sym (c.is_full-wants_stuff_bit.ensures _ (c.push.ensures _ h.ends)) ∙ c.if-not-wants_stuff_bit.true in
+    sym (c.is_full-wants_stuff_bit.ensures _ (c.push.ensures _ h.ends)) ∙ c.if-not-wants_stuff_bit.true in
     next_data_body u v text c.args.level _ c.body.result h.inside plain sof c.keep.ensures full short bodies
 
 pub returns : goal.returns
@@ -59,11 +59,11 @@ returns c text place h =
     let plain : five_equal (reverse text) ≡ false = sym (c.is_full.ensures _ h.ends) ∙ c.if-is_full.false in
     let ends = c.push.ensures _ h.ends in
     let part : length v ≡ fields_length v + 15 → five_equal (c.args.level ∷ reverse text) ≡ true =
-        λ full. elim c.else-complete.branch [
+    λ full. elim c.else-complete.branch [
       | else-complete-via-then-complete+else-not-wants_stuff_bit w ↦ sym (c.is_full-wants_stuff_bit.ensures _ ends)
           ∙ w.if-not-wants_stuff_bit.false
       | else-complete-via-else-complete w ↦
           absurd (c.is_complete-complete.ensures.part w.if-complete.false
-              (subst (λ t. length t ≡ fields_length t + 15) (sym c.as_slice.ensures.value) full))
+          (subst (λ t. length t ≡ fields_length t + 15) (sym c.as_slice.ensures.value) full))
     ] in
     next_more u text c.args.level _ h.inside plain sof ends c.keep.ensures part place

@@ -8,7 +8,10 @@ pub returns-clause-stuff : goal.returns-clause-stuff
 returns-clause-stuff c is =
     let here = c.is_in_region.ensures c.if-not-is_in_region.false in
     stuff_push c.args.self.now _ c.args.level here here
-    (λ text ends. (sym (c.is_full.ensures text ends) ∙ c.if-not-is_full.false,
-          opposite_newest text _ _ (c.level.ensures _ ends) c.if-level.false, c.push.ensures text ends)) refl
+    (λ text ends. (
+      sym (c.is_full.ensures text ends) ∙ c.if-not-is_full.false,
+      opposite_newest text _ _ (c.level.ensures _ ends) c.if-level.false,
+      c.push.ensures text ends,
+    )) refl
     (λ full. c.is_complete.ensures.part c.if-is_complete.false
-        (subst (λ t. length t ≡ fields_length t + 15) (sym c.as_slice.ensures.value) full))
+    (subst (λ t. length t ≡ fields_length t + 15) (sym c.as_slice.ensures.value) full))

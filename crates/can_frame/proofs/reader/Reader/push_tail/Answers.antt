@@ -14,8 +14,12 @@ returns c text h =
             (w.self-is ∙ ap (AfterBody c.args.frame c.args.right) v.self-is) next
         | else-seen-lt8 v ↦
             absurd
-            (omega (arith, tail_few c.tail_step-step.result c.args.frame c.args.right c.args.seen text c.args.level
-              w.in-Tail.is next, v.if-seen-lt8.false))
+            (omega (
+              arith,
+              tail_few c.tail_step-step.result c.args.frame c.args.right c.args.seen text c.args.level
+                  w.in-Tail.is next,
+              v.if-seen-lt8.false,
+            ))
       ]
       | in_default w ↦ tail_ends c.tail_step-step.result c.args.frame c.args.right c.args.seen text c.args.level _
           w.in_default.not-Tail w.self-is h next

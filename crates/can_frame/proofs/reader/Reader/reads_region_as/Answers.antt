@@ -11,4 +11,4 @@ returns c is =
     let items : c.as_slice.result.now ≡ c.as_slice-2.result.now =
     (slice_eq-Decides booleans_Decides c.as_slice.result.now c.as_slice-2.result.now c.eq.result c.eq.ensures).0 is in
     stands_as c.args.self.now c.args.other.now place other (search rules)
-        (sym c.as_slice.ensures.value ∙ items ∙ c.as_slice-2.ensures.value)
+    (sym c.as_slice.ensures.value ∙ items ∙ c.as_slice-2.ensures.value)

@@ -5,7 +5,7 @@ use Rattle.can_node.proofs.listener.Listener.follow.Goals as goal
 pub returns-then-is_idle-clause-follows : goal.returns-then-is_idle-clause-follows
 returns-then-is_idle-clause-follows c followed =
     idle_follows c.args.known c.args.self.now.state c.args.self.now.reader c.args.bit c.args.level
-        (c.is_idle.ensures c.if-is_idle.true) c.if-level.true
+    (c.is_idle.ensures c.if-is_idle.true) c.if-level.true
 
 pub returns-then-reads_on-clause-follows : goal.returns-then-reads_on-clause-follows
 returns-then-reads_on-clause-follows c followed =

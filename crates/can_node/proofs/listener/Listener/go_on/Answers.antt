@@ -18,5 +18,5 @@ returns-clause-follows c followed no_take no_send =
           (other_follows c.args.known c.args.self.now c.args.self.now.reader c.args.bit c.args.level turn no_send goes
           unseen
           (λ is. absurd (cc (is, c.is_taking.ensures, w.if-is_taking.false)))
-              (λ is. absurd (cc (is, c.is_taking.ensures, w.if-is_taking.false))))
+          (λ is. absurd (cc (is, c.is_taking.ensures, w.if-is_taking.false))))
     ]

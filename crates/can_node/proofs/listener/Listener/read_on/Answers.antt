@@ -7,7 +7,7 @@ pub returns-clause-follows : goal.returns-clause-follows
 returns-clause-follows c followed bit may here =
     let same = c.read_tail.ensures.other c.if-read_tail.false in
     reading_follows c.args.known c.args.self.now c.args.start may c.args.stage c.push-step.new.self bit c.args.level
-        c.push-step.result c.in-Some.turn here
+    c.push-step.result c.in-Some.turn here
     (subst (λ r. IsPush r c.args.level c.push-step.result c.push-step.new.self)
-        (c.copy-reader.ensures ∙ ap (λ listener. listener.reader) same) c.push-step.ensures)
+    (c.copy-reader.ensures ∙ ap (λ listener. listener.reader) same) c.push-step.ensures)
     c.in-Some.ensures.goes c.in-Some.ensures.unseen

@@ -17,5 +17,5 @@ pub returns : goal.returns
 returns c =
     let node = c.args.self.now in
     let plain = in_plain node c.args.level c.in_default.not-Sending (sym c.is_in_region.ensures
-        ∙ c.if-is_in_region.false) c.requires.goes in
+    ∙ c.if-is_in_region.false) c.requires.goes in
     goes_plainly node c.args.level c.go_plainly.new.state plain (c.go_plainly.ensures plain)

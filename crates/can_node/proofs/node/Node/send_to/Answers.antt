@@ -12,5 +12,5 @@ returns-clause-sends c =
     let last : place + 1 ≡ length node.spelling.levels.items → ⊥ = rw spelling at c.in_ok-level.ensures.last in
     let echo : c.in_ok-level.level ≡ level_at node.spelling place = rw spelling at c.in_ok-level.ensures.level in
     sends_to node c.in-Sending._start place c.saturating_add.result c.args.listener.now c.reads_along.new.self
-        c.in_ok-level.level c.in-Sending.is slot last echo c.saturating_add.ensures
+    c.in_ok-level.level c.in-Sending.is slot last echo c.saturating_add.ensures
     (c.reads_along.ensures.along c.if-not-reads_along.false)

@@ -10,5 +10,5 @@ returns-in-Taking c same = stands_with c.args.self.now c.args.listener.now (sear
 pub returns-in_default : goal.returns-in_default
 returns-in_default c same =
     stands_with c.args.self.now c.args.listener.now (search rules)
-        (no_sending c.args.self.now.state (λ x y. c.in_default.not-Sending x y))
+    (no_sending c.args.self.now.state (λ x y. c.in_default.not-Sending x y))
     (λ is. absurd (cc (is, no_taking c.args.self.now.state (λ x y z. c.in_default.not-Taking x y z))))

@@ -8,10 +8,10 @@ loop-place-preserved c =
     let members = c.args.members.now in
     let place = c.loop-place.place in
     awake_step c.loop-place.awake.span c.count.new.self.span members place c.index-members-place.result
-        (omega (arith, c.loop-place-test.true, c.requires.within))
+    (omega (arith, c.loop-place-test.true, c.requires.within))
     (slice_get-get_or members place c.index-members-place.result
-        (omega (arith, c.loop-place-test.true, c.requires.within)) ∙ ap Some (sym c.index-members-place.is))
-        c.count.ensures.rests c.count.ensures.before c.count.ensures.awake
+    (omega (arith, c.loop-place-test.true, c.requires.within)) ∙ ap Some (sym c.index-members-place.is))
+    c.count.ensures.rests c.count.ensures.before c.count.ensures.awake
     c.loop-place.invariant
 
 pub returns : goal.returns

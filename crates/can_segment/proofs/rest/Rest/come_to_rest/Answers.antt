@@ -17,10 +17,10 @@ lull_alike-requires-clause-holds c =
     let c0 = c.args.controllers.now in
     let c1 = c.fall_silent-2.new.members in
     left_holds c.args.self.now c.args.bit c.args.plan.now t0 t1 c0 c1
-        (left_places (λ k. MayFallSilent) t0 t1 c.fall_silent.ensures)
-        (left_places (λ k. MayFallSilent) c0 c1 c.fall_silent-2.ensures)
+    (left_places (λ k. MayFallSilent) t0 t1 c.fall_silent.ensures)
+    (left_places (λ k. MayFallSilent) c0 c1 c.fall_silent-2.ensures)
     (λ span. within_places (λ k. MayFallSilent) span t0 t1 c.fall_silent.ensures)
-        (λ span. within_places (λ k. MayFallSilent) span c0 c1 c.fall_silent-2.ensures) c.requires.holds
+    (λ span. within_places (λ k. MayFallSilent) span c0 c1 c.fall_silent-2.ensures) c.requires.holds
 
 pub returns : goal.returns
 returns c =
@@ -28,15 +28,15 @@ returns c =
     record {
       talkers =
           all_alike_on (members_at rest c.args.bit c.args.talkers.now)
-              (members_at rest c.args.bit c.fall_silent.new.members)
-              (members_at c.lull_alike.new.self c.args.bit c.lull_alike.new.talkers)
+          (members_at rest c.args.bit c.fall_silent.new.members)
+          (members_at c.lull_alike.new.self c.args.bit c.lull_alike.new.talkers)
           (all_silent rest.listener c.args.bit c.args.talkers.now c.fall_silent.new.members c.fall_silent.ensures)
-              c.lull_alike.ensures.talkers;
+          c.lull_alike.ensures.talkers;
       controllers =
           all_alike_on (members_at rest c.args.bit c.args.controllers.now)
-              (members_at rest c.args.bit c.fall_silent-2.new.members)
-              (members_at c.lull_alike.new.self c.args.bit c.lull_alike.new.controllers)
+          (members_at rest c.args.bit c.fall_silent-2.new.members)
+          (members_at c.lull_alike.new.self c.args.bit c.lull_alike.new.controllers)
           (all_silent rest.listener c.args.bit c.args.controllers.now c.fall_silent-2.new.members
-              c.fall_silent-2.ensures) c.lull_alike.ensures.controllers;
+          c.fall_silent-2.ensures) c.lull_alike.ensures.controllers;
       holds = c.lull_alike.ensures.holds;
     }

@@ -9,16 +9,16 @@ use Rattle.can_segment.proofs.rest.Rest.disturb.Goals as goal
 pub returns-clause-talkers : goal.returns-clause-talkers
 returns-clause-talkers c =
     ap (λ listener. map (woken listener c.args.bit) c.wake_disturbed.new.members)
-        c.look_everywhere.ensures.same.listener_is
+    c.look_everywhere.ensures.same.listener_is
     ∙ wakes_same (WakesDisturbed c.args.self.now.listener c.args.bit c.args.faults.now 0) c.args.self.now.listener
-        c.args.bit c.args.talkers.now c.wake_disturbed.new.members (λ k a b h. h.wakes) c.wake_disturbed.ensures
+    c.args.bit c.args.talkers.now c.wake_disturbed.new.members (λ k a b h. h.wakes) c.wake_disturbed.ensures
 
 pub returns-clause-controllers : goal.returns-clause-controllers
 returns-clause-controllers c =
     ap (λ listener. map (woken listener c.args.bit) c.wake_disturbed-2.new.members)
-        c.look_everywhere.ensures.same.listener_is
+    c.look_everywhere.ensures.same.listener_is
     ∙ wakes_same _ c.args.self.now.listener c.args.bit c.args.controllers.now c.wake_disturbed-2.new.members
-        (λ k a b h. h.wakes) c.wake_disturbed-2.ensures
+    (λ k a b h. h.wakes) c.wake_disturbed-2.ensures
 
 pub returns-clause-left : goal.returns-clause-left
 returns-clause-left c = (
@@ -33,11 +33,11 @@ returns-clause-holds c =
     let left = returns-clause-left c in
     let everywhere = c.look_everywhere.ensures in
     woken_holds c.args.self.now c.look_everywhere.new.self c.args.bit c.args.plan.now c.args.talkers.now
-        c.wake_disturbed.new.members c.args.controllers.now c.wake_disturbed-2.new.members everywhere.same
-        everywhere.few
+    c.wake_disturbed.new.members c.args.controllers.now c.wake_disturbed-2.new.members everywhere.same
+    everywhere.few
     (whole_within c.look_everywhere.new.self.talkers _ c.wake_disturbed.new.members everywhere.talkers refl)
-        (whole_within c.look_everywhere.new.self.controllers _ c.wake_disturbed-2.new.members everywhere.controllers
-        refl) left.0 left.1
+    (whole_within c.look_everywhere.new.self.controllers _ c.wake_disturbed-2.new.members everywhere.controllers
+    refl) left.0 left.1
     c.requires.holds
 
 pub returns-clause-talkers_undisturbed : goal.returns-clause-talkers_undisturbed

@@ -4,7 +4,7 @@ use Rattle.can_segment.proofs.rest.Rest.go_through.Goals as goal
 pub returns-then-follows-clause-holds : goal.returns-then-follows-clause-holds
 returns-then-follows-clause-holds c =
     through_holds c.args.self.now c.follows.new.self c.args.bit c.args.level c.args.plan.now c.args.talkers.now
-        c.args.controllers.now (c.follows.ensures.through c.if-follows.true) c.requires.holds
+    c.args.controllers.now (c.follows.ensures.through c.if-follows.true) c.requires.holds
 
 pub returns-clause-holds : goal.returns-clause-holds
 returns-clause-holds c = c.wake.ensures.holds _

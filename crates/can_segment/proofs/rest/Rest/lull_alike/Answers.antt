@@ -20,8 +20,8 @@ lull_talkers-requires-clause-within c = subst (λ span. span.to ≤ length c.arg
 pub lull_controllers-requires-clause-within : goal.lull_controllers-requires-clause-within
 lull_controllers-requires-clause-within c =
     subst (λ span. span.to ≤ length c.args.controllers.now)
-        (sym (c.lull_talkers.ensures.less.controllers_is ∙ c.choose.ensures.controllers_is))
-        c.requires.holds.controllers_within.within
+    (sym (c.lull_talkers.ensures.less.controllers_is ∙ c.choose.ensures.controllers_is))
+    c.requires.holds.controllers_within.within
 
 pub lull_talkers-requires-clause-rests : goal.lull_talkers-requires-clause-rests
 lull_talkers-requires-clause-rests c = chosen_rests c.args.self.now c.choose.new.self c.args.bit c.args.talkers.now
@@ -35,20 +35,20 @@ pub lull_controllers-requires-clause-rests : goal.lull_controllers-requires-clau
 lull_controllers-requires-clause-rests c =
     less_rests c.choose.new.self c.lull_talkers.new.self c.args.bit c.args.controllers.now c.lull_talkers.ensures.less
     (chosen_rests c.args.self.now c.choose.new.self c.args.bit c.args.controllers.now c.choose.ensures
-        c.requires.holds.controllers_rest)
+    c.requires.holds.controllers_rest)
 
 pub lull_controllers-requires-clause-spent : goal.lull_controllers-requires-clause-spent
 lull_controllers-requires-clause-spent c is =
     chosen_awake c.args.self.now c.choose.new.self c.args.bit c.args.controllers.now c.choose.ensures
-        c.requires.holds.controllers_rest c.requires.holds.controllers_awake (c.lull_talkers.ensures.less.spends is)
+    c.requires.holds.controllers_rest c.requires.holds.controllers_awake (c.lull_talkers.ensures.less.spends is)
 
 pub settle-requires : goal.settle-requires
 settle-requires c =
     let few_is = c.lull_controllers.ensures.less.few_is ∙ c.lull_talkers.ensures.less.few_is ∙ c.choose.ensures.many in
     let talkers_is = c.lull_controllers.ensures.less.talkers_is ∙ c.lull_talkers.ensures.less.talkers_is
-        ∙ c.choose.ensures.talkers_is in
+    ∙ c.choose.ensures.talkers_is in
     let controllers_is = c.lull_controllers.ensures.less.controllers_is ∙ c.lull_talkers.ensures.less.controllers_is
-        ∙ c.choose.ensures.controllers_is in
+    ∙ c.choose.ensures.controllers_is in
     record {
       holds = record {
         talkers_rest = less_rests c.lull_talkers.new.self c.lull_controllers.new.self c.args.bit
@@ -61,8 +61,8 @@ settle-requires c =
             c.args.self.now.talkers c.lull_talkers.ensures.lie c.requires.holds.talkers_within);
         controllers_within = subst (λ span. AwakeWithin span c.lull_controllers.new.members) (sym controllers_is)
             (lain_within c.lull_talkers.new.self.listener c.args.bit c.args.controllers.now
-                c.lull_controllers.new.members c.args.self.now.controllers c.lull_controllers.ensures.lie
-                c.requires.holds.controllers_within);
+            c.lull_controllers.new.members c.args.self.now.controllers c.lull_controllers.ensures.lie
+            c.requires.holds.controllers_within);
         few_are = λ few. absurd (cc (few, few_is));
       };
     }
@@ -72,25 +72,35 @@ returns c = record {
   talkers =
       let before = c.lull_controllers.ensures.less.listener_is ∙ c.lull_talkers.ensures.less.listener_is in
       let lain = alike_at_rest c.choose.new.self.listener c.lull_controllers.new.self.listener c.args.bit
-          c.args.talkers.now c.lull_talkers.new.members before c.lull_talkers.ensures.lie in
+      c.args.talkers.now c.lull_talkers.new.members before c.lull_talkers.ensures.lie in
       subst (λ ms. AreAlike ms (members_at c.settle.new.self c.args.bit c.settle.new.talkers))
-          (chosen_same c.args.self.now c.choose.new.self c.args.bit c.args.talkers.now c.choose.ensures
-          c.requires.holds.talkers_rest)
+      (chosen_same c.args.self.now c.choose.new.self c.args.bit c.args.talkers.now c.choose.ensures
+      c.requires.holds.talkers_rest)
       (subst (AreAlike (members_at c.choose.new.self c.args.bit c.args.talkers.now))
-          (sym c.settle.ensures.talkers) lain);
+      (sym c.settle.ensures.talkers) lain);
   controllers =
       let mid = c.lull_talkers.new.self in
       let lain = alike_at_rest mid.listener c.lull_controllers.new.self.listener c.args.bit c.args.controllers.now
-          c.lull_controllers.new.members c.lull_controllers.ensures.less.listener_is c.lull_controllers.ensures.lie in
+      c.lull_controllers.new.members c.lull_controllers.ensures.less.listener_is c.lull_controllers.ensures.lie in
       let same =
-          ap
-          (λ listener. members_at (record { listener = listener; resting = mid.resting; known = mid.known;
-              spent = mid.spent; talkers = mid.talkers; controllers = mid.controllers; few = mid.few;
-              settled = mid.settled; asleep = mid.asleep; steady = mid.steady; leader = mid.leader }) c.args.bit
-          c.args.controllers.now) c.lull_talkers.ensures.less.listener_is
+      ap
+      (λ listener. members_at (record {
+        listener = listener;
+        resting = mid.resting;
+        known = mid.known;
+        spent = mid.spent;
+        talkers = mid.talkers;
+        controllers = mid.controllers;
+        few = mid.few;
+        settled = mid.settled;
+        asleep = mid.asleep;
+        steady = mid.steady;
+        leader = mid.leader;
+      }) c.args.bit
+      c.args.controllers.now) c.lull_talkers.ensures.less.listener_is
       ∙ chosen_same c.args.self.now c.choose.new.self c.args.bit c.args.controllers.now c.choose.ensures
-          c.requires.holds.controllers_rest in
+      c.requires.holds.controllers_rest in
       subst (λ ms. AreAlike ms (members_at c.settle.new.self c.args.bit c.settle.new.controllers)) same
-          (subst (AreAlike (members_at mid c.args.bit c.args.controllers.now)) (sym c.settle.ensures.controllers) lain);
+      (subst (AreAlike (members_at mid c.args.bit c.args.controllers.now)) (sym c.settle.ensures.controllers) lain);
   holds = c.settle.ensures.holds;
 }

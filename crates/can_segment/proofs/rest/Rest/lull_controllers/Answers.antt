@@ -5,8 +5,11 @@ use Rattle.can_segment.proofs.rest.Rest.lull_controllers.Goals as goal
 
 pub loop-place-init : goal.loop-place-init
 loop-place-init c =
-    record { lulls = lulls_start c.args.self.now c.args.bit c.args.members.now c.args.self.now.controllers.from
-    c.requires.rests; awake = c.requires.spent }
+    record {
+      lulls = lulls_start c.args.self.now c.args.bit c.args.members.now c.args.self.now.controllers.from
+          c.requires.rests;
+      awake = c.requires.spent;
+    }
 
 pub loop-place-preserved : goal.loop-place-preserved
 loop-place-preserved c =
@@ -14,7 +17,7 @@ loop-place-preserved c =
     let place = c.loop-place.place in
     let so_far = c.loop-place.invariant in
     let here = slice_get-get_or members place c.index-members-place.result
-        (omega (arith, c.loop-place-test.true, c.requires.within, so_far.lulls.lie.size)) in
+    (omega (arith, c.loop-place-test.true, c.requires.within, so_far.lulls.lie.size)) in
     record {
       lulls = lulls_step false c.args.self.now c.loop-place.self c.lull.new.self c.args.bit c.args.members.now members
           place _ c.lull.new.member (omega (arith, c.loop-place-test.true, c.requires.within)) here c.lull.ensures
@@ -27,4 +30,4 @@ loop-place-preserved c =
 pub returns-clause-lie : goal.returns-clause-lie
 returns-clause-lie c =
     lulls_end c.args.self.now c.loop-place.self c.args.bit c.args.members.now c.loop-place.members c.loop-place.place
-        c.loop-place.invariant.lulls
+    c.loop-place.invariant.lulls

@@ -6,8 +6,11 @@ use Rattle.can_segment.proofs.rest.Rest.lull_talkers.Goals as goal
 
 pub loop-place-init : goal.loop-place-init
 loop-place-init c =
-    record { lulls = lulls_start c.args.self.now c.args.bit c.args.members.now c.args.self.now.talkers.from
-    c.requires.rests; spent = c.requires.spent }
+    record {
+      lulls = lulls_start c.args.self.now c.args.bit c.args.members.now c.args.self.now.talkers.from
+          c.requires.rests;
+      spent = c.requires.spent;
+    }
 
 pub loop-place-preserved : goal.loop-place-preserved
 loop-place-preserved c =
@@ -17,13 +20,13 @@ loop-place-preserved c =
     let asked = get_or members place c.index-members-place.result in
     let old = get_or members place c.index-members-place-in-loop-place.result in
     let here = slice_get-get_or members place c.index-members-place-in-loop-place.result
-        (omega (arith, c.loop-place-test.true, c.requires.within, so_far.lulls.lie.size)) in
+    (omega (arith, c.loop-place-test.true, c.requires.within, so_far.lulls.lie.size)) in
     let same = same_some asked old
-        (sym (slice_get-get_or members place c.index-members-place.result
-          (omega (arith, c.loop-place-test.true, c.requires.within, so_far.lulls.lie.size))) ∙ here) in
+    (sym (slice_get-get_or members place c.index-members-place.result
+    (omega (arith, c.loop-place-test.true, c.requires.within, so_far.lulls.lie.size))) ∙ here) in
     let talker = get_or c.args.plan.now place c.index-plan-place.result in
     let there = slice_get-get_or c.args.plan.now place c.index-plan-place.result
-        (omega (arith, c.loop-place-test.true, c.requires.within, c.requires.plan)) in
+    (omega (arith, c.loop-place-test.true, c.requires.within, c.requires.plan)) in
     let spent = c.is_spent-spent.ensures in
     let told = rw c.as_slice.ensures.value at spent in
     record {
@@ -39,4 +42,4 @@ loop-place-preserved c =
 pub returns-clause-lie : goal.returns-clause-lie
 returns-clause-lie c =
     lulls_end c.args.self.now c.loop-place.self c.args.bit c.args.members.now c.loop-place.members c.loop-place.place
-        c.loop-place.invariant.lulls
+    c.loop-place.invariant.lulls

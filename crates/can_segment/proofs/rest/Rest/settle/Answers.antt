@@ -9,11 +9,23 @@ returns-clause-holds c =
     let held = c.requires.holds in
     record {
       talkers_rest = λ k m e is. let h = held.talkers_rest k m e is in
-          record { some_rest = h.some_rest; is_on = h.is_on; quiet = h.quiet; known = h.known; listening =
-          h.listening };
+          record {
+            some_rest = h.some_rest;
+            is_on = h.is_on;
+            quiet = h.quiet;
+            known = h.known;
+            listening =
+                h.listening;
+          };
       controllers_rest = λ k m e is. let h = held.controllers_rest k m e is in
-          record { some_rest = h.some_rest; is_on = h.is_on; quiet = h.quiet; known = h.known; listening =
-          h.listening };
+          record {
+            some_rest = h.some_rest;
+            is_on = h.is_on;
+            quiet = h.quiet;
+            known = h.known;
+            listening =
+                h.listening;
+          };
       talkers_spent = held.talkers_spent;
       controllers_awake = held.controllers_awake;
       talkers_within = c.of-awake_talkers.ensures;

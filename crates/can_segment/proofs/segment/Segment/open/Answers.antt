@@ -16,28 +16,28 @@ use Rattle.can_segment.proofs.segment.Segment.open.Goals as goal
 pub show_all-requires-clause-talkers : goal.show_all-requires-clause-talkers
 show_all-requires-clause-talkers c =
     rw c.as_slice-3.ensures.value
-        (fresh_shown (λ talker. talker.on) c.args.plan.talkers.items 0 c.in_ok-talkers.talkers.items
-        c.in_ok-counters.counters.items (rw c.as_slice.ensures.value at c.in_ok-talkers.ensures))
+    (fresh_shown (λ talker. talker.on) c.args.plan.talkers.items 0 c.in_ok-talkers.talkers.items
+    c.in_ok-counters.counters.items (rw c.as_slice.ensures.value at c.in_ok-talkers.ensures))
 
 pub show_all-requires-clause-controllers : goal.show_all-requires-clause-controllers
 show_all-requires-clause-controllers c =
     rw c.as_slice-4.ensures.value
-        (fresh_shown (λ controller. controller.on) c.args.plan.controllers.items _ c.in_ok-controllers.controllers.items
-        c.in_ok-counters.counters.items (rw c.as_slice-2.ensures.value at c.in_ok-controllers.ensures))
+    (fresh_shown (λ controller. controller.on) c.args.plan.controllers.items _ c.in_ok-controllers.controllers.items
+    c.in_ok-counters.counters.items (rw c.as_slice-2.ensures.value at c.in_ok-controllers.ensures))
 
 pub invariant_of-result : goal.invariant_of-result
 invariant_of-result c =
     let talkers = c.in_ok-talkers.talkers.items in
     let controllers = c.in_ok-controllers.controllers.items in
     let fresh : AreFresh (λ talker. talker.on) c.args.plan.talkers.items talkers =
-        rw c.as_slice.ensures.value at c.in_ok-talkers.ensures in
+    rw c.as_slice.ensures.value at c.in_ok-talkers.ensures in
     let fresh_too : AreFresh (λ controller. controller.on) c.args.plan.controllers.items controllers =
-        rw c.as_slice-2.ensures.value at c.in_ok-controllers.ensures in
+    rw c.as_slice-2.ensures.value at c.in_ok-controllers.ensures in
     let awake = fresh_awake (λ talker. talker.on) c.args.plan.talkers.items talkers fresh in
     let awake_too = fresh_awake (λ controller. controller.on) c.args.plan.controllers.items controllers fresh_too in
     let kept = kept_fresh c.args.plan talkers controllers fresh fresh_too in
     let made : Record =
-        record { levels = c.new-2.result; events = c.new-3.result; counters = c.show_all.new.counters } in
+    record { levels = c.new-2.result; events = c.new-3.result; counters = c.show_all.new.counters } in
     let held : SegmentHolds c.args.plan made talkers controllers = record {
       kept = rw (c.new-2.ensures.items, c.new-3.ensures.items) kept;
       few = omega (arith, c.requires, kept.stands.talkers_size, kept.stands.controllers_size);
@@ -52,18 +52,18 @@ invariant_of-result c =
       none_rests c.none-rest.result (length made.levels.items) c.args.plan.talkers.items talkers controllers
           c.none-rest.ensures.few
           (whole_within c.none-rest.result.talkers _ talkers c.none-rest.ensures.talkers (search rules))
-              (whole_within c.none-rest.result.controllers _ controllers c.none-rest.ensures.controllers (search rules))
-              awake awake_too,
+          (whole_within c.none-rest.result.controllers _ controllers c.none-rest.ensures.controllers (search rules))
+          awake awake_too,
     )
 
 pub returns : goal.returns
 returns c =
     let controllers = c.in_ok-controllers.controllers.items in
     let fresh : AreFresh (λ controller. controller.on) c.args.plan.controllers.items controllers =
-        rw c.as_slice-2.ensures.value at c.in_ok-controllers.ensures in
+    rw c.as_slice-2.ensures.value at c.in_ok-controllers.ensures in
     let same : members_at c.none-rest.result (length c.new-2.result.items) controllers ≡ controllers =
     none_resting c.none-rest.result.listener (length c.new-2.result.items) controllers
-        (fresh_awake (λ controller. controller.on) c.args.plan.controllers.items controllers fresh) in
+    (fresh_awake (λ controller. controller.on) c.args.plan.controllers.items controllers fresh) in
     record {
       plan_is = refl;
       no_levels = c.new-2.ensures.items;

@@ -18,9 +18,9 @@ grow_quietly-requires-clause-talker_room c k m e awake on =
     let levels = inside.made.levels.items in
     let bit = length levels in
     talker_clocks inside.plan levels inside.made.events.items (members_at rest bit inside.talkers.items)
-        (members_at rest bit inside.controllers.items) bit _ c.self.invariant.0.kept refl (search rules) k m
+    (members_at rest bit inside.controllers.items) bit _ c.self.invariant.0.kept refl (search rules) k m
     (found_awake rest.listener bit inside.talkers.items k m
-        (ap (λ ms. slice_get ms k) (sym c.as_mut_slice.ensures.value) ∙ e) awake) on
+    (ap (λ ms. slice_get ms k) (sym c.as_mut_slice.ensures.value) ∙ e) awake) on
 
 pub grow_quietly-requires-clause-room : goal.grow_quietly-requires-clause-room
 grow_quietly-requires-clause-room c k m e awake on =
@@ -29,22 +29,22 @@ grow_quietly-requires-clause-room c k m e awake on =
     let levels = inside.made.levels.items in
     let bit = length levels in
     controller_clocks inside.plan levels inside.made.events.items (members_at rest bit inside.talkers.items)
-        (members_at rest bit inside.controllers.items) bit _ c.self.invariant.0.kept refl (search rules) k m
+    (members_at rest bit inside.controllers.items) bit _ c.self.invariant.0.kept refl (search rules) k m
     (found_awake rest.listener bit inside.controllers.items k m
-        (ap (λ ms. slice_get ms k) (sym c.as_mut_slice-2.ensures.value) ∙ e) awake) on
+    (ap (λ ms. slice_get ms k) (sym c.as_mut_slice-2.ensures.value) ∙ e) awake) on
 
 pub invariant_of-self : goal.invariant_of-self
 invariant_of-self c =
     let inside = c.self.inside in
     let none = c.grow_quietly.ensures.none (search rules) in
     let talkers = put_back inside.talkers.len c.grow_quietly.new.talkers inside.talkers.items
-        (omega (arith, c.as_mut_slice.ensures.len, ap length c.as_mut_slice.ensures.value, ap length none.2))
-        (omega (arith, ap length c.as_mut_slice.ensures.value, ap length none.2))
+    (omega (arith, c.as_mut_slice.ensures.len, ap length c.as_mut_slice.ensures.value, ap length none.2))
+    (omega (arith, ap length c.as_mut_slice.ensures.value, ap length none.2))
     ∙ none.2 ∙ c.as_mut_slice.ensures.value in
     let controllers =
     put_back inside.controllers.len c.grow_quietly.new.controllers inside.controllers.items
-        (omega (arith, c.as_mut_slice-2.ensures.len, ap length c.as_mut_slice-2.ensures.value, ap length none.3))
-        (omega (arith, ap length c.as_mut_slice-2.ensures.value, ap length none.3))
+    (omega (arith, c.as_mut_slice-2.ensures.len, ap length c.as_mut_slice-2.ensures.value, ap length none.3))
+    (omega (arith, ap length c.as_mut_slice-2.ensures.value, ap length none.3))
     ∙ none.3 ∙ c.as_mut_slice-2.ensures.value in
     rw (talkers, controllers, none.0, none.1) c.self.invariant
 
@@ -57,29 +57,32 @@ invariant_of-self-2 c =
     let next = length c.grow_quietly.new.made.levels.items in
     let told = c.grow_quietly.ensures.quiet (search rules) in
     let grown = subst (λ ms. GrowsQuietly inside.faults inside.made c.grow_quietly.new.made rest new
-        inside.talkers.items c.grow_quietly.new.talkers ms c.grow_quietly.new.controllers)
-        c.as_mut_slice-2.ensures.value
+    inside.talkers.items c.grow_quietly.new.talkers ms c.grow_quietly.new.controllers)
+    c.as_mut_slice-2.ensures.value
     (subst (λ ms. GrowsQuietly inside.faults inside.made c.grow_quietly.new.made rest new ms c.grow_quietly.new.talkers
-          c.as_mut_slice-2.result.now c.grow_quietly.new.controllers) c.as_mut_slice.ensures.value told) in
+    c.as_mut_slice-2.result.now c.grow_quietly.new.controllers) c.as_mut_slice.ensures.value told) in
     let t_size = grown.sends.talkers.size in
     let c_size = grown.sends.controllers.size in
     let controllers = put_back inside.controllers.len c.grow_quietly.new.controllers inside.controllers.items
-        (omega (arith, c.as_mut_slice-2.ensures.len, ap length c.as_mut_slice-2.ensures.value, c_size)) (sym c_size) in
+    (omega (arith, c.as_mut_slice-2.ensures.len, ap length c.as_mut_slice-2.ensures.value, c_size)) (sym c_size) in
     let talkers = put_back inside.talkers.len c.grow_quietly.new.talkers inside.talkers.items
-        (omega (arith, c.as_mut_slice.ensures.len, ap length c.as_mut_slice.ensures.value, t_size)) (sym t_size) in
+    (omega (arith, c.as_mut_slice.ensures.len, ap length c.as_mut_slice.ensures.value, t_size)) (sym t_size) in
     let held = c.self.invariant in
     let still : bit < inside.plan.bits = search rules in
     let holds = grown_holds inside.plan inside.faults inside.made c.grow_quietly.new.made rest new inside.talkers.items
-        c.grow_quietly.new.talkers inside.controllers.items c.grow_quietly.new.controllers grown held.0 still held.1
-        held.2 in
+    c.grow_quietly.new.talkers inside.controllers.items c.grow_quietly.new.controllers grown held.0 still held.1
+    held.2 in
     let rests = grown_rests inside.plan inside.faults inside.made c.grow_quietly.new.made rest new inside.talkers.items
-        c.grow_quietly.new.talkers inside.controllers.items c.grow_quietly.new.controllers grown held.2 in
+    c.grow_quietly.new.talkers inside.controllers.items c.grow_quietly.new.controllers grown held.2 in
     let here : c.len-made.result ≡ bit = search rules in
     let longer : c.len-made.result + 1 ≡ next =
-        omega (arith, here, ap length grown.levels_is, length-append inside.made.levels.items (grown.level ∷ [])) in
-    let stood = subst (λ n. StandsAt inside.plan n inside.faults) (sym here) held.1 in
-    (rw (talkers, controllers) holds, subst (λ n. StandsAt inside.plan n c.pass.new.self) longer
-        (c.pass.ensures.stands inside.plan stood), rw (talkers, controllers) rests)
+    omega (arith, here, ap length grown.levels_is, length-append inside.made.levels.items (grown.level ∷ [])) in
+    let stood = subst (λ n. StandsAt inside.plan n inside.faults) (sym here) held.1 in (
+      rw (talkers, controllers) holds,
+      subst (λ n. StandsAt inside.plan n c.pass.new.self) longer
+          (c.pass.ensures.stands inside.plan stood),
+      rw (talkers, controllers) rests,
+    )
 
 pub returns-clause-made : goal.returns-clause-made
 returns-clause-made c was_made =
@@ -90,15 +93,15 @@ returns-clause-made c was_made =
     let next = length c.grow_quietly.new.made.levels.items in
     let told = c.grow_quietly.ensures.quiet (search rules) in
     let grown = subst (λ ms. GrowsQuietly inside.faults inside.made c.grow_quietly.new.made rest new
-        inside.talkers.items c.grow_quietly.new.talkers ms c.grow_quietly.new.controllers)
-        c.as_mut_slice-2.ensures.value
+    inside.talkers.items c.grow_quietly.new.talkers ms c.grow_quietly.new.controllers)
+    c.as_mut_slice-2.ensures.value
     (subst (λ ms. GrowsQuietly inside.faults inside.made c.grow_quietly.new.made rest new ms c.grow_quietly.new.talkers
-          c.as_mut_slice-2.result.now c.grow_quietly.new.controllers) c.as_mut_slice.ensures.value told) in
+    c.as_mut_slice-2.result.now c.grow_quietly.new.controllers) c.as_mut_slice.ensures.value told) in
     let c_size = grown.sends.controllers.size in
     let controllers = put_back inside.controllers.len c.grow_quietly.new.controllers inside.controllers.items
-        (omega (arith, c.as_mut_slice-2.ensures.len, ap length c.as_mut_slice-2.ensures.value, c_size)) (sym c_size) in
+    (omega (arith, c.as_mut_slice-2.ensures.len, ap length c.as_mut_slice-2.ensures.value, c_size)) (sym c_size) in
     let longer : next ≡ bit + 1 =
-        ap length grown.levels_is ∙ length-append inside.made.levels.items (grown.level ∷ []) in
+    ap length grown.levels_is ∙ length-append inside.made.levels.items (grown.level ∷ []) in
     let rests = c.self.invariant.2 in
     record {
       level = grown.level;
@@ -109,10 +112,10 @@ returns-clause-made c was_made =
       sending_is = ap (λ ms. sending_of_all (members_at new next ms)) controllers
           ∙ ap (λ n. sending_of_all (members_at new n c.grow_quietly.new.controllers)) longer
           ∙ sending_alone inside.plan.talkers.items bit grown.level rest new inside.talkers.items
-              c.grow_quietly.new.talkers inside.controllers.items c.grow_quietly.new.controllers grown.sends rests
+          c.grow_quietly.new.talkers inside.controllers.items c.grow_quietly.new.controllers grown.sends rests
           ∙ ap (λ s. s.sending) c.self.view_is;
       none_wants = λ k. ap (λ s. wants_next s k) (sym c.self.view_is)
           ∙ none_wanted bit (members_at rest bit inside.controllers.items)
-              (wishes_alone inside.plan.talkers.items bit grown.level rest new inside.talkers.items
-              c.grow_quietly.new.talkers inside.controllers.items c.grow_quietly.new.controllers grown.sends rests) k;
+          (wishes_alone inside.plan.talkers.items bit grown.level rest new inside.talkers.items
+          c.grow_quietly.new.talkers inside.controllers.items c.grow_quietly.new.controllers grown.sends rests) k;
     }

@@ -1,5 +1,5 @@
 use Rattle.can_segment.proofs.Fresh.{FreshBelow}
-use Rattle.can_segment.proofs.segment.talkers_of.Given as goal
+use Rattle.can_segment.proofs.opening.talkers_of.Given as goal
 
 abbrev pub invariant-loop-talker : goal.invariant-loop-talker
 invariant-loop-talker l = FreshBelow (λ talker. talker.on) l.talkers l.members.items l.talker-index
