@@ -13,35 +13,27 @@ pub fn stuff(text: &[bool]) -> ArrayVec<bool, 160>
     ensures stuffs { Stuffs result.items text.now }
     ensures room { 4 * length result.items ≤ 5 * length text.now }
 {
-    let mut stuffer = Stuffer {
-        out: ArrayVec::new(),
-        run: LevelRun::new(),
-    };
+    let mut out = ArrayVec::new();
+    // no field of what is written to, so that it stays in registers
+    let mut run = LevelRun::new();
     for level in text {
-        stuffer.push(*level);
+        push_stuffed(&mut out, &mut run, *level);
     }
-    stuffer.out
+    out
 }
 
-/// The stuffed text so far, and how it ends.
-#[derive(Drop)]
-struct Stuffer {
-    out: ArrayVec<bool, 160>,
-    run: LevelRun,
-}
-
-impl Stuffer {
-    /// Adds a level of the text, and its opposite where it is the fifth of a kind.
-    fn push(&mut self, level: bool)
-        requires { length self.old.out.items + 2 ≤ 160 }
-        ensures { (text : List Bool) → IsStuffing self.old.out.items self.old.run text
-            → IsStuffing self.new.out.items self.new.run (text ++ level ∷ []) }
-    {
-        self.out.push(level);
-        self.run.push(level);
-        if self.run.is_full() {
-            self.out.push(!level);
-            self.run.push(!level);
-        }
+/// Adds a level of the text to the stuffed text, which ends in this run, and its opposite where it is the fifth of a
+/// kind.
+#[inline(always)]
+fn push_stuffed(out: &mut ArrayVec<bool, 160>, run: &mut LevelRun, level: bool)
+    requires { length out.old.items + 2 ≤ 160 }
+    ensures { (text : List Bool) → IsStuffing out.old.items run.old text
+        → IsStuffing out.new.items run.new (text ++ level ∷ []) }
+{
+    out.push(level);
+    run.push(level);
+    if run.is_full() {
+        out.push(!level);
+        run.push(!level);
     }
 }
