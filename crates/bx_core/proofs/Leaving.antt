@@ -1,5 +1,5 @@
 -- A request leaves the mailboxes: what that adds to the past of the bus side.
-use Rattle.std.proofs.Common.{◌≡◌, ◌≢◌, ℕ, arith, ◌<◌, ◌==◌, ◌⊎◌, ⊎_elim, Bool, true, cond, List, [], ◌∷◌, ◌++◌, length}
+use Rattle.std.proofs.Common.{◌≡◌, ◌≢◌, ℕ, arith, ◌<◌, ◌==◌, ⊎_elim, Bool, true, cond, List, [], ◌∷◌, ◌++◌, length}
 use Rattle.std.proofs.Common.{refl, sym, ap, ◌∙◌, subst, Some, None, eq-eqb, ne_eqb}
 use Rattle.std.specs.Prelude.{option_map}
 use Rattle.std.specs.List.{remove}
@@ -8,7 +8,7 @@ use Rattle.bx_core.specs.declared.entry.Entry.{Entry}
 use Rattle.bx_core.specs.declared.waiting.Waiting.{Waiting}
 use Rattle.bx_core.specs.Lists.{Each, Has}
 use Rattle.bx_core.specs.States.{State, RouteLists, no_lists, lists_of, entry_of}
-use Rattle.bx_core.specs.Steps.{without, done_lists, reaped_lists, reaped}
+use Rattle.bx_core.specs.Steps.{without, done_lists, reaped_lists}
 use Rattle.bx_core.specs.Law.{Law, IsInPlace}
 use Rattle.bx_core.specs.TxBus.{Item, BusPast, after_complete, after_fail}
 use Rattle.bx_core.specs.RouteTx.{RoutePast}

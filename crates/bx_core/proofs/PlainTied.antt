@@ -7,7 +7,7 @@ use Rattle.bx_core.specs.declared.waiting.Waiting.{Waiting}
 use Rattle.bx_core.specs.Law.{Law, IsRouteLawful}
 use Rattle.bx_core.specs.Lists.{Each, Has}
 use Rattle.bx_core.specs.RouteTx.{RoutePast}
-use Rattle.bx_core.specs.Stands.{BusStands, RouteStands, entries_of, numbers_of, entry_on_bus}
+use Rattle.bx_core.specs.Stands.{BusStands, RouteStands, entries_of, entry_on_bus}
 use Rattle.bx_core.specs.States.{State, RouteLists, no_lists, lists_of, entry_of, numbers, waits_of}
 use Rattle.bx_core.specs.Ties.{RouteTied, NothingOf, as_left, left_of}
 use Rattle.bx_core.specs.TxBus.{Item, BusPast}

@@ -12,7 +12,7 @@ use Rattle.bx_core.specs.declared.waiting.Waiting.{Waiting}
 use Rattle.bx_core.specs.declared.refused.Refused.TheVariants.{NotOwner, WrongState}
 use Rattle.bx_core.specs.Lists.{Each, Has}
 use Rattle.bx_core.specs.States.{State, RouteLists, no_lists, lists_of, at_mailbox, place_of, is_transmitting}
-use Rattle.bx_core.specs.Steps.{with_waiting, without, aborted_lists, requested, aborted, aborted_at}
+use Rattle.bx_core.specs.Steps.{with_waiting, without, aborted_lists, aborted, aborted_at}
 use Rattle.bx_core.specs.Law.{Law}
 use Rattle.bx_core.specs.TxBus.{BusPast}
 use Rattle.bx_core.specs.RouteTx.{RoutePast, after_abort}

@@ -1,15 +1,14 @@
 -- A bus side that took no post yet, and what taking one makes of it.
-use Rattle.std.proofs.Common.{◌≡◌, ℕ, zero, suc, arith, ◌+◌, ◌<◌, ◌≤◌, List, [], ◌∷◌, ◌++◌, length, get_or, set, refl}
+use Rattle.std.proofs.Common.{◌≡◌, ℕ, zero, suc, arith, ◌≤◌, List, [], ◌∷◌, ◌++◌, get_or, set, refl}
 use Rattle.std.proofs.Common.{sym, ap, ◌∙◌, subst, true, Bool, Option, Some, None}
-use Rattle.std.specs.Prelude.{option_to_list, replicate, slice_get, Result, IfOk, IfSome}
+use Rattle.std.specs.Prelude.{replicate, slice_get}
 use Rattle.std.proofs.lemmas.List.{length-replicate}
 use Rattle.atomic_table.specs.Seated.{TableId}
 use Rattle.can_frame.specs.Frames.{FrameValue}
 use Rattle.bx_core.specs.declared.waiting.Waiting.{Waiting}
 use Rattle.bx_core.specs.Lists.{Each, Has}
-use Rattle.bx_core.specs.RouteTx.{RoutePast, no_route_past}
-use Rattle.bx_core.specs.Stands.{BusStands, RouteStands}
-use Rattle.bx_core.specs.States.{State, RouteLists, no_lists, lists_of, opening_by}
+use Rattle.bx_core.specs.RouteTx.{no_route_past}
+use Rattle.bx_core.specs.States.{RouteLists, no_lists, opening_by}
 use Rattle.bx_core.specs.Steps.{may_start}
 use Rattle.bx_core.specs.TxBus.{BusPast, no_bus_past}
 use Rattle.bx_core.proofs.Reaches.{law-opening}
@@ -17,7 +16,7 @@ use Rattle.bx_mail.specs.declared.log.Log.{Log}
 use Rattle.bx_mail.specs.declared.posting.Posting.{Posting}
 use Rattle.bx_mail.specs.declared.posting.Asks.TheVariants.{Transmit, Abort}
 use Rattle.bx_mail.specs.Boxes.{may_start_first, on_bus_now, aborted_of}
-use Rattle.bx_mail.specs.Postings.{of, requests_in, aborts_in, IsRequest, AreOrderly}
+use Rattle.bx_mail.specs.Postings.{IsRequest}
 use Rattle.bx_mail.specs.Rule.{bus_log, Taken}
 use Rattle.bx_mail.specs.Sides.{BusSide, Runs, IsNewBus}
 use Rattle.bx_mail.proofs.PostsTaken.{takes-aside, takes-abort, aborts-sends}

@@ -1,6 +1,6 @@
 -- What the sides of a post did is tied together at its end.
-use Rattle.std.proofs.Common.{◌≡◌, ◌≢◌, ℕ, zero, suc, arith, ◌+◌, ◌<◌, ◌≤◌, ◌==◌, ◌⊎◌, inl, inr, ⊎_elim, Bool, true}
-use Rattle.std.proofs.Common.{false, cond, List, [], ◌∷◌, ◌++◌, map, length, get_or, set, refl, sym, ap, ◌∙◌, subst}
+use Rattle.std.proofs.Common.{◌≡◌, ◌≢◌, ℕ, zero, suc, arith, ◌+◌, ◌<◌, ◌≤◌, ◌==◌, inl, inr, ⊎_elim, Bool, true}
+use Rattle.std.proofs.Common.{false, cond, List, [], ◌∷◌, ◌++◌, map, length, get_or, refl, sym, ap, ◌∙◌, subst}
 use Rattle.std.proofs.Common.{Option, Some, None, eq-eqb, ne_eqb, append_assoc, append-nil, length-append}
 use Rattle.std.specs.Prelude.{option_to_list, slice_get, Result, Ok, Err, IfOk}
 use Rattle.std.proofs.lemmas.Bool.Decides.{eqb_tells}
@@ -13,8 +13,8 @@ use Rattle.bx_core.specs.declared.waiting.Waiting.{Waiting}
 use Rattle.bx_core.specs.Law.{IsRouteLawful}
 use Rattle.bx_core.specs.Lists.{Each, Has, Rises, times}
 use Rattle.bx_core.specs.RouteTx.{RoutePast}
-use Rattle.bx_core.specs.States.{State, RouteLists, no_lists, lists_of, numbers}
-use Rattle.bx_core.specs.Ties.{RouteTied, AllTied, NothingOf, NothingBeyond, as_left, left_of}
+use Rattle.bx_core.specs.States.{RouteLists, no_lists, lists_of, numbers}
+use Rattle.bx_core.specs.Ties.{RouteTied, AllTied, NothingBeyond, as_left, left_of}
 use Rattle.bx_core.specs.TxBus.{BusPast}
 use Rattle.bx_core.proofs.Words.{each-append, each_more, each_of, has-left, has-right, has-map, times-append}
 use Rattle.bx_core.proofs.PlainTied.{plain_tied, plain_beyond}
@@ -25,7 +25,7 @@ use Rattle.bx_mail.specs.declared.posting.Asks.TheVariants.{Transmit, Abort}
 use Rattle.bx_mail.specs.Postings.{of, request_by, requests_in, aborts_in, left_by, lefts_in, AreRising, AreOrderly}
 use Rattle.bx_mail.specs.Rule.{bus_log, TotalFact}
 use Rattle.bx_mail.specs.Sides.{BusSide, RouteSide, Runs, RouteRuns, AreAll, IsClosed, left_with}
-use Rattle.bx_mail.proofs.Postings.{of-append, of-own, of-other, requests_in-append, aborts_in-append}
+use Rattle.bx_mail.proofs.Postings.{of-append, requests_in-append, aborts_in-append}
 
 -- how many posts there are is known by those of each route
 

@@ -1,5 +1,5 @@
 -- What a route's calls add to its past.
-use Rattle.std.proofs.Common.{◌≡◌, ℕ, ◌++◌, ◌∷◌, [], List, length, true, false, Bool, refl, sym, ap, ◌∙◌, subst}
+use Rattle.std.proofs.Common.{◌≡◌, ℕ, ◌++◌, ◌∷◌, [], List, true, false, Bool, refl, sym, ap, ◌∙◌, subst}
 use Rattle.std.proofs.Common.{append-nil}
 use Rattle.std.specs.Prelude.{Result, Ok, Err, IfOk, OnErr}
 use Rattle.atomic_table.specs.Seated.{TableId}

@@ -16,7 +16,7 @@ use Rattle.bx_core.specs.declared.answer.Sent.TheVariants.{Yes}
 use Rattle.bx_core.specs.Lists.{Each, Has, Rises}
 use Rattle.bx_core.specs.States.{State, numbers, claim_of, lists_of, at_mailbox, IsEmpty, IsLowestEmpty}
 use Rattle.bx_core.specs.Steps.{with_claim, with_request, new_waiting, last_number, last_of, greatest_number}
-use Rattle.bx_core.specs.Steps.{is_claim_of, may_follow, aborted}
+use Rattle.bx_core.specs.Steps.{is_claim_of, may_follow}
 use Rattle.bx_core.specs.Law.{Law, count_at, count_of_claim}
 use Rattle.bx_core.specs.TxBus.{BusPast}
 use Rattle.bx_core.specs.RouteTx.{RoutePast, after_request}

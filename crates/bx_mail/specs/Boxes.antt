@@ -4,7 +4,7 @@ use Rattle.std.specs.Prelude.{◌≡◌, ◌<◌, ℕ, Bool, true, false, Option
 use Rattle.std.specs.Prelude.{None, List, [], ◌∷◌, ◌++◌, slice_set, if◌then◌else◌}
 use Rattle.std.specs.List.{remove}
 use Rattle.bx_core.specs.declared.waiting.Waiting.{Waiting}
-use Rattle.bx_core.specs.declared.status.Status.TheVariants.{Pending, Scheduled, Transmitting}
+use Rattle.bx_core.specs.declared.status.Status.TheVariants.{Scheduled, Transmitting}
 use Rattle.bx_core.specs.PlainMail.{item_of}
 use Rattle.bx_core.specs.States.{at_mailbox, place_of, of_number, is_pending, is_transmitting}
 use Rattle.bx_core.specs.Steps.{may_start, new_waiting}

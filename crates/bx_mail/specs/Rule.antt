@@ -1,7 +1,7 @@
 -- The rule of a post's queue: of each route, what it posted is what the bus side took of it and then what the queue
 -- holds of it. Each route's side alone posts for it, and it has the list of that; the bus side alone takes, and it has
 -- the list of that.
-use Rattle.std.specs.Prelude.{◌≡◌, ℕ, ◌<◌, ◌≤◌, Bool, true, false, Option, Some, None, List, [], ◌∷◌, ◌++◌, length}
+use Rattle.std.specs.Prelude.{◌≡◌, ℕ, ◌<◌, ◌≤◌, true, false, Option, Some, None, List, [], ◌∷◌, ◌++◌, length}
 use Rattle.std.specs.List.{slice_index_or}
 use mathlib.Core.Option.{some}
 use lib.ListN.{get_elem?}

@@ -1,11 +1,11 @@
 -- What the steps' numerals do to a lane.
 use Rattle.std.proofs.Common.{◌≡◌, ℕ, zero, suc, ◌+◌, ◌-◌, ◌*◌, ◌/◌, ◌%◌, ◌^◌, ◌<◌, ◌⊎◌, inl, inr, ⊎_elim, refl, sym}
-use Rattle.std.proofs.Common.{ap, ◌∙◌, arith, Bool, true, false, ◌&&◌, ◌||◌, ◌==◌, eqb-true, ne_eqb, true≢false}
+use Rattle.std.proofs.Common.{ap, ◌∙◌, arith, ◌==◌}
 use Rattle.std.proofs.Common.{if◌then◌else◌}
 use Rattle.std.specs.Int.Bits.{bit_and, bit_or, and_zero_r, or_zero_l}
 use Rattle.bx_words.specs.Lanes.{field, lane_of, mark_of, order_bit, older_bit, rest_of, filling, IsTransmitting}
 use Rattle.bx_words.specs.Lanes.{one_more, LaneSet, LaneYoungest, LaneRequested, IsCounted}
-use Rattle.bx_words.proofs.Bits.{field-or, field-and, field_below, kept, cleared, spared, written, set_bit, rest_spared}
+use Rattle.bx_words.proofs.Bits.{field-or, field-and, field_below, kept, cleared, spared, set_bit, rest_spared}
 use Rattle.bx_words.proofs.Bits.{rest_kept}
 use Rattle.bx_words.proofs.Cases.{of_mailboxes, of_pairs, of_routes}
 

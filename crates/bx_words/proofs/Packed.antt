@@ -1,11 +1,11 @@
 -- Two payload words are those of one frame and one number.
-use Rattle.std.proofs.Common.{◌≡◌, ◌∙◌, ap, sym, refl, ℕ, ◌+◌, ◌*◌, ◌^◌, ◌<◌, ◌≤◌, ◌⊎◌, inl, inr, ⊎_elim, List, length}
+use Rattle.std.proofs.Common.{◌≡◌, ◌∙◌, ap, sym, refl, ℕ, ◌+◌, ◌*◌, ◌^◌, ◌<◌, ◌≤◌, length}
 use Rattle.std.proofs.Common.{take, Bool, true, false, arith}
 use Rattle.std.specs.Int.{to_le_bytes, w64}
 use Rattle.can_frame.specs.Frames.{Identifier, standard, extended, Content, FrameValue, IsIdentifier, IsContent}
 use Rattle.can_frame.specs.Frames.{AreBytes, data_bytes, remote_code, number_of, is_extended_id}
 use Rattle.can_frame.specs.Fields.{is_remote, length_code}
-use Rattle.bx_words.specs.Payloads.{bit_of, head_of, little_endian, bytes_word, IsHeadOf, ArePacked}
+use Rattle.bx_words.specs.Payloads.{bit_of, little_endian, bytes_word, ArePacked}
 use Rattle.bx_words.proofs.Unpacking.{first_bytes}
 
 below_29 : (id : Identifier) → IsIdentifier id → number_of id < 2 ^ 29

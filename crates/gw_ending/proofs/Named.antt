@@ -7,7 +7,7 @@ use Rattle.std.proofs.lemmas.Bool.Decides.{eqb_tells}
 use Rattle.std.proofs.lemmas.List.{length-map}
 use Rattle.std.proofs.lemmas.List.Sums.{length-filter}
 use Rattle.std.specs.Prelude.{IfSome, IsSomeAnd}
-use Rattle.bx_core.specs.Lists.{Each, Has}
+use Rattle.bx_core.specs.Lists.{Has}
 use Rattle.bx_core.specs.declared.left.Left.{Left}
 use Rattle.bx_core.specs.Ties.{NothingOf}
 use Rattle.bx_core.specs.Stands.{entries_of, numbers_of, entry_on_bus}
@@ -37,7 +37,7 @@ use Rattle.gw_ending.specs.Ports.{Port, Site}
 use Rattle.gw_ending.specs.Finals.{IsDonePort, IsDoneSite, AreDoneSites, IsRecordAt, told_at}
 use Rattle.gw_site.specs.Pairs.{Pairs}
 use Rattle.gw_ending.proofs.Labels.{IsFair, fair_run}
-use Rattle.gw_site.proofs.Pairs.{pair_at, pair_of, each_at}
+use Rattle.gw_site.proofs.Pairs.{pair_at, pair_of}
 use Rattle.gw_ending.proofs.Settles.{each_from}
 use Rattle.gw_opening.proofs.PlacesWhere.{places-length}
 use Rattle.gw_ending.proofs.RouteRuns.{controller_node}

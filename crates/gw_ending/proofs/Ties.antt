@@ -1,10 +1,8 @@
 -- Where a route asked nothing of its mailboxes, nothing was done for it, and nothing is left of it.
-use Rattle.std.proofs.Common.{◌≡◌, ℕ, Bool, inl, inr, List, [], ◌∷◌, refl, sym, ap, subst, ◌∙◌}
-use Rattle.bx_core.specs.declared.entry.Entry.{Entry}
+use Rattle.std.proofs.Common.{◌≡◌, ℕ, Bool, inl, List, [], ◌∷◌, refl, sym, subst, ◌∙◌}
 use Rattle.bx_core.specs.declared.left.Left.{Left}
 use Rattle.bx_core.specs.Lists.{Each, Has}
 use Rattle.bx_core.specs.RouteTx.{no_route_past}
-use Rattle.bx_core.specs.States.{RouteLists}
 use Rattle.bx_core.specs.Ties.{RouteTied, NothingOf, left_of}
 use Rattle.bx_core.specs.TxBus.{BusPast}
 

@@ -1,6 +1,6 @@
 -- Before the first bit a segment stands as each bit keeps it, whatever the mailboxes of its controllers are.
 use Rattle.std.proofs.Common.{◌≡◌, ℕ, ◌+◌, ◌≤◌, ◌==◌, Bool, Option, Some, None, List, [], ◌∷◌, length, slice_get, sym}
-use Rattle.std.proofs.Common.{ap, subst, arith, ◌∙◌}
+use Rattle.std.proofs.Common.{subst, arith, ◌∙◌}
 use Rattle.std.proofs.lemmas.List.Sums.{length-filter}
 use Rattle.bx_core.specs.Lists.{Each}
 use Rattle.bx_core.specs.TxBus.{Item, BusPast, no_bus_past}

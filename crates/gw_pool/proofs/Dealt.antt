@@ -1,7 +1,6 @@
 -- What is put in order, one after another.
 use Rattle.std.proofs.Common.{◌≡◌, ℕ, suc, ◌+◌, ◌<◌, List, [], ◌∷◌, ◌++◌, Option, Some, None, length, slice_get, refl}
-use Rattle.std.proofs.Common.{sym, ap, subst, ◌∙◌, arith, append_assoc, length-append}
-use Rattle.bx_core.specs.Lists.{Each}
+use Rattle.std.proofs.Common.{sym, ap, ◌∙◌, arith, append_assoc, length-append}
 use Rattle.gw_pool.specs.declared.account.Account.{Account}
 use Rattle.gw_pool.specs.Pool.{account, places, IsEven, weigh}
 use Rattle.gw_pool.specs.Collecting.{AreFull}

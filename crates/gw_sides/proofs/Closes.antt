@@ -1,6 +1,6 @@
 -- Controllers are closed one after another, and so are segments.
-use Rattle.std.proofs.Common.{◌≡◌, ◌≢◌, ℕ, suc, ◌+◌, ◌<◌, ◌≤◌, Bool, Option, Some, List, [], ◌∷◌, ◌++◌, length}
-use Rattle.std.proofs.Common.{slice_get, refl, sym, ap, subst, arith, ◌∙◌}
+use Rattle.std.proofs.Common.{◌≡◌, ℕ, ◌+◌, ◌<◌, ◌≤◌, Bool, Option, Some, List, [], ◌∷◌, ◌++◌, length}
+use Rattle.std.proofs.Common.{slice_get, sym, ap, subst, arith, ◌∙◌}
 use Rattle.std.proofs.lemmas.Option.{slice_get_within}
 use Rattle.bx_core.specs.RouteTx.{RoutePast}
 use Rattle.bx_core.specs.TxBus.{BusPast}
@@ -9,8 +9,6 @@ use Rattle.gw_config.specs.Nodes.{controller_places}
 use Rattle.gw_config.specs.Scripts.{ScriptValue}
 use Rattle.gw_ending.specs.Ports.{Port as ClosedPort, Site as ClosedSite}
 use Rattle.gw_opening.specs.Openings.{routes_at}
-use Rattle.gw_site.proofs.Pairs.{pairs_more}
-use Rattle.gw_site.specs.Pairs.{Pairs}
 use Rattle.gw_site.specs.declared.site.Site.{Site}
 use Rattle.bx_core.specs.Ties.{AreSides}
 use Rattle.can_station.proofs.Places.{some_there, same_some}

@@ -1,14 +1,12 @@
 -- Controllers are opened one after another, and so are segments.
-use Rattle.std.proofs.Common.{◌≡◌, ◌≢◌, ℕ, ◌+◌, ◌<◌, ◌⊎◌, inl, inr, Bool, Option, Some, List, [], ◌∷◌, ◌++◌, length}
-use Rattle.std.proofs.Common.{slice_get, refl, sym, ap, subst, arith, ◌∙◌}
-use Rattle.std.proofs.lemmas.Bool.{cases_lt}
+use Rattle.std.proofs.Common.{◌≡◌, ◌≢◌, ℕ, ◌+◌, ◌<◌, Bool, Option, Some, List, [], ◌∷◌, ◌++◌, length}
+use Rattle.std.proofs.Common.{slice_get, refl, ap, arith, ◌∙◌}
 use Rattle.std.proofs.lemmas.Option.{slice_get_within}
 use Rattle.bx_controller.specs.declared.port.Port.{Port}
 use Rattle.gw_config.specs.Nodes.{controller_places}
 use Rattle.gw_config.specs.Scripts.{ScriptValue}
 use Rattle.gw_opening.specs.Openings.{routes_at}
 use Rattle.gw_site.proofs.Pairs.{PairsBelow, pairs_step}
-use Rattle.gw_site.specs.Pairs.{Pairs}
 use Rattle.gw_site.specs.declared.site.Site.{Site}
 use Rattle.gw_sides.specs.Seats.{seat_of, HoldsAll, IsElsewhere, Leaves, LeavesOn, Seated}
 use Rattle.bx_core.specs.RouteTx.{RoutePast}

@@ -1,5 +1,5 @@
 -- Each side has a place of its own.
-use Rattle.std.proofs.Common.{◌≡◌, ◌≢◌, ℕ, ◌+◌, ◌<◌, ◌≤◌, ◌==◌, ◌⊎◌, inl, inr, Option, None, Some, List, [], ◌∷◌, ◌++◌}
+use Rattle.std.proofs.Common.{◌≡◌, ◌≢◌, ℕ, ◌+◌, ◌<◌, ◌≤◌, ◌==◌, inl, inr, Option, None, Some, List, [], ◌∷◌, ◌++◌}
 use Rattle.std.proofs.Common.{length, slice_get, refl, sym, ap, subst, arith, ◌∙◌}
 use Rattle.std.proofs.lemmas.Bool.{cases_lt, eqb-true}
 use Rattle.std.proofs.lemmas.Option.{slice_get_within}
@@ -12,7 +12,7 @@ use Rattle.gw_site.proofs.Pairs.{pushed}
 use Rattle.gw_opening.specs.Openings.{routes_at}
 use Rattle.gw_config.specs.SoundScripts.{IsSound}
 use Rattle.gw_opening.proofs.PlacesWhere.{place-passes, place-once, places-length}
-use Rattle.gw_sides.specs.Seats.{seat_from, seat_of, HoldsAll, IsElsewhere, Leaves, LeavesOn, Seated}
+use Rattle.gw_sides.specs.Seats.{seat_from, seat_of, HoldsAll, IsElsewhere, Leaves}
 
 -- a route that has a number at a controller leads into it
 route_there : (s : ScriptValue) (controller number route : ℕ) → route_at s controller number ≡ Some route →

@@ -1,32 +1,30 @@
 -- Before the first bit: FIFOs come into the controllers, and leave their mailboxes.
-use Rattle.std.proofs.Common.{◌≡◌, ℕ, suc, ◌+◌, ◌<◌, ◌≤◌, Bool, Option, None, Some, List, [], ◌∷◌, length, max}
+use Rattle.std.proofs.Common.{◌≡◌, ℕ, suc, ◌+◌, ◌<◌, Bool, Option, Some, List, [], ◌∷◌, length, max}
 use Rattle.std.proofs.Common.{slice_get, refl, sym, ap, subst, arith, ◌∙◌}
 use Rattle.std.proofs.lemmas.Option.{slice_get_within}
 use Rattle.bx_core.specs.Lists.{Each}
 use Rattle.bx_core.specs.RouteTx.{RoutePast, no_route_past}
-use Rattle.bx_core.specs.TxBus.{Item, BusPast, BusCall, no_bus_past}
+use Rattle.bx_core.specs.TxBus.{Item, BusPast, BusCall}
 use Rattle.bx_controller.specs.Ports.{SinkStands}
 use Rattle.bx_controller.specs.declared.port.Port.{Port}
 use Rattle.can_station.proofs.Places.{some_there, same_some}
 use Rattle.gw_config.specs.Nodes.{controller_places, route_places, route_at}
-use Rattle.gw_config.specs.Routes.{RouteValue}
 use Rattle.gw_config.specs.Scripts.{ScriptValue}
 use Rattle.gw_config.specs.Segments.{SegmentValue}
-use Rattle.gw_opening.specs.Openings.{AreNewSites, IsNewPort, IsNewSite, IsLaneOf, IsNewLane, IsPlaceOf, Opens}
+use Rattle.gw_opening.specs.Openings.{AreNewSites, IsNewPort, IsNewSite, IsNewLane, IsPlaceOf, Opens}
 use Rattle.gw_opening.specs.Openings.{SameMails, routes_at}
 use Rattle.gw_opening.proofs.Openings.{place_there}
 use Rattle.gw_config.specs.SoundScripts.{IsSound}
 use Rattle.gw_route.specs.RouteHand.{hand_value, LogMatches, LogsReleased}
-use Rattle.gw_route.specs.declared.route_hand.RouteHand.{RouteHand}
 use Rattle.gw_opening.specs.Places.{IsAt}
 use Rattle.gw_opening.specs.declared.lane.Lane.{Lane}
 use Rattle.gw_opening.specs.declared.place.Place.{Place}
 use Rattle.gw_opening.proofs.Starts.{site_starts}
 use Rattle.gw_sides.specs.Seats.{HasSeats, Seated, seat_of, seat_from}
 use Rattle.gw_sides.specs.Sets.{IsNewSet, IsNewSide, OpensPort, OpensSite}
-use Rattle.gw_site.proofs.Pairs.{pair_at, pair_of}
+use Rattle.gw_site.proofs.Pairs.{pair_at}
 use Rattle.gw_site.specs.Pairs.{Pairs}
-use Rattle.gw_site.specs.Sites.{SiteHolds, IsNewSite as IsReadySite}
+use Rattle.gw_site.specs.Sites.{IsNewSite as IsReadySite}
 use Rattle.gw_site.specs.declared.site.Site.{Site}
 use Rattle.gw_pool.specs.Couriers.{IsReadyCourier}
 use Rattle.gw_pool.specs.declared.courier.Courier.{Courier}

@@ -1,18 +1,17 @@
 -- What stands behind the last bit still stands when the mailboxes are closed.
-use Rattle.std.proofs.Common.{◌≡◌, ℕ, ◌+◌, ◌<◌, ◌≤◌, ◌⊎◌, inl, inr, Bool, Option, None, Some, List, [], ◌∷◌, length}
-use Rattle.std.proofs.Common.{max, slice_get, refl, sym, ap, subst, arith, ◌∙◌}
+use Rattle.std.proofs.Common.{◌≡◌, ℕ, ◌+◌, ◌≤◌, inl, inr, Bool, Option, Some, List, length}
+use Rattle.std.proofs.Common.{slice_get, sym, ap, subst, arith, ◌∙◌}
 use Rattle.std.proofs.lemmas.Bool.{cases_lt}
-use Rattle.std.proofs.lemmas.Option.{slice_get_within}
 use Rattle.bx_core.specs.RouteTx.{RoutePast, no_route_past}
 use Rattle.bx_core.specs.Ties.{RouteTied, NothingOf, left_of}
 use Rattle.bx_core.specs.TxBus.{Item, BusPast, no_bus_past}
 use Rattle.bx_controller.specs.Ports.{SinkStands, slot_leaves}
 use Rattle.bx_controller.specs.declared.port.Port.{Port}
 use Rattle.can_frame.specs.Frames.{FrameValue}
-use Rattle.can_station.proofs.Places.{some_there, same_some}
+use Rattle.can_station.proofs.Places.{some_there}
 use Rattle.can_segment.specs.Brought.{told_of, grown}
 use Rattle.can_segment.specs.Segments.{SegmentValue}
-use Rattle.gw_config.specs.Nodes.{controller_places, route_places, route_at}
+use Rattle.gw_config.specs.Nodes.{controller_places, route_places}
 use Rattle.gw_config.specs.Routes.{RouteValue}
 use Rattle.gw_config.specs.Scripts.{ScriptValue}
 use Rattle.gw_config.specs.SoundScripts.{IsSound}
@@ -24,7 +23,6 @@ use Rattle.gw_opening.specs.Openings.{priority_of, routes_at}
 use Rattle.gw_opening.specs.Places.{IsAt, TakesFrom, slot_of}
 use Rattle.gw_opening.specs.declared.lane.Lane.{Lane}
 use Rattle.gw_opening.specs.declared.place.Place.{Place}
-use Rattle.gw_sides.specs.Seats.{seat_of}
 use Rattle.gw_sides.specs.Sets.{MayClose, ClosesPort, ClosesNth, ClosesSite}
 use Rattle.gw_site.proofs.Pairs.{pair_at, pair_of}
 use Rattle.gw_site.specs.Pairs.{Pairs}

@@ -1,23 +1,19 @@
 -- What stood before the first bit stands behind the last one, once all threads are joined.
 use Rattle.std.proofs.Common.{◌≡◌, ℕ, ◌+◌, ◌<◌, ◌≤◌, ◌==◌, Bool, true, false, cond, Option, None, Some, List, [], ◌∷◌}
-use Rattle.std.proofs.Common.{length, max, slice_get, refl, sym, ap, subst, arith, ◌∙◌}
+use Rattle.std.proofs.Common.{length, slice_get, refl, sym, ap, subst, arith, ◌∙◌}
 use Rattle.std.proofs.lemmas.Option.{slice_get_within}
 use Rattle.bx_core.specs.RouteTx.{RoutePast, no_route_past}
 use Rattle.bx_core.specs.TxBus.{Item, BusPast, BusCall}
-use Rattle.bx_controller.specs.Intakes.{IntakeStands}
 use Rattle.bx_controller.specs.Ports.{SinkStands, PortLeaves}
 use Rattle.bx_controller.specs.Slots.{SameFifo}
 use Rattle.bx_controller.specs.declared.intake.Intake.{Intake}
 use Rattle.bx_controller.specs.declared.port.Port.{Port}
 use Rattle.can_station.proofs.Places.{some_there, same_some}
-use Rattle.gw_config.specs.Controllers.{ControllerValue}
-use Rattle.gw_config.specs.Nodes.{controller_places, route_places, route_at}
+use Rattle.gw_config.specs.Nodes.{route_places, route_at}
 use Rattle.gw_config.specs.Routes.{RouteValue}
 use Rattle.gw_config.specs.Scripts.{ScriptValue}
-use Rattle.gw_config.specs.Segments.{SegmentValue}
-use Rattle.gw_config.specs.SoundScripts.{IsSound}
 use Rattle.gw_opening.proofs.PlacesWhere.{place-passes}
-use Rattle.gw_opening.specs.Openings.{IsPlaceOf, IsNewLane, IsLaneOf, Takes, priority_of, routes_at}
+use Rattle.gw_opening.specs.Openings.{IsPlaceOf, IsNewLane, IsLaneOf, Takes}
 use Rattle.gw_opening.specs.Places.{IsAt, TakesFrom, slot_of}
 use Rattle.gw_opening.specs.Plans.{IsPlanOf, aborts_of}
 use Rattle.gw_opening.specs.declared.lane.Lane.{Lane}
@@ -25,18 +21,18 @@ use Rattle.gw_opening.specs.declared.place.Place.{Place}
 use Rattle.gw_route.specs.Plans.{FromPlan}
 use Rattle.gw_route.specs.RouteHand.{hand_value, IsLinked, LogsReleased}
 use Rattle.gw_route.specs.declared.route_hand.RouteHand.{RouteHand}
-use Rattle.gw_sides.specs.Seats.{HasSeats, Seated, seat_of, seat_from}
-use Rattle.gw_sides.specs.Sets.{IsNewSet, IsNewSide, MayClose, OpensPort, OpensSite}
+use Rattle.gw_sides.specs.Seats.{Seated, seat_of, seat_from}
+use Rattle.gw_sides.specs.Sets.{IsNewSet, IsNewSide, OpensPort, OpensSite}
 use Rattle.gw_site.proofs.Pairs.{pair_at, pair_of}
 use Rattle.gw_site.specs.Pairs.{Pairs}
-use Rattle.gw_site.specs.Sites.{SiteHolds, PortsLeave, SiteRuns}
+use Rattle.gw_site.specs.Sites.{SiteRuns}
 use Rattle.gw_site.specs.declared.site.Site.{Site}
 use Rattle.gw_pool.specs.Couriers.{CourierRuns}
 use Rattle.gw_pool.specs.declared.courier.Courier.{Courier}
 use Rattle.gw_threaded.specs.declared.lead.Lead.{Lead}
 use Rattle.gw_threaded.specs.Parts.{lead_of, HaveParted, IsCourierOf, IsLaneFrom, LeavesBehind, HaveCome}
 use Rattle.gw_threaded.specs.Runs.{Starts, HasRunPort, HasRunSite, HasRunLane, HasRun}
-use Rattle.gw_threaded.proofs.Begins.{SideAt, number_below, port_opened, same_place, seat_is, side_at}
+use Rattle.gw_threaded.proofs.Begins.{same_place, seat_is}
 
 -- the FIFO of a slot is what it was
 same_slot : (old new : Option Intake) (intake : Intake) → SameFifo old new → old ≡ Some intake → (late : Intake)

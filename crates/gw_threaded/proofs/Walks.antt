@@ -1,13 +1,12 @@
 -- Routes part one after another, and come together one after another.
-use Rattle.std.proofs.Common.{◌≡◌, ◌≢◌, ℕ, zero, suc, ◌+◌, ◌<◌, ◌≤◌, ◌⊎◌, inl, inr, Option, Some, List, [], ◌∷◌, ◌++◌}
-use Rattle.std.proofs.Common.{length, map, slice_get, refl, sym, ap, subst, arith, ◌∙◌, length-append}
+use Rattle.std.proofs.Common.{◌≡◌, ◌≢◌, ℕ, zero, suc, ◌+◌, ◌<◌, ◌≤◌, inl, inr, Option, Some, List, [], ◌∷◌, ◌++◌}
+use Rattle.std.proofs.Common.{length, map, slice_get, refl, sym, ap, arith, ◌∙◌, length-append}
 use Rattle.std.proofs.lemmas.List.{append-nil}
 use Rattle.std.proofs.lemmas.Option.{slice_get_within}
 use Rattle.can_station.proofs.Places.{some_there, same_some}
-use Rattle.gw_opening.specs.declared.lane.Lane.{Lane}
 use Rattle.gw_site.proofs.Pairs.{pushed}
 use Rattle.gw_pool.specs.declared.courier.Courier.{Courier}
-use Rattle.gw_threaded.specs.Parts.{AreThere, LeavesBehind, HaveCome}
+use Rattle.gw_threaded.specs.Parts.{AreThere, HaveCome}
 
 -- from this place on all is as it was
 abbrev pub SameAbove : {X : Type 0} → ℕ → List (Option X) → List (Option X) → Type 0

@@ -1,5 +1,5 @@
 -- What is taken stands behind what was taken before; at an empty queue, or after eight, nothing is left.
-use Rattle.std.proofs.Common.{ap, sym, ◌∙◌, length, rules, arith}
+use Rattle.std.proofs.Common.{ap, arith}
 use Rattle.std.proofs.lemmas.List.{nil_from_length}
 use Rattle.crossbeam_queue.specs.Passes.{view}
 use Rattle.bx_mail.proofs.Relays.{takes_one, learns_total}

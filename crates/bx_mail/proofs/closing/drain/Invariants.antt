@@ -1,5 +1,5 @@
 -- What was taken so far stands behind what was taken before; and how many posts there were in all.
-use Rattle.std.proofs.Common.{◌≡◌, ◌++◌, ◌+◌, ◌≤◌, length}
+use Rattle.std.proofs.Common.{◌≡◌, ◌++◌, length}
 use Rattle.bx_mail.specs.Rule.{bus_log}
 use Rattle.bx_mail.proofs.Leaving.{FewLeft}
 use Rattle.crossbeam_queue.specs.Passes.{view, IsPassOf}

@@ -1,5 +1,5 @@
 -- The rule stays when the bus side takes in the side of a route.
-use Rattle.std.proofs.Common.{ap, sym, ◌∙◌}
+use Rattle.std.proofs.Common.{ap, ◌∙◌}
 use Rattle.crossbeam_queue.specs.Passes.{view}
 use Rattle.bx_mail.specs.Sides.{RouteSide}
 use Rattle.bx_mail.proofs.Relays.{merges}

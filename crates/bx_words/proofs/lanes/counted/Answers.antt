@@ -1,4 +1,4 @@
-use Rattle.std.proofs.Common.{◌≡◌, arith}
+use Rattle.std.proofs.Common.{arith}
 use Rattle.bx_words.proofs.LaneSteps.{counts, counts_none}
 use Rattle.bx_words.proofs.lanes.counted.Goals as goal
 

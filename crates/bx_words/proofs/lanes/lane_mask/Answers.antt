@@ -1,5 +1,4 @@
-use Rattle.std.proofs.Common.{◌≡◌, ℕ, refl, arith}
-use Rattle.bx_words.specs.Lanes.{lane_of}
+use Rattle.std.proofs.Common.{◌≡◌, refl, arith}
 use Rattle.bx_words.proofs.LaneSteps.{masked, mask_0, mask_1, mask_2, nothing_left}
 use Rattle.bx_words.proofs.lanes.lane_mask.Goals as goal
 

@@ -1,4 +1,4 @@
-use Rattle.std.proofs.Common.{◌≡◌, ℕ, IfSome, IfNone}
+use Rattle.std.proofs.Common.{IfSome, IfNone}
 use Rattle.bx_words.specs.Orders.{IsLeastOf, NoneRequested}
 use Rattle.bx_words.proofs.orders.least.Given as goal
 

@@ -1,4 +1,4 @@
-use Rattle.std.proofs.Common.{◌≡◌, ℕ, arith, lit<}
+use Rattle.std.proofs.Common.{arith, lit<}
 use Rattle.bx_words.specs.Orders.{IsOldest}
 use Rattle.bx_words.proofs.Cases.{of_mailboxes}
 use Rattle.bx_words.proofs.orders.oldest.Goals as goal

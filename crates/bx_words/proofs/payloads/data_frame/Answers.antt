@@ -1,7 +1,5 @@
-use Rattle.std.proofs.Common.{◌≡◌, ◌∙◌, ap, sym, ℕ, List, length, take, arith, ◌≤◌}
+use Rattle.std.proofs.Common.{◌∙◌, ap, length, take, arith, ◌≤◌}
 use Rattle.std.specs.Int.{to_le_bytes, w64}
-use Rattle.can_frame.specs.Frames.{AllBytes}
-use Rattle.bx_words.specs.Payloads.{little_endian}
 use Rattle.bx_words.proofs.Unpacking.{first_bytes, made}
 use Rattle.bx_words.proofs.payloads.data_frame.Goals as goal
 

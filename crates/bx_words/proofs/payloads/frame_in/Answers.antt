@@ -1,4 +1,4 @@
-use Rattle.std.proofs.Common.{◌≡◌, ◌∙◌, ap, sym, Ok}
+use Rattle.std.proofs.Common.{◌∙◌, ap, sym, Ok}
 use Rattle.can_frame.specs.Fields.{bytes_of}
 use Rattle.bx_words.proofs.Unpacking.{made_remote, remote_frame, data_frame, code_is, bytes_are, given}
 use Rattle.bx_words.proofs.payloads.frame_in.Goals.{then-is_remote, else-is_remote}

@@ -1,4 +1,4 @@
-use Rattle.std.proofs.Common.{◌≡◌, ◌∙◌, ap}
+use Rattle.std.proofs.Common.{◌∙◌, ap}
 use Rattle.can_frame.specs.Keys.{key_by}
 use Rattle.bx_words.proofs.payloads.key.Goals as goal
 

@@ -7,8 +7,7 @@ use Rattle.can_station.proofs.Places.{same_some}
 use Rattle.gw_route.specs.RouteHand.{hand_value}
 use Rattle.gw_opening.proofs.Changes.{mail_after}
 use Rattle.gw_ending.specs.Ends.{IsEndOf}
-use Rattle.gw_ending.specs.Finals.{EndsLane, told_at}
-use Rattle.gw_ending.specs.Ports.{Port}
+use Rattle.gw_ending.specs.Finals.{EndsLane}
 use Rattle.gw_ending.specs.declared.closed.Closed.{Closed}
 use Rattle.gw_ending.proofs.Closes.{segment_after, few_taken, talkers_taken, if_ok_both}
 use Rattle.gw_ending.proofs.closing.end_lane.Goals as goal

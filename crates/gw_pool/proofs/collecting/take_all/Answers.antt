@@ -1,10 +1,9 @@
 -- As long as batons are left, those that were taken stand in their places.
-use Rattle.std.proofs.Common.{◌≡◌, ◌+◌, ◌<◌, ℕ, [], ◌∷◌, ◌++◌, Some, length, slice_get, slice_set, refl, sym, ap, subst}
+use Rattle.std.proofs.Common.{◌<◌, [], ◌∷◌, ◌++◌, Some, length, slice_get, refl, sym, ap, subst}
 use Rattle.std.proofs.Common.{◌∙◌, arith}
 use Rattle.std.proofs.lemmas.List.{length-set}
 use Rattle.gw_pool.specs.declared.account.Account.{Account}
-use Rattle.gw_pool.specs.declared.courier.Courier.{Courier}
-use Rattle.gw_pool.specs.Pool.{weigh, places}
+use Rattle.gw_pool.specs.Pool.{weigh}
 use Rattle.gw_pool.specs.Couriers.{CourierRuns}
 use Rattle.gw_pool.proofs.Back.{AreBackBy, one_back, all_back}
 use Rattle.gw_pool.proofs.Fair.{weigh-append}

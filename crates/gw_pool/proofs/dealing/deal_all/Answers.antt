@@ -1,7 +1,6 @@
 -- Each baton has the place at which its route was dealt.
-use Rattle.std.proofs.Common.{◌≡◌, ◌+◌, ◌++◌, ◌∷◌, [], length, arith, length-append, sym, ap, subst, ◌∙◌}
+use Rattle.std.proofs.Common.{◌∷◌, [], arith, length-append, ◌∙◌}
 use Rattle.std.specs.Vec.Iter.{into_iter_items}
-use Rattle.gw_pool.specs.declared.account.Account.{Account}
 use Rattle.gw_pool.proofs.Dealt.{one_place}
 use Rattle.gw_pool.proofs.Joins.{walked}
 use Rattle.gw_pool.proofs.dealing.deal_all.Goals as goal

@@ -1,5 +1,4 @@
-use Rattle.std.proofs.Common.{◌≡◌, ◌<◌, ◌≤◌, length, refl, sym, ap, subst, arith, ◌∙◌}
-use Rattle.gw_opening.specs.Openings.{routes_at}
+use Rattle.std.proofs.Common.{refl, arith, ◌∙◌}
 use Rattle.gw_sides.proofs.Closes.{same_sides, side_there}
 use Rattle.gw_sides.proofs.closing.close_port.Goals as goal
 

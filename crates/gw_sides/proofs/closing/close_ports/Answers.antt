@@ -1,4 +1,4 @@
-use Rattle.std.proofs.Common.{◌≡◌, ◌<◌, ◌+◌, ◌++◌, ◌∷◌, [], ℕ, Some, length, slice_get, append_assoc, length-append}
+use Rattle.std.proofs.Common.{◌++◌, ◌∷◌, [], length, slice_get, append_assoc, length-append}
 use Rattle.std.proofs.Common.{refl, sym, ap, subst, arith, ◌∙◌}
 use Rattle.std.specs.Vec.Iter.{into_iter_items}
 use Rattle.can_station.proofs.Places.{same_some}

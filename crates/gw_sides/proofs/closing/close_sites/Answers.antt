@@ -1,11 +1,10 @@
-use Rattle.std.proofs.Common.{◌≡◌, ◌<◌, ◌+◌, ◌++◌, ◌∷◌, [], ℕ, Some, length, slice_get, append_assoc, length-append}
+use Rattle.std.proofs.Common.{◌++◌, ◌∷◌, [], slice_get, append_assoc, length-append}
 use Rattle.std.proofs.Common.{refl, sym, ap, subst, arith, ◌∙◌}
 use Rattle.std.specs.Vec.Iter.{into_iter_items}
-use Rattle.gw_config.specs.Nodes.{controller_places}
 use Rattle.gw_ending.specs.Ports.{Site as ClosedSite}
 use Rattle.gw_site.proofs.Pairs.{pairs_more}
 use Rattle.gw_site.specs.Pairs.{Pairs}
-use Rattle.gw_sides.specs.Sets.{MayClose, ClosesSite}
+use Rattle.gw_sides.specs.Sets.{ClosesSite}
 use Rattle.gw_sides.proofs.Closes.{next_there, behind_more, may_close_on, site_closes_on}
 use Rattle.gw_sides.proofs.closing.close_sites.Goals as goal
 

@@ -1,8 +1,8 @@
-use Rattle.std.proofs.Common.{◌≡◌, ◌+◌, sym, subst}
+use Rattle.std.proofs.Common.{◌+◌, sym, subst}
 use Rattle.gw_config.specs.Nodes.{controller_places}
 use Rattle.gw_site.proofs.Pairs.{PairsBelow}
 use Rattle.gw_sides.specs.Sets.{IsNewSet, IsNewSide, OpensPort}
-use Rattle.gw_sides.proofs.Opens.{ports_more, below-start, below-more, below-all}
+use Rattle.gw_sides.proofs.Opens.{ports_more, below-more, below-all}
 use Rattle.gw_sides.proofs.opening.open_ports.Goals as goal
 
 pub loop-nth-preserved : goal.loop-nth-preserved

@@ -1,4 +1,4 @@
-use Rattle.std.proofs.Common.{◌≡◌, ◌+◌, length, sym, ap, subst, arith, ◌∙◌}
+use Rattle.std.proofs.Common.{◌+◌, length, sym, ap, subst, arith, ◌∙◌}
 use Rattle.can_station.proofs.Places.{some_there}
 use Rattle.gw_config.specs.Nodes.{controller_places}
 use Rattle.gw_site.proofs.Pairs.{PairsBelow}

@@ -1,9 +1,9 @@
-use Rattle.std.proofs.Common.{◌≡◌, ◌<◌, ◌+◌, ◌++◌, ◌∷◌, [], Some, length, slice_get, append_assoc, length-append, refl}
-use Rattle.std.proofs.Common.{sym, ap, subst, arith, ◌∙◌}
+use Rattle.std.proofs.Common.{◌≡◌, ◌<◌, ◌++◌, ◌∷◌, [], Some, length, slice_get, append_assoc, length-append, refl}
+use Rattle.std.proofs.Common.{sym, ap, arith, ◌∙◌}
 use Rattle.std.specs.Vec.Iter.{into_iter_items}
 use Rattle.gw_opening.specs.Openings.{routes_at}
-use Rattle.gw_sides.specs.Seats.{seat_of, HoldsAll}
-use Rattle.gw_sides.proofs.SeatLaws.{holds_more, leaves_more, leaves-self, few_sides}
+use Rattle.gw_sides.specs.Seats.{seat_of}
+use Rattle.gw_sides.proofs.SeatLaws.{holds_more, leaves_more, leaves-self}
 use Rattle.gw_sides.proofs.seats.put_all.Goals as goal
 
 pub loop-side-init : goal.loop-side-init

@@ -1,10 +1,9 @@
-use Rattle.std.proofs.Common.{rules, ◌≡◌, ◌<◌, ◌+◌, ◌++◌, ◌∷◌, [], ℕ, Some, length, slice_get, append_assoc}
+use Rattle.std.proofs.Common.{rules, ◌≡◌, ◌++◌, ◌∷◌, [], length, slice_get, append_assoc}
 use Rattle.std.proofs.Common.{length-append, refl, sym, ap, subst, arith, ◌∙◌}
 use Rattle.std.proofs.lemmas.Iterator.Adapters.{YieldsList-from_vec}
 use Rattle.std.proofs.lemmas.Iterator.Consumers.{YieldsList-end}
 use Rattle.std.proofs.lemmas.Option.{slice_get_within}
 use Rattle.std.specs.Vec.Iter.{into_iter_items}
-use Rattle.gw_opening.specs.declared.lane.Lane.{Lane}
 use Rattle.gw_site.proofs.Pairs.{pairs_more}
 use Rattle.gw_site.specs.Pairs.{Pairs}
 use Rattle.gw_threaded.specs.Parts.{lead_of, HaveParted, IsCourierOf, LeavesBehind}

@@ -1,4 +1,4 @@
-use Rattle.std.proofs.Common.{◌≤◌, length, sym, subst, arith}
+use Rattle.std.proofs.Common.{arith}
 use Rattle.std.proofs.lemmas.Result.{IfOk-weaker}
 use Rattle.gw_threaded.proofs.Closings.{may_close_all, has_closed, few_closed}
 use Rattle.gw_threaded.proofs.running.report_on.Goals as goal

@@ -1,4 +1,4 @@
-use Rattle.std.proofs.Common.{◌≡◌, ◌≤◌, length, sym, ap, subst, arith, ◌∙◌}
+use Rattle.std.proofs.Common.{◌≡◌, length, sym, ap, subst, arith, ◌∙◌}
 use Rattle.bx_core.specs.Lists.{Each}
 use Rattle.can_segment.proofs.Shown.{put_back}
 use Rattle.gw_sides.specs.Sets.{IsNewSet, IsNewSide}

@@ -1,6 +1,6 @@
-use Rattle.std.proofs.Common.{◌≡◌, length, refl, sym, ap, subst, arith, ◌∙◌}
+use Rattle.std.proofs.Common.{length, sym, ap, subst, arith}
 use Rattle.can_segment.proofs.Shown.{put_back}
-use Rattle.gw_opening.specs.Openings.{AreNewSites, Opens, SameMails}
+use Rattle.gw_opening.specs.Openings.{AreNewSites, SameMails}
 use Rattle.gw_sides.specs.Sets.{IsNewSet, IsNewSide}
 use Rattle.gw_threaded.proofs.Begins.{opened_sites, starts}
 use Rattle.gw_threaded.specs.Runs.{Starts}

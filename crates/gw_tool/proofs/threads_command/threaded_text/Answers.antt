@@ -1,5 +1,4 @@
 -- Each failure is that of the call which fails, and the claims on a report are those on the run that it is of.
-use Rattle.std.proofs.Common.{refl}
 use Rattle.gw_tool.proofs.Endings.{wants_either, wants_memory}
 use Rattle.gw_command.specs.declared.task.Task.TheVariants.{RunThreads}
 use Rattle.gw_tool.proofs.threads_command.threaded_text.Goals as goal

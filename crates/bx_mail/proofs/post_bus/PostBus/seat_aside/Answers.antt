@@ -1,7 +1,7 @@
 -- That the request aside goes into a mailbox is two events of the mailbox core.
-use Rattle.std.proofs.Common.{sym, refl, ap, ◌∙◌}
+use Rattle.std.proofs.Common.{refl}
 use Rattle.bx_mail.specs.BusParts.{bus_view}
-use Rattle.bx_mail.proofs.Takes.{room, seated-past, seated_now, unseated-past}
+use Rattle.bx_mail.proofs.Takes.{room, seated-past, seated_now}
 use Rattle.bx_mail.proofs.post_bus.PostBus.seat_aside.Goals as goal
 
 pub seat-requires : goal.seat-requires

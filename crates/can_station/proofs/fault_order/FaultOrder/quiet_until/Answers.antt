@@ -1,5 +1,4 @@
 use Rattle.std.proofs.Common.{◌<◌, arith}
-use Rattle.can_station.specs.declared.fault_order.FaultOrder.{FaultOrder}
 use Rattle.can_station.proofs.FaultsInOrder.{faultless_before, stands_before}
 use Rattle.can_station.proofs.fault_order.FaultOrder.quiet_until.Goals as goal
 
