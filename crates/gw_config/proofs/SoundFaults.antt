@@ -54,7 +54,8 @@ found_from controllers name first [] node e = cc
 found_from controllers name first (s ∷ ss) node e =
     elim (position_from (bytes_eq name) 0 (node_names controllers first s)) as
     (λ o. position_from (bytes_eq name) 0 (node_names controllers first s) ≡ o →
-    or_later first o (node_from controllers name (first + 1) ss) ≡ Some node → IsFound controllers first (s ∷ ss) node) [
+    or_later first o (node_from controllers name (first + 1) ss) ≡ Some node →
+    IsFound controllers first (s ∷ ss) node) [
       | Some k ↦ λ found is.
           let below : k < 0 + length (node_names controllers first s) =
           position-below (bytes_eq name) 0 k (node_names controllers first s) found in
