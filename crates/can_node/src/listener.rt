@@ -4,7 +4,8 @@ ghost use Rattle.std.specs.Prelude.{◌≡◌, ◌≤◌, ℕ, Bool, true, false
 ghost use Rattle.can_node.specs.declared.node.Node.{Node};
 ghost use Rattle.can_node.specs.Machine.{GoesReading, is_sending, is_taking};
 ghost use Rattle.can_node.specs.Node.{driven_by, may_begin};
-ghost use Rattle.can_node.specs.Listener.{IsListening, IsUnseen, Follows, ReadsAlong, ReadsAlongBy, caught_up, is_reading};
+ghost use Rattle.can_node.specs.Listener.{IsListening, IsUnseen, Follows, ReadsAlong, ReadsAlongBy, caught_up};
+ghost use Rattle.can_node.specs.Listener.{is_reading};
 ghost use Rattle.can_confinement.specs.declared.confinement.ErrorState.{ErrorState as ErrorStateValue};
 
 use crate::machine::{

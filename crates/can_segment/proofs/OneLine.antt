@@ -259,7 +259,8 @@ driven_at plan node on trace bit x h s =
       h.size,
     )) in
     let place : s.place ≡ bit - on = omega (arith, s.bit_is, first) in
-    let found = sym (slice_get-map (λ (pair : Pair). pair.driven) (past_of on node trace).pairs s.place) ∙ s.level_is in (
+    let found = sym (slice_get-map (λ (pair : Pair). pair.driven) (past_of on node trace).pairs s.place)
+    ∙ s.level_is in (
       a,
       option_same (λ (pair : Pair). pair.driven) (slice_get (past_of on node trace).pairs s.place) _ x
           (ap (slice_get (past_of on node trace).pairs) place ∙ a.pair_is) found,

@@ -8,12 +8,14 @@ use Rattle.bx_mail.proofs.RouteSides.{was_posted, was_full, newest_posted, poste
 use Rattle.bx_mail.proofs.post_route.PostRoute.post.Goals as goal
 
 pub push_as-requires-clause-rule : goal.push_as-requires-clause-rule
-push_as-requires-clause-rule g c = let v = view c.self.inside.pass in let may = ap (λ v. v.sends) c.self.invariant.2 in (
-  posts_one _ _ v _ (ap ruled_capacity c.deref.ensures ∙ c.self.invariant.1) may
-      (sym (ap (λ v. v.from) c.self.invariant.2))
-      (subst (λ (s : RouteSide). MayFollow s.sent c.args.number c.args.what) (sym c.self.view_is) c.requires),
-  learns_sent _ v may,
-)
+push_as-requires-clause-rule g c =
+    let v = view c.self.inside.pass in
+    let may = ap (λ v. v.sends) c.self.invariant.2 in (
+      posts_one _ _ v _ (ap ruled_capacity c.deref.ensures ∙ c.self.invariant.1) may
+          (sym (ap (λ v. v.from) c.self.invariant.2))
+          (subst (λ (s : RouteSide). MayFollow s.sent c.args.number c.args.what) (sym c.self.view_is) c.requires),
+      learns_sent _ v may,
+    )
 
 pub returns : goal.returns
 returns g c = was_posted c.args.self.now _ _ (view c.self.inside.pass)
