@@ -16,7 +16,7 @@ fn next_register(register: u16, level: bool) -> u16
 {
     let shifted = (register << 1) & 0x7FFF;
     let differs = (register >> 14) ^ u16::from(level);
-    // a product, for a branch here would be foretold wrongly at half of all levels
+    // a product, for a branch here would be mispredicted at half of all levels
     shifted ^ (differs * GENERATOR_LOW)
 }
 

@@ -45,7 +45,7 @@ impl LevelRun {
     pub fn push(&mut self, level: bool)
         ensures { (text : List Bool) → EndsIn text self.old → EndsIn (level ∷ text) self.new }
     {
-        // both are there to be chosen from: a branch here would be foretold wrongly at half of all levels
+        // both are there to be chosen from: a branch here would be mispredicted at half of all levels
         let longer = self.count.min(4) + 1;
         self.count = if level == self.level { longer } else { 1 };
         self.level = level;

@@ -237,7 +237,8 @@ impl Node {
     }
 
     /// As many bits of the stuffed region of a frame as there are that `send_to` would make one after another, `most`
-    /// at most, and none where there are none. Their levels are kept behind those of `levels`, which has room for them.
+    /// at most, and none where there are none. Their levels are kept behind those of `levels`, which has room for
+    /// `most`, and no number of a bit among them passes the greatest.
     pub fn send_run(&mut self, listener: &mut Listener, levels: &mut Vec<bool>, most: usize)
         requires bits { bit_of self.old + most ≤ u64.MAX }
         requires room { vec_len levels.old + most ≤ vec_capacity levels.old }

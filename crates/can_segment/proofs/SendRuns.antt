@@ -9,22 +9,7 @@ use Rattle.can_station.specs.RestingNodes.{MemberSends, MemberSendsRun, OneSends
 use Rattle.can_station.proofs.Places.{get_set_other, get_set_same, same_some}
 use Rattle.can_segment.specs.declared.rest.Rest.{Rest}
 use Rattle.can_segment.specs.Rests.{GoQuietlyBy}
-use Rattle.can_segment.proofs.SoleSender.{alone_goes_quietly, controller_alone, talker_alone}
-
-abbrev pub with_listener : Rest → Listener → Rest
-with_listener rest listener = record {
-  listener = listener;
-  resting = rest.resting;
-  known = rest.known;
-  spent = rest.spent;
-  talkers = rest.talkers;
-  controllers = rest.controllers;
-  few = rest.few;
-  settled = rest.settled;
-  asleep = rest.asleep;
-  steady = rest.steady;
-  leader = rest.leader;
-}
+use Rattle.can_segment.proofs.SoleSender.{alone_goes_quietly, controller_alone, talker_alone, with_listener}
 
 -- what stands at a place is put there once more
 set_there : {X : Type 0} (xs : List X) (place : ℕ) (x : X) → slice_get xs place ≡ Some x → set xs place x ≡ xs

@@ -99,22 +99,25 @@ sole_awake : (place bit : ℕ) (before after : Listener) (level : Bool) (old new
 sole_awake place bit before after level old new moves m e =
     (sends_there place bit before after level old new m moves e).2.awake
 
+-- those that rest, with this listener
+abbrev pub with_listener : Rest → Listener → Rest
+with_listener rest listener = record {
+  listener = listener;
+  resting = rest.resting;
+  known = rest.known;
+  spent = rest.spent;
+  talkers = rest.talkers;
+  controllers = rest.controllers;
+  few = rest.few;
+  settled = rest.settled;
+  asleep = rest.asleep;
+  steady = rest.steady;
+  leader = rest.leader;
+}
+
 rests_through_alone : (rest : Rest) (place bit : ℕ) (after : Listener) (level : Bool) (old new : List Member) →
     OneSends place bit rest.listener level after old new →
-    RestsThrough bit level rest (record {
-      listener = after;
-      resting = rest.resting;
-      known = rest.known;
-      spent = rest.spent;
-      talkers = rest.talkers;
-      controllers = rest.controllers;
-      few = rest.few;
-      settled =
-          rest.settled;
-      asleep = rest.asleep;
-      steady = rest.steady;
-      leader = rest.leader;
-    })
+    RestsThrough bit level rest (with_listener rest after)
 rests_through_alone rest place bit after level old new h = record {
   resting = refl;
   talkers_is = refl;
@@ -133,20 +136,7 @@ drives_alone rest place bit after level old new h = λ listening node at. sym (h
 pub talker_alone : (rest : Rest) (sender controller bit : ℕ) (after : Listener) (level : Bool) (t0 t1 c : List Member) →
     length c ≤ controller → OneSends sender bit rest.listener level after t0 t1 →
     SendsAlone bit level sender controller rest
-    (record {
-      listener = after;
-      resting = rest.resting;
-      known = rest.known;
-      spent = rest.spent;
-      talkers = rest.talkers;
-      controllers = rest.controllers;
-      few = rest.few;
-      settled = rest.settled;
-      asleep = rest.asleep;
-      steady =
-          rest.steady;
-      leader = rest.leader;
-    }) t0 t1 c c
+    (with_listener rest after) t0 t1 c c
 talker_alone rest sender controller bit after level t0 t1 c past h = record {
   starts_none = inr h.step.sends.others_begin;
   through = rests_through_alone rest sender bit after level t0 t1 h;
@@ -161,20 +151,7 @@ talker_alone rest sender controller bit after level t0 t1 c past h = record {
 pub controller_alone : (rest : Rest) (sender controller bit : ℕ) (after : Listener) (level : Bool)
     (t c0 c1 : List Member) → length t ≤ sender → OneSends controller bit rest.listener level after c0 c1 →
     SendsAlone bit level sender controller rest
-    (record {
-      listener = after;
-      resting = rest.resting;
-      known = rest.known;
-      spent = rest.spent;
-      talkers = rest.talkers;
-      controllers = rest.controllers;
-      few = rest.few;
-      settled = rest.settled;
-      asleep = rest.asleep;
-      steady =
-          rest.steady;
-      leader = rest.leader;
-    }) t t c0 c1
+    (with_listener rest after) t t c0 c1
 controller_alone rest sender controller bit after level t c0 c1 past h = record {
   starts_none = inr h.step.sends.others_begin;
   through = rests_through_alone rest controller bit after level c0 c1 h;
