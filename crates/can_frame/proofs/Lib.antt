@@ -17,3 +17,5 @@ pub mod ReaderLaws
 pub mod Spellings
 pub mod Runs
 pub mod SameFrames
+pub mod Tallies
+pub mod Ahead

@@ -18,3 +18,5 @@ pub mod Reading
 pub mod ReaderLaws
 pub mod Runs
 pub mod Rewrites
+pub mod Sending
+pub mod Spelled

@@ -6,7 +6,7 @@ use Rattle.can_frame.specs.declared.reader.Reader.{Reader}
 use Rattle.can_frame.specs.declared.step.Step.{Step}
 use Rattle.can_confinement.specs.declared.confinement.ErrorState.{ErrorState}
 use Rattle.can_node.specs.declared.state.State.{State}
-use Rattle.can_node.specs.declared.spelling.Spelling.{Spelling}
+use Rattle.can_frame.specs.declared.spelling.Spelling.{Spelling}
 use Rattle.can_node.specs.declared.state.State.TheVariants.{Idling, Taking, Recovering, Sending}
 use Rattle.can_node.specs.declared.state.Stage.{Stage}
 use Rattle.can_node.specs.declared.state.Stage.TheVariants.{Region}

@@ -13,11 +13,11 @@ use Rattle.can_confinement.specs.declared.confinement.ErrorEvent.{ErrorEvent}
 use Rattle.can_node.specs.declared.outcome.Outcome.TheVariants.{Nothing}
 use Rattle.can_node.specs.declared.state.State.{State}
 use Rattle.can_node.specs.declared.state.State.TheVariants.{Taking, Sending}
-use Rattle.can_node.specs.declared.spelling.Spelling.{Spelling}
+use Rattle.can_frame.specs.declared.spelling.Spelling.{Spelling}
 use Rattle.can_node.specs.declared.node.Node.{Node}
 use Rattle.can_node.specs.Pairs.{Pair, listening, dominating, recessive}
 use Rattle.can_node.specs.Sends.{IsSendBit}
-use Rattle.can_node.specs.Sending.{IsSpelling}
+use Rattle.can_frame.specs.Sending.{IsSpelling}
 use Rattle.can_node.specs.Takes.{Reads}
 use Rattle.can_node.specs.Takes.Reads.{no_slot, with_slot}
 use Rattle.can_node.specs.Phases.{Phase, wants_start}

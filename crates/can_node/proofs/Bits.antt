@@ -11,7 +11,7 @@ use Rattle.can_confinement.specs.declared.confinement.ErrorState.TheVariants.{Ac
 use Rattle.can_node.specs.declared.outcome.Outcome.{Outcome}
 use Rattle.can_node.specs.declared.outcome.Outcome.TheVariants.{Nothing, WentOff}
 use Rattle.can_node.specs.declared.state.State.{State}
-use Rattle.can_node.specs.declared.spelling.Spelling.{Spelling}
+use Rattle.can_frame.specs.declared.spelling.Spelling.{Spelling}
 use Rattle.can_node.specs.declared.state.State.TheVariants.{Recovering}
 use Rattle.can_node.specs.Pairs.{Pair}
 use Rattle.can_node.specs.Takes.{IsReadOn}
@@ -26,10 +26,9 @@ use Rattle.can_node.specs.Episodes.Course.{pressed, hurried, waited, overtaken, 
 use Rattle.can_node.specs.Episodes.Begun.{syncing, idling, sending, taking, last_bit, active_flag, overload_flag}
 use Rattle.can_node.specs.Episodes.Begun.{passive_flag, delimiting, resting, suspended, recovering}
 use Rattle.can_node.specs.Episodes.Episode.{ends, off_within, off_at_end}
-use Rattle.can_node.specs.Sending.{Holds}
 use Rattle.can_node.specs.Histories.{Past, with_episode, IsOnOutside, IsHistory, noted, begins}
 use Rattle.can_node.specs.Histories.Whole.{then}
-use Rattle.can_node.specs.Machine.{Agrees, Lands, InState, with_bit, listed, is_sending}
+use Rattle.can_node.specs.Machine.{Agrees, Holds, Lands, InState, with_bit, listed, is_sending}
 use Rattle.can_node.specs.Machine.Agrees.{in_sync, in_idle, in_take, in_send, in_last, in_active, in_overload}
 use Rattle.can_node.specs.Machine.Agrees.{in_passive, in_wait, in_delimiter, in_rest, in_suspend, in_off}
 use Rattle.can_node.specs.Machine.Lands.{goes_on, is_over}

@@ -1,7 +1,6 @@
 pub mod Advancing
 pub mod Starts
 pub mod Readers
-pub mod Tallies
 pub mod Moves
 pub mod Places
 pub mod TakeMoves

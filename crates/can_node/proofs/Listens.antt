@@ -19,14 +19,14 @@ use Rattle.can_node.specs.declared.state.State.TheVariants.{Idling, Taking, Send
 use Rattle.can_node.specs.declared.state.Stage.{Stage}
 use Rattle.can_node.specs.declared.state.Stage.TheVariants.{Region, AfterRegion, Slot, AfterSlot}
 use Rattle.can_node.specs.declared.state.Turn.{Turn}
-use Rattle.can_node.specs.declared.spelling.Spelling.{Spelling}
+use Rattle.can_frame.specs.declared.spelling.Spelling.{Spelling}
 use Rattle.can_node.specs.declared.node.Node.{Node}
 use Rattle.can_node.specs.declared.listener.Listener.{Listener}
 use Rattle.can_confinement.specs.Confinement.{no_counts, is_off, after_event, counts_after, state_of}
 use Rattle.can_confinement.specs.Counters.{StandsAfter as CountersStandAfter, counts_of}
 use Rattle.can_node.specs.Machine.{Advances, behind_end, Counts, Goes, GoesReading, ReaderStands, Steps, is_in_region}
 use Rattle.can_node.specs.Machine.{is_sending, is_taking, level_in, may_start, quiet}
-use Rattle.can_node.specs.Sending.{level_at}
+use Rattle.can_frame.specs.Sending.{level_at}
 use Rattle.can_node.specs.Machine.LeadsTo.{stays_on}
 use Rattle.can_node.specs.Listener.{Follows, IsUnseen, ReadsAlong, SendsTo, StandsWith, caught_up}
 use Rattle.can_node.proofs.Samples.{counts_none, quiet_steps, samples}

@@ -17,9 +17,9 @@ use Rattle.can_node.specs.declared.state.State.TheVariants.{Delimiting, Flagging
 use Rattle.can_node.specs.declared.state.State.TheVariants.{Sending, Suspending, Taking, Waiting}
 use Rattle.can_node.specs.declared.state.Turn.{Turn}
 use Rattle.can_node.specs.Machine.{Goes, GoesSending, is_in_region, is_sending, is_taking, may_start, quiet}
-use Rattle.can_node.specs.Sending.{SendsOn}
-use Rattle.can_node.specs.Sending.SendsOn.{acknowledged, echoed}
-use Rattle.can_node.specs.declared.spelling.Spelling.{Spelling}
+use Rattle.can_frame.specs.Sending.{SendsOn}
+use Rattle.can_frame.specs.Sending.SendsOn.{acknowledged, echoed}
+use Rattle.can_frame.specs.declared.spelling.Spelling.{Spelling}
 use Rattle.can_node.specs.PlainBits.{GoesOn, IsPlain, LeavesPlainly, MayGoOn, is_plain, turns_plainly}
 use Rattle.can_node.specs.PlainBits.MayGoOn.{is_in, reads, sends}
 use Rattle.can_node.proofs.Listens.{region_begins, region_follows}

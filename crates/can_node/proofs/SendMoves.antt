@@ -18,18 +18,18 @@ use Rattle.can_node.specs.declared.state.State.{State}
 use Rattle.can_node.specs.declared.state.State.TheVariants.{Taking, Resting, Sending}
 use Rattle.can_node.specs.declared.state.Stage.TheVariants.{Region}
 use Rattle.can_node.specs.declared.state.Turn.{Turn}
-use Rattle.can_node.specs.declared.spelling.Spelling.{Spelling}
-use Rattle.can_node.specs.declared.spelling.SendBit.{SendBit}
-use Rattle.can_node.specs.declared.spelling.SendBit.TheVariants.{Arbitration, ArbitrationStuffBit, Other}
+use Rattle.can_frame.specs.declared.spelling.Spelling.{Spelling}
+use Rattle.can_frame.specs.declared.spelling.SendBit.{SendBit}
+use Rattle.can_frame.specs.declared.spelling.SendBit.TheVariants.{Arbitration, ArbitrationStuffBit, Other}
 use Rattle.can_confinement.specs.Confinement.{state_after}
 use Rattle.can_node.specs.Pairs.{Pair, driving}
-use Rattle.can_node.specs.Sends.{IsSendBit, IsArbitration, IsArbitrationStuffBit, rtr_place}
-use Rattle.can_node.specs.Sending.{Holds, IsSpelling, IsBitAt, SaysBit, level_at}
+use Rattle.can_node.specs.Sends.{IsSendBit, IsArbitration, IsArbitrationStuffBit}
+use Rattle.can_frame.specs.Sending.{IsSpelling, IsBitAt, SaysBit, level_at, rtr_place}
 use Rattle.can_node.specs.Phases.{Phase, flag_of}
 use Rattle.can_node.specs.Phases.Phase.{Send, Take, Intermission}
 use Rattle.can_node.specs.Episodes.{Course, ack_events}
 use Rattle.can_node.specs.Episodes.Course.{completed, lost, stuff_lost, unacknowledged, bit_differs}
-use Rattle.can_node.specs.Machine.{Agrees, Lands, GoesSending, LosesAt, Signals, listed}
+use Rattle.can_node.specs.Machine.{Agrees, Holds, Lands, GoesSending, LosesAt, Signals, listed}
 use Rattle.can_node.specs.Machine.Agrees.{in_send, in_rest}
 use Rattle.can_node.specs.Machine.Lands.{goes_on, is_over}
 use Rattle.can_node.proofs.Moves.{turn}

@@ -13,9 +13,9 @@ use Rattle.can_frame.proofs.Stuffed.{one_more}
 use Rattle.can_frame.proofs.OneStuffing.{IsStuffed-older, grows}
 use Rattle.can_frame.proofs.FieldTexts.{length-is}
 use Rattle.can_frame.proofs.Regions.{compare, fields_some}
-use Rattle.can_node.specs.Sends.{IsSend, IsSendBit, IsArbitration, rtr_place}
-use Rattle.can_node.specs.Sending.{IsSpelling, level_at}
-use Rattle.can_node.specs.declared.spelling.Spelling.{Spelling}
+use Rattle.can_node.specs.Sends.{IsSend, IsSendBit, IsArbitration}
+use Rattle.can_frame.specs.Sending.{IsSpelling, level_at, rtr_place}
+use Rattle.can_frame.specs.declared.spelling.Spelling.{Spelling}
 
 -- Of two texts that differ in the ACK slot alone, behind this head: a level of each in one place.
 pub data Stands (a b : List Bool) (x y : Bool) (head : List Bool) : Type 0 where

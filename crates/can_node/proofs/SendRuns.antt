@@ -1,26 +1,16 @@
 -- Bits of the stuffed region of a frame that a node sends to all others, one after another.
-use Rattle.std.proofs.Common.{◌≡◌, ℕ, zero, suc, ◌+◌, ◌<◌, ◌≤◌, Bool, true, List, [], ◌∷◌, length, take, refl, sym}
-use Rattle.std.proofs.Common.{ap, subst, arith, drop, ◌∙◌}
-use Rattle.std.proofs.lemmas.List.{drop_more}
+use Rattle.std.proofs.Common.{◌≡◌, ℕ, zero, suc, ◌+◌, ◌≤◌, Bool, true, List, [], ◌∷◌, length, take, refl, sym}
+use Rattle.std.proofs.Common.{ap, arith, ◌∙◌}
 use Rattle.can_frame.specs.declared.reader.Reader.{Reader}
 use Rattle.can_frame.specs.Reading.{ReadsOnBy}
 use Rattle.can_node.specs.declared.listener.Listener.{Listener}
 use Rattle.can_node.specs.declared.node.Node.{Node}
-use Rattle.can_node.specs.declared.spelling.Spelling.{Spelling}
+use Rattle.can_frame.specs.declared.spelling.Spelling.{Spelling}
 use Rattle.can_node.specs.declared.state.State.TheVariants.{Sending}
 use Rattle.can_node.specs.Listener.{ReadsAlongBy, SendsRun}
 use Rattle.can_node.specs.Machine.{is_in_region}
-use Rattle.can_node.specs.Sending.{StandAhead}
+use Rattle.can_frame.specs.Sending.{StandAhead}
 use Rattle.can_node.proofs.Listens.{along_region, sends_to}
-
-pub stand_ahead : (spelling : Spelling) (place n : ℕ) → (0 < n → place + n + 9 ≤ length spelling.levels.items) →
-    StandAhead spelling place (take n (drop place spelling.levels.items))
-stand_ahead spelling place zero fits = tt
-stand_ahead spelling place (suc n) fits =
-    let most = fits (omega arith) in
-    subst (λ xs. StandAhead spelling place (take (suc n) xs))
-    (sym (drop_more spelling.levels.items place true (omega (arith, most))))
-    (omega (arith, most), refl, stand_ahead spelling (place + 1) n (λ more. omega (arith, most)))
 
 pub ahead_taken : (spelling : Spelling) (place n : ℕ) (levels : List Bool) → StandAhead spelling place levels →
     StandAhead spelling place (take n levels)

@@ -6,8 +6,6 @@ pub mod Waits
 pub mod Phases
 pub mod Episodes
 pub mod Histories
-pub mod Sending
-pub mod Spelled
 pub mod Machine
 pub mod Node
 pub mod Listener

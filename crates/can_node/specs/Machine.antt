@@ -26,14 +26,14 @@ use Rattle.can_node.specs.declared.state.State.TheVariants.{Suspending, Recoveri
 use Rattle.can_node.specs.declared.state.Stage.{Stage}
 use Rattle.can_node.specs.declared.state.Stage.TheVariants.{Region, AfterRegion, Slot, AfterSlot}
 use Rattle.can_node.specs.declared.state.Turn.{Turn}
-use Rattle.can_node.specs.declared.spelling.Spelling.{Spelling}
+use Rattle.can_frame.specs.declared.spelling.Spelling.{Spelling}
 use Rattle.can_confinement.specs.declared.counters.Counters.{Counters}
 use Rattle.can_confinement.specs.Counters.{StandsAfter}
 use Rattle.can_confinement.specs.Confinement.{state_after}
 use Rattle.can_node.specs.Pairs.{Pair, listening, dominating, driving, recessive, dominant}
 use Rattle.can_node.specs.Sends.{IsSendBit}
-use Rattle.can_node.specs.Sending.{Holds, IsBitAt, level_at}
-use Rattle.can_node.specs.declared.spelling.SendBit.TheVariants.{Arbitration}
+use Rattle.can_frame.specs.Sending.{IsSpelling, IsBitAt, level_at}
+use Rattle.can_frame.specs.declared.spelling.SendBit.TheVariants.{Arbitration}
 use Rattle.can_node.specs.Takes.{IsReadOn, Reads}
 use Rattle.can_node.specs.Flags.{IsWithoutSix, owed_events, flag_bits, dominant_end, dominant_events, first_counted}
 use Rattle.can_node.specs.Waits.{Broken, Recoveries}
@@ -58,6 +58,11 @@ pub record IsPassive (owes : Bool) (ones zeros : ℕ) (owed : List ErrorEvent) (
   pub owes_error : owes ≡ true → (owed ≡ SenderError ∷ []) × (list_any not levels ≡ false)
   pub none_yet : owes ≡ true → zeros ≡ 0
   pub owes_nothing : owes ≡ false → (more : List Bool) → owed_events owed (levels ++ more) ≡ owed_events owed levels
+
+-- a node that sends a frame holds its spelling
+abbrev pub Holds : Phase → Spelling → Type 0
+Holds (Send start given frame) spelling = IsSpelling frame spelling
+Holds phase spelling = Unit {0}
 
 -- where the text of a frame ends: within the stuffed region, or with so many of the levels behind it
 abbrev pub IsAt : Stage → List Bool → Type 0

@@ -14,7 +14,7 @@ use Rattle.can_node.specs.declared.state.Turn.{Turn}
 use Rattle.can_node.specs.Histories.{Past, IsHistory}
 use Rattle.can_node.specs.Machine.{Goes, is_in_region, is_receiver, is_taking, quiet}
 use Rattle.can_node.specs.Node.{StandsAfter, IsSample, bit_of, counters_in, may_begin}
-use Rattle.can_node.specs.Sending.{SendsOn}
+use Rattle.can_frame.specs.Sending.{SendsOn}
 
 -- a dominant sample behind a flag counts nothing: it is not the first behind a receiver's, nor the last of a counted
 -- run

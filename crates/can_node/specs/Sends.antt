@@ -1,10 +1,11 @@
 -- A sender's frame on the bus, and where in it arbitration takes place. Bosch CAN Specification 2.0, part B,
 -- 3.2.1 DATA FRAME, ARBITRATION FIELD and ACK FIELD, and 6 CODING.
-use Rattle.std.specs.Prelude.{◌≡◌, ℕ, ◌≤◌, Bool, true, false, List, ◌∷◌, ◌++◌, length, reverse}
-use Rattle.can_frame.specs.Frames.{Identifier, standard, extended, FrameValue}
+use Rattle.std.specs.Prelude.{◌≡◌, ◌≤◌, Bool, true, false, List, ◌∷◌, ◌++◌, length, reverse}
+use Rattle.can_frame.specs.Frames.{FrameValue}
 use Rattle.can_frame.specs.Fields.{senders_choice}
 use Rattle.can_frame.specs.Stuffing.{five_equal, unstuffed}
 use Rattle.can_frame.specs.Spelling.{Spells}
+use Rattle.can_frame.specs.Sending.{rtr_place}
 
 -- A sender of this frame, of which the levels `given` stood on the bus before it began to drive: it drives
 -- the rest of the spelling, with a recessive ACK slot, and if nothing goes wrong it samples the same levels,
@@ -20,12 +21,6 @@ pub record IsSendBit (frame : FrameValue) (given before seen : List Bool) (drive
   pub later_seen : List Bool
   pub send : IsSend frame given (before ++ driven ∷ later) (seen ++ expected ∷ later_seen)
   pub same_place : length before ≡ length seen
-
--- The place of RTR among the bits of a frame without stuff bits, where SOF is at 0. It is the last bit of
--- the arbitration field: behind 11 identifier bits, or behind 11, SRR, IDE and 18.
-abbrev pub rtr_place : Identifier → ℕ
-rtr_place (standard n) = 12
-rtr_place (extended n) = 32
 
 -- The bit behind this text is one of the arbitration field, from the first identifier bit to RTR, and no
 -- stuff bit. SOF is none of them.

@@ -25,7 +25,6 @@ ghost use Rattle.can_node.specs.PlainBits.{IsPlain, turns_plainly};
 
 use crate::outcome::Outcome;
 use crate::sends::after_sending;
-use crate::spelling::Spelling;
 use crate::state::{Stage, State, Turn};
 use crate::takes::after_taking;
 use crate::turns::{
@@ -33,7 +32,7 @@ use crate::turns::{
     after_resting, after_suspending, after_sync, after_waiting, plain,
 };
 use can_confinement::{Counters, ErrorEvent, ErrorState, Role};
-use can_frame::{Reader, Step};
+use can_frame::{Reader, Spelling, Step};
 
 /// The level that a node drives in this state, if it sends no frame.
 pub(crate) fn level_of(state: State) -> bool

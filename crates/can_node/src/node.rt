@@ -14,10 +14,9 @@ use crate::listener::Listener;
 use crate::machine::{advance, begin, is_in_region, level_in, listens, may_start, sof_of};
 use crate::outcome::Outcome;
 use crate::plain_bits::{go_plainly, is_plain};
-use crate::spelled::Spelled;
 use crate::state::State;
 use can_confinement::{Counters, KnownCounts};
-use can_frame::{Frame, Reader};
+use can_frame::{Frame, Reader, Spelled};
 
 /// A node of classical CAN, bit by bit (Bosch CAN Specification 2.0, part B; ISO 11898-1). At each bit it
 /// drives a level, and then samples one, which may be any.

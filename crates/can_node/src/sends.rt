@@ -3,18 +3,18 @@
 ghost use Rattle.std.specs.Prelude.{◌≡◌, ◌+◌, ℕ, true, false, List, Bool, [], ◌∷◌, Some, length};
 ghost use Rattle.can_node.specs.Phases.{flag_of};
 ghost use Rattle.can_node.specs.Episodes.{ack_events};
-ghost use Rattle.can_node.specs.Sending.{IsBitAt, level_at};
+ghost use Rattle.can_frame.specs.Sending.{IsBitAt, level_at};
 ghost use Rattle.can_node.specs.Machine.{Agrees, GoesSending, LosesAt, Signals, is_taking, listed};
 ghost use Rattle.can_confinement.specs.declared.confinement.Role.TheVariants.{Sender};
 ghost use Rattle.can_confinement.specs.declared.confinement.ErrorEvent.TheVariants.{SenderError};
-ghost use Rattle.can_node.specs.declared.spelling.Spelling.{Spelling};
+ghost use Rattle.can_frame.specs.declared.spelling.Spelling.{Spelling};
 
 use crate::flag::FlagKind;
 use crate::outcome::{ErrorKind, Outcome};
-use crate::spelling::{SendBit, Spelling};
 use crate::state::{Stage, State, Turn};
 use crate::turns::{error_flag, plain};
 use can_confinement::{ErrorEvent, ErrorState, Role};
+use can_frame::{SendBit, Spelling};
 
 /// Nobody acknowledged the frame. A node that is error passive owes the error until it samples a dominant
 /// level in its flag.

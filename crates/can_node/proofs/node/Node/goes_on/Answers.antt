@@ -1,5 +1,5 @@
 use Rattle.can_node.specs.PlainBits.MayGoOn.{sends}
-use Rattle.can_node.specs.Sending.{SendsOn}
+use Rattle.can_frame.specs.Sending.{SendsOn}
 use Rattle.can_node.proofs.node.Node.goes_on.Goals as goal
 
 pub returns-in-Sending-clause-may : goal.returns-in-Sending-clause-may

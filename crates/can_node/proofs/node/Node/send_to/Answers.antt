@@ -1,5 +1,5 @@
 use Rattle.std.proofs.Common.{◌+◌, ◌≡◌, length}
-use Rattle.can_node.specs.Sending.{level_at}
+use Rattle.can_frame.specs.Sending.{level_at}
 use Rattle.can_node.proofs.Listens.{sends_to}
 use Rattle.can_node.proofs.node.Node.send_to.Goals as goal
 

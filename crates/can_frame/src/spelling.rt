@@ -2,15 +2,18 @@
 
 ghost use Rattle.std.specs.Prelude.{◌≡◌, ◌⊎◌, ◌≤◌, ◌<◌, ◌+◌, ◌∷◌, List, Bool, true};
 ghost use Rattle.std.specs.Prelude.{false, IfNone, IfSome, length, reverse, min, take};
-ghost use Rattle.can_node.specs.Sends.{rtr_place};
-ghost use Rattle.can_node.specs.Sending.{IsSpelling, IsBitAt, SendsOn, StandAhead, level_at, Tallies, SaysBit};
+ghost use Rattle.can_frame.specs.Sending.{IsSpelling, IsBitAt, SendsOn, StandAhead, level_at, rtr_place, Tallies};
+ghost use Rattle.can_frame.specs.Sending.{SaysBit};
 
+use crate::frame::Frame;
+use crate::identifier::Id;
+use crate::level_run::LevelRun;
+use crate::sending::wire;
 use arrayvec::ArrayVec;
-use can_frame::{Frame, Id, LevelRun, wire};
 
 /// What a bit is for a sender that drives it recessive and samples it dominant.
 #[derive(Clone, Copy)]
-pub(crate) enum SendBit {
+pub enum SendBit {
     /// One of the arbitration field, from the first identifier bit to RTR, and no stuff bit.
     Arbitration,
     /// A stuff bit that stands before RTR.
@@ -22,13 +25,15 @@ pub(crate) enum SendBit {
 /// The levels of a frame from SOF to the last bit of EOF, the ACK slot recessive, and the place of RTR
 /// among them, stuff bits left out and SOF at 0.
 #[derive(Drop)]
-pub(crate) struct Spelling {
-    levels: ArrayVec<bool, 160>,
-    rtr: u8,
+pub struct Spelling {
+    /// The levels, one a bit time, true being recessive.
+    pub levels: ArrayVec<bool, 160>,
+    /// The place of RTR.
+    pub rtr: u8,
 }
 
 impl Spelling {
-    /// What a node holds before its first frame.
+    /// What a sender holds before its first frame.
     pub(crate) fn empty() -> Spelling {
         Spelling {
             levels: ArrayVec::new(),
@@ -50,7 +55,7 @@ impl Spelling {
     }
 
     /// The level in this place.
-    pub(crate) fn level(&self, place: u8) -> bool
+    pub fn level(&self, place: u8) -> bool
         ensures { result ≡ level_at self.now place }
     {
         match self.levels.as_slice().get(usize::from(place)) {
@@ -60,7 +65,7 @@ impl Spelling {
     }
 
     /// The levels before this place.
-    pub(crate) fn before(&self, place: u8) -> &[bool]
+    pub fn before(&self, place: u8) -> &[bool]
         ensures { result.now ≡ take place self.now.levels.items }
     {
         let levels = self.levels.as_slice();
@@ -68,7 +73,7 @@ impl Spelling {
     }
 
     /// Whether the ACK slot has this place. The ACK delimiter and seven bits of EOF stand behind it.
-    pub(crate) fn is_slot(&self, place: u8) -> bool
+    pub fn is_slot(&self, place: u8) -> bool
         ensures yes { result ≡ true → place + 9 ≡ length self.now.levels.items }
         ensures no { result ≡ false → place + 9 ≡ length self.now.levels.items → ⊥ }
     {
@@ -76,7 +81,7 @@ impl Spelling {
     }
 
     /// Whether the last bit of EOF has this place.
-    pub(crate) fn is_last(&self, place: u8) -> bool
+    pub fn is_last(&self, place: u8) -> bool
         ensures yes { result ≡ true → place + 1 ≡ length self.now.levels.items }
         ensures no { result ≡ false → place + 1 ≡ length self.now.levels.items → ⊥ }
     {
@@ -84,7 +89,7 @@ impl Spelling {
     }
 
     /// Whether the level in this place is this one; told only of the places before the ACK slot.
-    pub(crate) fn is_echo(&self, place: u8, level: bool) -> bool
+    pub fn is_echo(&self, place: u8, level: bool) -> bool
         ensures before { result ≡ true → place + 9 < length self.now.levels.items }
         ensures same { result ≡ true → level ≡ level_at self.now place }
     {
@@ -95,7 +100,7 @@ impl Spelling {
     }
 
     /// The level in this place, if it is neither the ACK slot nor the last bit of EOF.
-    pub(crate) fn level_elsewhere(&self, place: u8) -> Option<bool>
+    pub fn level_elsewhere(&self, place: u8) -> Option<bool>
         ensures slot { IfSome result (λ level. place + 9 ≡ length self.now.levels.items → ⊥) }
         ensures last { IfSome result (λ level. place + 1 ≡ length self.now.levels.items → ⊥) }
         ensures level { IfSome result (λ level. level ≡ level_at self.now place) }
@@ -110,7 +115,7 @@ impl Spelling {
     }
 
     /// Those levels from this place on that stand before the ACK slot, `most` at most.
-    pub(crate) fn ahead(&self, place: u8, most: usize) -> &[bool]
+    pub fn ahead(&self, place: u8, most: usize) -> &[bool]
         ensures few { length result.now ≤ most }
         ensures short { place + length result.now ≤ 255 }
         ensures ahead { StandAhead self.now place result.now }
@@ -126,7 +131,7 @@ impl Spelling {
 
     /// Whether the sender goes on where the bit in this place has this level: in the ACK slot with a dominant one,
     /// elsewhere with the one that it drives, and with none in the last bit of EOF.
-    pub(crate) fn goes_on(&self, place: u8, level: bool) -> bool
+    pub fn goes_on(&self, place: u8, level: bool) -> bool
         ensures yes { result ≡ true → SendsOn level self.now place }
         ensures no { result ≡ false → SendsOn level self.now place → ⊥ }
     {
@@ -138,7 +143,7 @@ impl Spelling {
 
     /// What the bit in this place is.
     #[inline(never)]
-    pub(crate) fn bit(&self, place: u8) -> SendBit
+    pub fn bit(&self, place: u8) -> SendBit
         ensures { IsBitAt result self.now place }
     {
         let levels = self.levels.as_slice();

@@ -1,6 +1,6 @@
 use Rattle.std.proofs.Common.{◌≡◌, ◌-◌, length, ap, arith}
-use Rattle.can_node.proofs.SendRuns.{stand_ahead}
-use Rattle.can_node.proofs.spelling.Spelling.ahead.Goals as goal
+use Rattle.can_frame.proofs.Ahead.{stand_ahead}
+use Rattle.can_frame.proofs.spelling.Spelling.ahead.Goals as goal
 
 pub returns-clause-ahead : goal.returns-clause-ahead
 returns-clause-ahead c =

@@ -1,6 +1,6 @@
 use Rattle.std.proofs.Common.{reverse, sym, ◌∙◌}
-use Rattle.can_node.proofs.Tallies.{bit_stuffs, bit_is_sof, bit_arbitrates}
-use Rattle.can_node.proofs.spelling.bit_behind.Goals as goal
+use Rattle.can_frame.proofs.Tallies.{bit_stuffs, bit_is_sof, bit_arbitrates}
+use Rattle.can_frame.proofs.spelling.bit_behind.Goals as goal
 
 pub returns-then-is_full : goal.returns-then-is_full
 returns-then-is_full c small =

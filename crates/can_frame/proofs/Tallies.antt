@@ -4,9 +4,9 @@ use Rattle.std.proofs.Common.{arith, ◌∙◌, cond}
 use Rattle.can_frame.specs.Stuffing.{five_equal, unstuffed}
 use Rattle.can_frame.specs.LevelRuns.{EndsIn}
 use Rattle.can_frame.specs.declared.level_run.LevelRun.{LevelRun}
-use Rattle.can_node.specs.Sending.{Tallies, SaysBit}
-use Rattle.can_node.specs.declared.spelling.Tally.{Tally}
-use Rattle.can_node.specs.declared.spelling.SendBit.TheVariants.{Arbitration, ArbitrationStuffBit, Other}
+use Rattle.can_frame.specs.Sending.{Tallies, SaysBit}
+use Rattle.can_frame.specs.declared.spelling.Tally.{Tally}
+use Rattle.can_frame.specs.declared.spelling.SendBit.TheVariants.{Arbitration, ArbitrationStuffBit, Other}
 
 data_same : (older : List Bool) (level : Bool) → five_equal older ≡ true → unstuffed (level ∷ older) ≡ unstuffed older
 unfolding unstuffed

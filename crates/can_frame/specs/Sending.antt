@@ -1,18 +1,22 @@
--- A frame as its sender drives it, and what a bit of it is. Private clauses cite it.
+-- A frame as its sender drives it, and what a bit of it is. Bosch CAN Specification 2.0, part B, 3.2.1 DATA FRAME,
+-- ARBITRATION FIELD and ACK FIELD.
 use Rattle.std.specs.Prelude.{◌≡◌, ℕ, ◌+◌, ◌≤◌, ◌<◌, min, Bool, true, false, List, [], ◌∷◌, length, reverse, take}
 use Rattle.std.specs.Prelude.{get_or}
-use Rattle.can_frame.specs.Frames.{FrameValue, IsFrameValue}
+use Rattle.can_frame.specs.Frames.{FrameValue, IsFrameValue, Identifier, standard, extended}
 use Rattle.can_frame.specs.Fields.{senders_choice}
 use Rattle.can_frame.specs.Stuffing.{five_equal, unstuffed}
 use Rattle.can_frame.specs.LevelRuns.{EndsIn}
 use Rattle.can_frame.specs.Spelling.{Spells}
-use Rattle.can_node.specs.Sends.{rtr_place}
-use Rattle.can_node.specs.Phases.{Phase}
-use Rattle.can_node.specs.Phases.Phase.{Send}
-use Rattle.can_node.specs.declared.spelling.Spelling.{Spelling}
-use Rattle.can_node.specs.declared.spelling.SendBit.{SendBit}
-use Rattle.can_node.specs.declared.spelling.SendBit.TheVariants.{Arbitration, ArbitrationStuffBit, Other}
-use Rattle.can_node.specs.declared.spelling.Tally.{Tally}
+use Rattle.can_frame.specs.declared.spelling.Spelling.{Spelling}
+use Rattle.can_frame.specs.declared.spelling.SendBit.{SendBit}
+use Rattle.can_frame.specs.declared.spelling.SendBit.TheVariants.{Arbitration, ArbitrationStuffBit, Other}
+use Rattle.can_frame.specs.declared.spelling.Tally.{Tally}
+
+-- The place of RTR among the bits of a frame without stuff bits, where SOF is at 0. It is the last bit of
+-- the arbitration field: behind 11 identifier bits, or behind 11, SRR, IDE and 18.
+abbrev pub rtr_place : Identifier → ℕ
+rtr_place (standard n) = 12
+rtr_place (extended n) = 32
 
 -- the levels are those of this frame, and RTR has this place among them, stuff bits left out
 pub record IsSpelling (frame : FrameValue) (spelling : Spelling) : Type 0 where
@@ -20,11 +24,6 @@ pub record IsSpelling (frame : FrameValue) (spelling : Spelling) : Type 0 where
   pub few : length spelling.levels.items ≤ 160
   pub spells : Spells frame senders_choice true spelling.levels.items
   pub rtr_is : spelling.rtr ≡ rtr_place frame.id
-
--- a node that sends a frame holds its spelling
-abbrev pub Holds : Phase → Spelling → Type 0
-Holds (Send start given frame) spelling = IsSpelling frame spelling
-Holds phase spelling = Unit {0}
 
 -- the level in this place; behind the frame the bus is recessive
 abbrev pub level_at : Spelling → ℕ → Bool

@@ -1,6 +1,6 @@
-use Rattle.can_node.proofs.Tallies.{tally_stuff_bit, tally_data}
+use Rattle.can_frame.proofs.Tallies.{tally_stuff_bit, tally_data}
 use Rattle.std.proofs.Common.{sym, ◌∙◌}
-use Rattle.can_node.proofs.spelling.Tally.push.Goals as goal
+use Rattle.can_frame.proofs.spelling.Tally.push.Goals as goal
 
 pub returns-then-not-is_stuff_bit : goal.returns-then-not-is_stuff_bit
 returns-then-not-is_stuff_bit c text h =

@@ -1,6 +1,6 @@
 use Rattle.std.proofs.Common.{subst}
-use Rattle.can_node.specs.Sending.{IsSpelling}
-use Rattle.can_node.proofs.spelled.Spelled.is_of.Goals as goal
+use Rattle.can_frame.specs.Sending.{IsSpelling}
+use Rattle.can_frame.proofs.spelled.Spelled.is_of.Goals as goal
 
 pub returns-in-Some : goal.returns-in-Some
 returns-in-Some c is =

@@ -1,27 +1,27 @@
-//! The spelling that a node keeps.
+//! The spelling that a sender keeps.
 
 ghost use Rattle.std.specs.Prelude.{◌≡◌, true};
-ghost use Rattle.can_node.specs.Sending.{IsSpelling};
+ghost use Rattle.can_frame.specs.Sending.{IsSpelling};
 
+use crate::frame::Frame;
 use crate::spelling::Spelling;
-use can_frame::Frame;
 use std::marker::Model;
 
 /// A spelling and the frame that it spells. To spell a frame takes some thousands of instructions, and one that loses
 /// arbitration or fails is begun again: so it is spelt once.
 #[derive(Drop)]
-pub(crate) struct Spelled {
+pub struct Spelled {
     // `None` before the first
     frame: Option<Frame>,
     spelling: Spelling,
 }
 
 impl Model for Spelled {
-    ghost use Rattle.can_node.specs.declared.spelling.Spelling.{Spelling};
+    ghost use Rattle.can_frame.specs.declared.spelling.Spelling.{Spelling};
 
     ghost Value = { Spelling };
 
-    ghost use Rattle.can_node.specs.Spelled.{IsSpelled};
+    ghost use Rattle.can_frame.specs.Spelled.{IsSpelled};
 
     ghost view = { λ a. a.spelling };
 
@@ -29,8 +29,8 @@ impl Model for Spelled {
 }
 
 impl Spelled {
-    /// What a node holds before its first frame.
-    pub(crate) fn empty() -> Spelled {
+    /// What a sender holds before its first frame.
+    pub fn empty() -> Spelled {
         Spelled {
             frame: None,
             spelling: Spelling::empty(),
@@ -39,14 +39,14 @@ impl Spelled {
 
     /// The spelling of the last frame.
     #[inline(always)]
-    pub(crate) fn spelling(&self) -> &Spelling
+    pub fn spelling(&self) -> &Spelling
         ensures { result.now ≡ self.now }
     {
         &self.spelling
     }
 
     /// Spells this frame, if it is another than the last.
-    pub(crate) fn spell(&mut self, frame: &Frame)
+    pub fn spell(&mut self, frame: &Frame)
         ensures { IsSpelling frame.now self.new }
     {
         if self.is_of(frame) {
