@@ -38,3 +38,4 @@ pub mod OneCutting
 pub mod OneCuttingPlaces
 pub mod PlainBits
 pub mod SendRuns
+pub mod GoingBy

@@ -87,9 +87,3 @@ pub record SendsTo (old : Node) (before : Listener) (level : Bool) (new : Node) 
   pub others_begin : (node : Node) (bit : ℕ) → may_begin (caught_up node before bit) ≡ false
   pub follows : (known : KnownCounts) (bit : ℕ) → Follows known before bit level after
   pub listens : IsListening after
-
--- bits of that kind with these levels, one after another
-abbrev pub SendsRun : Node → Listener → List Bool → Node → Listener → Type 0
-SendsRun old before [] new after = (new ≡ old) × (after ≡ before)
-SendsRun old before (level ∷ levels) new after =
-    (mid : Node) × (between : Listener) × SendsTo old before level mid between × SendsRun mid between levels new after

@@ -1,5 +1,6 @@
 -- Bits at which a node goes on: nothing begins, nothing is told and nothing counted.
-use Rattle.std.specs.Prelude.{◌≡◌, ℕ, ◌+◌, ◌||◌, ◌&&◌, Bool, true, false, None, not, nat_le}
+use Rattle.std.specs.Prelude.{◌≡◌, ℕ, ◌+◌, ◌≤◌, ◌||◌, ◌&&◌, Bool, true, false, None, not, nat_le, List, [], ◌∷◌}
+use Rattle.std.specs.Prelude.{length, if◌then◌else◌}
 use Rattle.can_frame.specs.Reading.{MayReadOn}
 use Rattle.can_confinement.specs.Confinement.{state_of}
 use Rattle.can_confinement.specs.Counters.{counts_of}
@@ -13,8 +14,8 @@ use Rattle.can_node.specs.declared.state.State.TheVariants.{Recovering, Resting,
 use Rattle.can_node.specs.declared.state.Turn.{Turn}
 use Rattle.can_node.specs.Histories.{Past, IsHistory}
 use Rattle.can_node.specs.Machine.{Goes, is_in_region, is_receiver, is_taking, quiet}
-use Rattle.can_node.specs.Node.{StandsAfter, IsSample, bit_of, counters_in, may_begin}
-use Rattle.can_frame.specs.Sending.{SendsOn}
+use Rattle.can_node.specs.Node.{StandsAfter, IsSample, bit_of, counters_in, driven_by, may_begin}
+use Rattle.can_frame.specs.Sending.{SendsOn, StandAhead}
 
 -- a dominant sample behind a flag counts nothing: it is not the first behind a receiver's, nor the last of a counted
 -- run
@@ -63,3 +64,33 @@ pub record GoesOn (old : Node) (level : Bool) (new : Node) : Type 0 where
   pub history : (past : Past) → StandsAfter new past → IsHistory past
   pub bit_is : bit_of new ≡ bit_of old + 1
   pub counts_none : counters_in new ≡ counters_in old
+
+-- how many recessive levels in a row a node in bus off has seen behind this one
+abbrev pub with_level : ℕ → Bool → ℕ
+with_level ones true = ones + 1
+with_level ones false = 0
+
+-- so behind these
+abbrev pub ones_behind : ℕ → List Bool → ℕ
+ones_behind ones [] = ones
+ones_behind ones (level ∷ levels) = ones_behind (with_level ones level) levels
+
+-- no run of eleven recessive levels ends with one of these, which come one after another
+abbrev pub StaysOff : ℕ → List Bool → Type 0
+StaysOff ones [] = Unit {0}
+StaysOff ones (level ∷ levels) = (ones ≤ 9) × StaysOff (with_level ones level) levels
+
+-- The node goes on with these levels, one after another: it sends a frame, and they are the next that it drives, before
+-- its ACK slot; or it is in bus off, and stays there.
+pub data MayGoOnBy (is_sender : Bool) (levels : List Bool) (node : Node) : Type 0 where
+  sends_on : (start place : ℕ) → is_sender ≡ true → node.state ≡ Sending start place →
+      StandAhead node.spelling place levels → place + length levels ≤ 255 → MayGoOnBy is_sender levels node
+  stays_off : (runs ones : ℕ) → is_sender ≡ false → node.state ≡ Recovering runs ones → StaysOff ones levels →
+      MayGoOnBy is_sender levels node
+
+-- Bits with these levels, one after another, with each of which it goes on: it drives them where it sends, and drives
+-- recessive elsewhere.
+abbrev pub GoesOnBy : Bool → Node → List Bool → Node → Type 0
+GoesOnBy is_sender old [] new = new ≡ old
+GoesOnBy is_sender old (level ∷ levels) new = (mid : Node) × GoesOn old level mid
+    × (driven_by old ≡ if is_sender then level else true) × GoesOnBy is_sender mid levels new

@@ -87,10 +87,11 @@ impl Listener {
         self.reads_end(level)
     }
 
-    /// Follows bits of the stuffed region with the first of these levels, as `reads_along` follows one, and tells how
-    /// many those are.
+    /// Follows bits of the stuffed region of a frame, at which all of them drive recessive, none may begin to send, and
+    /// each samples the first of these levels, one after another, and tells how many those are: then each has told
+    /// nothing and counted nothing.
     #[inline(always)]
-    pub(crate) fn reads_along_by(&mut self, levels: &[bool]) -> usize
+    pub fn reads_along_by(&mut self, levels: &[bool]) -> usize
         ensures few { result ≤ length levels.now }
         ensures along { ReadsAlongBy self.old (take result levels.now) self.new }
     {

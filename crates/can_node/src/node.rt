@@ -1,19 +1,18 @@
 //! A node of one segment.
 
-ghost use Rattle.std.specs.Prelude.{◌≡◌, ℕ, ◌+◌, ◌<◌, ◌≤◌, ◌++◌, true, Bool, List, IsSome, IfSome, IfNone};
-ghost use Rattle.std.specs.Prelude.{length, vec_capacity, vec_len};
+ghost use Rattle.std.specs.Prelude.{◌≡◌, ℕ, ◌+◌, ◌<◌, ◌≤◌, true, false, Bool, IsSome, IfSome, IfNone, length, take};
 ghost use Rattle.can_confinement.specs.Counters.{StandsAfter as CountersStandAfter, counts_of};
 ghost use Rattle.can_node.specs.Histories.{Past, no_past, IsHistory};
-ghost use Rattle.can_node.specs.Listener.{SendsRun, SendsTo, StandsWith, caught_up, listener_of, listens_in};
+ghost use Rattle.can_node.specs.Listener.{SendsTo, StandsWith, caught_up, listener_of, listens_in};
 ghost use Rattle.can_confinement.specs.KnownCounts.{Knows, known_of};
-ghost use Rattle.can_node.specs.PlainBits.{GoesOn, MayGoOn};
+ghost use Rattle.can_node.specs.PlainBits.{GoesOn, GoesOnBy, MayGoOn, MayGoOnBy};
 ghost use Rattle.can_node.specs.Node.{StandsAfter, IsSample, IsWanting, IsSending, bit_of, counters_in};
 ghost use Rattle.can_node.specs.Node.{driven_by, may_begin, sends_from, with_begin};
 
 use crate::listener::Listener;
 use crate::machine::{advance, begin, is_in_region, level_in, listens, may_start, sof_of};
 use crate::outcome::Outcome;
-use crate::plain_bits::{go_plainly, is_plain};
+use crate::plain_bits::{go_plainly, is_plain, ones_behind, stays_off};
 use crate::state::State;
 use can_confinement::{Counters, KnownCounts};
 use can_frame::{Frame, Reader, Spelled};
@@ -235,22 +234,42 @@ impl Node {
         Some(level)
     }
 
-    /// As many bits of the stuffed region of a frame as there are that `send_to` would make one after another, `most`
-    /// at most, and none where there are none. Their levels are kept behind those of `levels`, which has room for
-    /// `most`, and no number of a bit among them passes the greatest.
-    pub fn send_run(&mut self, listener: &mut Listener, levels: &mut Vec<bool>, most: usize)
-        requires bits { bit_of self.old + most ≤ u64.MAX }
-        requires room { vec_len levels.old + most ≤ vec_capacity levels.old }
-        ensures { (sent : List Bool) × (length sent ≤ most) × (levels.new.items ≡ levels.old.items ++ sent)
-            × SendsRun self.old listener.old sent self.new listener.new }
+    /// The levels that the node drives next in a frame that it sends, up to the ACK slot and `most` at most: it goes on
+    /// with them one after another. None where it sends no frame.
+    pub fn ahead(&self, most: usize) -> &[bool]
+        ensures few { length result.now ≤ most }
+        ensures may { 0 < length result.now → MayGoOnBy true result.now self.now }
     {
-        let State::Sending(_start, place) = &mut self.state else {
-            return;
-        };
-        let ahead = self.spelling.spelling().ahead(*place, most);
-        let count = listener.reads_along_by(ahead);
-        let _ = levels.extend_from_slice(&ahead[..count]);
-        *place = place.saturating_add(count as u8);
-        self.clock += count as u64;
+        match self.state {
+            State::Sending(_, place) => self.spelling.spelling().ahead(place, most),
+            _ => &[],
+        }
+    }
+
+    /// With how many of these levels, one after another, the node goes on in bus off: it stays there, up to the end of
+    /// a run of eleven recessive ones. 0 where it is not in bus off.
+    pub fn stays_off(&self, levels: &[bool]) -> usize
+        ensures few { result ≤ length levels.now }
+        ensures may { 0 < result → MayGoOnBy false (take result levels.now) self.now }
+    {
+        match self.state {
+            State::Recovering(_, ones) => stays_off(ones, levels),
+            _ => 0,
+        }
+    }
+
+    /// Bits with which the node goes on, one after another, in a frame that it sends or in bus off: what `go_on` does
+    /// with each of these levels.
+    pub fn go_on_by(&mut self, levels: &[bool])
+        requires goes { (is_sender : Bool) × MayGoOnBy is_sender levels.now self.old }
+        requires room { bit_of self.old + length levels.now ≤ u64.MAX }
+        ensures { (is_sender : Bool) → MayGoOnBy is_sender levels.now self.old → GoesOnBy is_sender self.old levels.now self.new }
+    {
+        self.clock += levels.len() as u64;
+        match &mut self.state {
+            State::Sending(_start, place) => *place = place.saturating_add(levels.len() as u8),
+            State::Recovering(_runs, ones) => *ones = ones_behind(*ones, levels),
+            _ => {}
+        }
     }
 }

@@ -1,9 +1,9 @@
 //! Bits at which a node goes on that neither reads nor sends a frame: nothing begins, nothing is told and nothing
 //! counted.
 
-ghost use Rattle.std.specs.Prelude.{◌≡◌, ℕ, true, false};
+ghost use Rattle.std.specs.Prelude.{◌≡◌, ◌≤◌, ℕ, true, false, length, take};
 ghost use Rattle.can_confinement.specs.declared.counters.Counters.{Counters as CountersValue};
-ghost use Rattle.can_node.specs.PlainBits.{LeavesPlainly, is_plain, overlooks};
+ghost use Rattle.can_node.specs.PlainBits.{LeavesPlainly, StaysOff, is_plain, ones_behind, overlooks, with_level};
 
 use crate::machine::{is_receiver, turn_of};
 use crate::state::State;
@@ -67,6 +67,39 @@ fn count_on(state: &mut State, level: bool) -> bool
         }
     }
     false
+}
+
+/// How many recessive levels in a row a node in bus off has seen behind this one, where those were so many before.
+fn with_level(ones: u8, level: bool) -> u8
+    ensures { ones ≤ 9 → result ≡ with_level ones level }
+{
+    if level { ones.saturating_add(1) } else { 0 }
+}
+
+/// With how many of these levels a node stays in bus off that has seen so many recessive ones in a row.
+pub(crate) fn stays_off(ones: u8, levels: &[bool]) -> usize
+    ensures few { result ≤ length levels.now }
+    ensures off { StaysOff ones (take result levels.now) }
+{
+    let mut seen = ones;
+    for (place, level) in levels.iter().enumerate() {
+        if seen > 9 {
+            return place;
+        }
+        seen = with_level(seen, *level);
+    }
+    levels.len()
+}
+
+/// How many recessive levels in a row it has seen behind these, with which it stays there.
+pub(crate) fn ones_behind(ones: u8, levels: &[bool]) -> u8
+    ensures { StaysOff ones levels.now → result ≡ ones_behind ones levels.now }
+{
+    let mut seen = ones;
+    for level in levels {
+        seen = with_level(seen, *level);
+    }
+    seen
 }
 
 /// One bit of a node in such a state, at which it samples this level.

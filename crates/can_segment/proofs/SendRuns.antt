@@ -1,87 +1,287 @@
--- Bits that one node makes which sends alone, one after another.
-use Rattle.std.proofs.Common.{◌≡◌, ℕ, zero, suc, ◌+◌, ◌≤◌, Bool, Some, List, [], ◌∷◌, length, set}
-use Rattle.std.proofs.Common.{slice_get, refl, sym, ap, subst, ◌∙◌}
-use Rattle.std.proofs.lemmas.List.{length-set, set-set}
+-- Bits that one node sends while all others rest or are in bus off, one after another.
+use Rattle.std.proofs.Common.{◌≡◌, ◌≢◌, ℕ, zero, suc, ◌+◌, ◌≤◌, ◌&&◌, nat_eq, cond, Bool, true, false, Some, List}
+use Rattle.std.proofs.Common.{[], ◌∷◌, ◌++◌, ◌-◌, length, take, drop, slice_get, refl, sym, ap, subst, arith, inl, inr}
+use Rattle.std.proofs.Common.{length-append, ◌∙◌}
+use Rattle.std.proofs.lemmas.Bool.Decides.{eqb_tells}
+use Rattle.std.proofs.lemmas.List.{take_all}
 use Rattle.std.proofs.lemmas.Option.{slice_get_within}
+use Rattle.std.proofs.Math.Seq.{drop-append_seam}
 use Rattle.can_node.specs.declared.listener.Listener.{Listener}
+use Rattle.can_node.specs.Listener.{ReadsAlong, ReadsAlongBy}
 use Rattle.can_station.specs.declared.member.Member.{Member}
-use Rattle.can_station.specs.RestingNodes.{MemberSends, MemberSendsRun, OneSends, OthersRest}
-use Rattle.can_station.proofs.Places.{get_set_other, get_set_same, same_some}
+use Rattle.can_station.specs.Members.{drives_at}
+use Rattle.can_station.specs.Places.{AtPlaces}
+use Rattle.can_station.specs.RestingNodes.{AllGo, GoesAsItMay, IfAwake, MayGoBy, MemberGoes, MemberGoesBy}
+use Rattle.can_station.specs.RestingNodes.{OthersStayOff, passes}
+use Rattle.can_station.proofs.GoingBy.{by_taken}
+use Rattle.can_station.proofs.Places.{same_some, some_there}
+use Rattle.can_station.proofs.Spans.{all_pass}
 use Rattle.can_segment.specs.declared.rest.Rest.{Rest}
-use Rattle.can_segment.specs.Rests.{GoQuietlyBy}
-use Rattle.can_segment.proofs.SoleSender.{alone_goes_quietly, controller_alone, talker_alone, with_listener}
+use Rattle.can_segment.specs.Rests.{GoQuietlyBy, GoesQuietly, driven_beside}
+use Rattle.can_segment.proofs.SoleSender.{and_true, one_passes, with_listener}
+use Rattle.can_segment.proofs.Woken.{same_list}
 
--- what stands at a place is put there once more
-set_there : {X : Type 0} (xs : List X) (place : ℕ) (x : X) → slice_get xs place ≡ Some x → set xs place x ≡ xs
-set_there [] place x e = absurd (cc e)
-set_there (y ∷ ys) zero x e = (let same : y ≡ x = cc e in ap (λ z. z ∷ ys) (sym same))
-set_there (y ∷ ys) (suc place) x e = ap (λ zs. y ∷ zs) (set_there ys place x e)
+-- a step at each place of two lists is one at the first place, and one at each behind it
+first_and_rest : {M : Type 0} (R : ℕ → M → M → Type 0) (x y : M) (xs ys : List M) → R zero x y →
+    AtPlaces (λ k. R (suc k)) xs ys → AtPlaces R (x ∷ xs) (y ∷ ys)
+first_and_rest {M = M} R x y xs ys first rest = record { at = by; size = ap suc rest.size }
+  where
+    by : (k : ℕ) (a b : M) → slice_get (x ∷ xs) k ≡ Some a → slice_get (y ∷ ys) k ≡ Some b → R k a b
+    by zero a b p q = subst (λ z. R zero z b) (same_some x a p) (subst (R zero x) (same_some y b q) first)
+    by (suc k) a b p q = rest.at k a b p q
 
--- the others rest on where the one is another
-others_on : (place : ℕ) (members : List Member) (n : Member) → OthersRest place members →
-    OthersRest place (set members place n)
-others_on place members n others k m e not = others k m (sym (get_set_other members place k n not) ∙ e) not
+-- two steps at each place are two steps of the list
+both_steps : {M : Type 0} (R S : ℕ → M → M → Type 0) (xs ys : List M) →
+    AtPlaces (λ k a b. (m : M) × R k a m × S k m b) xs ys → (ms : List M) × AtPlaces R xs ms × AtPlaces S ms ys
+both_steps R S [] [] h = ([], record { at = λ k a b p q. absurd (cc p); size = refl }, record {
+  at = λ k a b p q. absurd (cc p);
+  size = refl;
+})
+both_steps R S [] (y ∷ ys) h = absurd (let size = h.size in omega (arith, size))
+both_steps R S (x ∷ xs) [] h = absurd (let size = h.size in omega (arith, size))
+both_steps R S (x ∷ xs) (y ∷ ys) h =
+    let first = h.at zero x y refl refl in
+    let size = h.size in
+    let rest = both_steps (λ k. R (suc k)) (λ k. S (suc k)) xs ys
+    (record { at = λ k a b p q. h.at (suc k) a b p q; size = omega (arith, size) }) in (
+      first.0 ∷ rest.0,
+      first_and_rest R x first.0 xs rest.0 first.1 rest.1,
+      first_and_rest S first.0 y rest.0 ys first.2 rest.2,
+    )
 
--- one member moves
-one_step : (place bit : ℕ) (before after : Listener) (level : Bool) (members : List Member) (m n : Member) →
-    slice_get members place ≡ Some m → MemberSends bit before level after m n →
-    OneSends place bit before level after members (set members place n)
-one_step place bit before after level members m n there step = record {
-  from = m;
-  to = n;
-  from_is = there;
-  step = step;
-  moves = record {
-    at = λ a b p q.
-        let from : a ≡ m = same_some a m (sym p ∙ there) in
-        let to : b ≡ n =
-        same_some b n (sym q ∙ get_set_same members place n (slice_get_within members place m there)) in
-        rw (from, to) step;
-    others = λ k not. get_set_other members place k n not;
-    size = length-set members place n;
-  };
+-- one that is awake goes on with these levels, and sends them or not; one that rests is left as it is
+record RunsAt (is_sender : Bool) (bit : ℕ) (levels : List Bool) (old new : Member) : Type 0 where
+  rests_on : old.rests ≡ true → new ≡ old
+  runs : old.rests ≡ false → MemberGoesBy is_sender bit levels old new
+
+-- so with one level
+record StepsAt (is_sender : Bool) (bit : ℕ) (level : Bool) (old new : Member) : Type 0 where
+  rests_on : old.rests ≡ true → new ≡ old
+  goes : old.rests ≡ false → MemberGoes bit level old new
+  drives : old.rests ≡ false → drives_at bit old ≡ cond is_sender level true
+
+one_first : (is_sender : Bool) (bit : ℕ) (level : Bool) (levels : List Bool) (old new : Member) →
+    RunsAt is_sender bit (level ∷ levels) old new →
+    (mid : Member) × StepsAt is_sender bit level old mid × RunsAt is_sender (bit + 1) levels mid new
+one_first is_sender bit level levels old new h = by old.rests refl
+  where
+    by : (rests : Bool) → old.rests ≡ rests →
+        (mid : Member) × StepsAt is_sender bit level old mid × RunsAt is_sender (bit + 1) levels mid new
+    by true is = (
+      old,
+      record {
+        rests_on = λ e. refl;
+        goes = λ awake. absurd (cc (is, awake));
+        drives = λ awake. absurd (cc (is, awake));
+      },
+      record { rests_on = h.rests_on; runs = λ awake. absurd (cc (is, awake)) },
+    )
+    by false is =
+        let run = h.runs is in
+        let awake_too = run.1.awake_too in (
+          run.0,
+          record {
+            rests_on = λ e. absurd (cc (is, e));
+            goes = λ awake. run.1;
+            drives = λ awake. run.2;
+          },
+          record { rests_on = λ e. absurd (cc (awake_too, e)); runs = λ awake. run.3 },
+        )
+
+-- each of these so, of which the one at this place sends
+abbrev AllRun : ℕ → ℕ → List Bool → List Member → List Member → Type 0
+AllRun place bit levels = AtPlaces (λ k. RunsAt (nat_eq k place) bit levels)
+
+all_first : (place bit : ℕ) (level : Bool) (levels : List Bool) (old new : List Member) →
+    AllRun place bit (level ∷ levels) old new →
+    (mid : List Member) × AtPlaces (λ k. StepsAt (nat_eq k place) bit level) old mid
+    × AllRun place (bit + 1) levels mid new
+all_first place bit level levels old new h =
+    both_steps (λ k. StepsAt (nat_eq k place) bit level) (λ k. RunsAt (nat_eq k place) (bit + 1) levels) old new
+    (record {
+      at = λ k a b p q. one_first (nat_eq k place) bit level levels a b (h.at k a b p q);
+      size = h.size;
+    })
+
+none_runs : (place bit : ℕ) (old new : List Member) → AllRun place bit [] old new → new ≡ old
+none_runs place bit old new h = same_list old new h.size (λ k a b p q. by a b (h.at k a b p q) a.rests refl)
+  where
+    by : {is_sender : Bool} (a b : Member) → RunsAt is_sender bit [] a b → (rests : Bool) → a.rests ≡ rests → b ≡ a
+    by a b run true is = run.rests_on is
+    by a b run false is = run.runs is
+
+-- they go on,
+steps_go : (place bit : ℕ) (level : Bool) (old new : List Member) →
+    AtPlaces (λ k. StepsAt (nat_eq k place) bit level) old new → AllGo bit level old new
+steps_go place bit level old new h = record {
+  at = λ k a b p q.
+      let step = h.at k a b p q in
+      record { rests_on = step.rests_on; stays_awake = λ e. (step.goes e).awake_too; steps = step.goes };
+  size = h.size;
 }
 
-pub talker_run : (bit : ℕ) (sent : List Bool) (rest : Rest) (after : Listener) (t c : List Member)
-    (talker controller : ℕ) (m n : Member) → slice_get t talker ≡ Some m → length c ≤ controller →
-    OthersRest talker t → OthersRest controller c → MemberSendsRun bit rest.listener sent after m n →
-    GoQuietlyBy bit sent rest (with_listener rest after) t (set t talker n) c c
-talker_run bit [] rest after t c talker controller m n there past others others_too run =
-    (ap (with_listener rest) run.1, ap (set t talker) run.0 ∙ set_there t talker m there, refl)
-talker_run bit (level ∷ sent) rest after t c talker controller m n there past others others_too run =
-    let mid = run.0 in
-    let next = set t talker mid in
-    let here = get_set_same t talker mid (slice_get_within t talker m there) in
-    let step = one_step talker bit rest.listener run.1 level t m mid there run.2 in (
-      with_listener rest run.1,
-      next,
-      c,
-      alone_goes_quietly bit level talker controller rest (with_listener rest run.1) t next c c others others_too
-          (talker_alone rest talker controller bit run.1 level t next c past step),
-      subst (λ ms. GoQuietlyBy (bit + 1) sent (with_listener rest run.1) (with_listener rest after) next ms c c)
-          (set-set t talker mid n)
-          (talker_run (bit + 1) sent (with_listener rest run.1) after next c talker controller mid n here past
-          (others_on talker t mid others) others_too run.3),
+-- and the line has the level of the one that sends, if it is there
+other_drives : (place bit : ℕ) (level : Bool) (old new : List Member) →
+    AtPlaces (λ k. StepsAt (nat_eq k place) bit level) old new → (k : ℕ) (m : Member) → slice_get old k ≡ Some m →
+    k ≢ place → cond m.rests true (drives_at bit m) ≡ true
+other_drives place bit level old new h k m e not = by m.rests refl
+  where
+    by : (rests : Bool) → m.rests ≡ rests → cond m.rests true (drives_at bit m) ≡ true
+    by true is = ap (λ b. cond b true (drives_at bit m)) is
+    by false is =
+        let there = some_there new k (let within = slice_get_within old k m e in omega (arith, within, h.size)) in
+        ap (λ b. cond b true (drives_at bit m)) is ∙ (h.at k m there.0 e there.1).drives is
+        ∙ elim (eqb_tells k place) [
+          | inl same ↦ absurd (not same.1)
+          | inr other ↦ ap (λ b. cond b level true) other.0
+        ]
+
+is_same_place : (place : ℕ) → nat_eq place place ≡ true
+is_same_place place =
+    elim (eqb_tells place place) [ inl same ↦ same.0 | inr other ↦ absurd (other.1 refl) ]
+
+one_drives : (place bit : ℕ) (level : Bool) (old new : List Member) (m : Member) →
+    AtPlaces (λ k. StepsAt (nat_eq k place) bit level) old new → slice_get old place ≡ Some m → m.rests ≡ false →
+    driven_beside bit true old ≡ level
+one_drives place bit level old new m h e awake =
+    let there = some_there new place (let within = slice_get_within old place m e in
+    omega (arith, within, h.size)) in
+    one_passes (λ x. cond x.rests true (drives_at bit x)) place old (other_drives place bit level old new h)
+    ∙ ap (passes (λ x. cond x.rests true (drives_at bit x))) e
+    ∙ ap (λ b. cond b true (drives_at bit m)) awake ∙ (h.at place m there.0 e there.1).drives awake
+    ∙ ap (λ b. cond b level true) (is_same_place place)
+
+none_drives : (place bit : ℕ) (level : Bool) (old new : List Member) →
+    AtPlaces (λ k. StepsAt (nat_eq k place) bit level) old new → length old ≤ place → driven_beside bit true old ≡ true
+none_drives place bit level old new h past =
+    all_pass (λ x. cond x.rests true (drives_at bit x)) old
+    (λ k m e. other_drives place bit level old new h k m e
+    (λ is. let within = slice_get_within old k m e in omega (arith, within, past, is)))
+
+-- one bit
+one_bit : (place past bit : ℕ) (level : Bool) (rest : Rest) (after : Listener) (s0 s1 o0 o1 : List Member)
+    (m : Member) → slice_get s0 place ≡ Some m → m.rests ≡ false → length o0 ≤ past →
+    AtPlaces (λ k. StepsAt (nat_eq k place) bit level) s0 s1 →
+    AtPlaces (λ k. StepsAt (nat_eq k past) bit level) o0 o1 → ReadsAlong rest.listener level after →
+    GoesQuietly bit level rest (with_listener rest after) s0 s1 o0 o1
+one_bit place past bit level rest after s0 s1 o0 o1 m there awake beyond senders others along = record {
+  starts_none = inr along.begins;
+  through = record {
+    resting = refl;
+    talkers_is = refl;
+    controllers_is = refl;
+    few_is = refl;
+    known_is = refl;
+    spent_is = refl;
+    follows = along.follows rest.known bit;
+    listens = λ was. along.listens;
+  };
+  resting = true;
+  drives = λ listening node at. sym (along.drives node at);
+  talkers = steps_go place bit level s0 s1 senders;
+  controllers = steps_go past bit level o0 o1 others;
+  level_is = sym (ap (λ b. b && driven_beside bit true o0) (one_drives place bit level s0 s1 m senders there awake)
+      ∙ ap (λ b. level && b) (none_drives past bit level o0 o1 others beyond) ∙ and_true level);
+}
+
+-- so with more
+run_beside : (place past bit : ℕ) (sent : List Bool) (rest : Rest) (after : Listener) (s0 s1 o0 o1 : List Member)
+    (m : Member) → slice_get s0 place ≡ Some m → m.rests ≡ false → length o0 ≤ past →
+    AllRun place bit sent s0 s1 → AllRun past bit sent o0 o1 → ReadsAlongBy rest.listener sent after →
+    GoQuietlyBy bit sent rest (with_listener rest after) s0 s1 o0 o1
+run_beside place past bit [] rest after s0 s1 o0 o1 m there awake beyond senders others along =
+    (ap (with_listener rest) along, none_runs place bit s0 s1 senders, none_runs past bit o0 o1 others)
+run_beside place past bit (level ∷ sent) rest after s0 s1 o0 o1 m there awake beyond senders others along =
+    let s = all_first place bit level sent s0 s1 senders in
+    let o = all_first past bit level sent o0 o1 others in
+    let next = some_there s.0 place (let within = slice_get_within s0 place m there in
+    omega (arith, within, s.1.size)) in
+    let step = (s.1.at place m next.0 there next.1).goes awake in (
+      with_listener rest along.0,
+      s.0,
+      o.0,
+      one_bit place past bit level rest along.0 s0 s.0 o0 o.0 m there awake beyond s.1 o.1 along.1,
+      run_beside place past (bit + 1) sent (with_listener rest along.0) after s.0 s1 o.0 o1 next.0 next.1
+          step.awake_too (omega (arith, beyond, o.1.size)) s.2 o.2 along.2,
     )
 
-pub controller_run : (bit : ℕ) (sent : List Bool) (rest : Rest) (after : Listener) (t c : List Member)
-    (talker controller : ℕ) (m n : Member) → slice_get c controller ≡ Some m → length t ≤ talker →
-    OthersRest talker t → OthersRest controller c → MemberSendsRun bit rest.listener sent after m n →
-    GoQuietlyBy bit sent rest (with_listener rest after) t t c (set c controller n)
-controller_run bit [] rest after t c talker controller m n there past others others_too run =
-    (ap (with_listener rest) run.1, refl, ap (set c controller) run.0 ∙ set_there c controller m there)
-controller_run bit (level ∷ sent) rest after t c talker controller m n there past others others_too run =
-    let mid = run.0 in
-    let next = set c controller mid in
-    let here = get_set_same c controller mid (slice_get_within c controller m there) in
-    let step = one_step controller bit rest.listener run.1 level c m mid there run.2 in (
-      with_listener rest run.1,
-      t,
-      next,
-      alone_goes_quietly bit level talker controller rest (with_listener rest run.1) t t c next others others_too
-          (controller_alone rest talker controller bit run.1 level t c next past step),
-      subst (λ ms. GoQuietlyBy (bit + 1) sent (with_listener rest run.1) (with_listener rest after) t t next ms)
-          (set-set c controller mid n)
-          (controller_run (bit + 1) sent (with_listener rest run.1) after t next talker controller mid n here past
-          others (others_on controller c mid others_too) run.3),
-    )
+-- each goes on as it may
+all_run : (place bit : ℕ) (sent : List Bool) (old new : List Member) →
+    ((m : Member) → slice_get old place ≡ Some m → MayGoBy true bit sent m) → OthersStayOff place bit sent old →
+    AtPlaces (λ k. IfAwake (GoesAsItMay sent)) old new → AllRun place bit sent old new
+all_run place bit sent old new sender others h = record {
+  at = λ k a b p q. record {
+    rests_on = (h.at k a b p q).rests_on;
+    runs = λ awake. (h.at k a b p q).steps awake (nat_eq k place) bit (elim (eqb_tells k place) [
+      | inl same ↦ subst (λ s. MayGoBy s bit sent a) (sym same.0)
+          (sender a (ap (slice_get old) (sym same.1) ∙ p))
+      | inr other ↦ subst (λ s. MayGoBy s bit sent a) (sym other.0) (others k a p other.1 awake)
+    ]);
+  };
+  size = h.size;
+}
+
+pub sent_beside : (place past bit : ℕ) (sent : List Bool) (rest : Rest) (after : Listener)
+    (s0 s1 o0 o1 : List Member) (m : Member) → slice_get s0 place ≡ Some m → length o0 ≤ past →
+    MayGoBy true bit sent m → OthersStayOff place bit sent s0 → OthersStayOff past bit sent o0 →
+    AtPlaces (λ k. IfAwake (GoesAsItMay sent)) s0 s1 → AtPlaces (λ k. IfAwake (GoesAsItMay sent)) o0 o1 →
+    ReadsAlongBy rest.listener sent after → GoQuietlyBy bit sent rest (with_listener rest after) s0 s1 o0 o1
+sent_beside place past bit sent rest after s0 s1 o0 o1 m there beyond may stay stay_too go go_too along =
+    run_beside place past bit sent rest after s0 s1 o0 o1 m there may.awake beyond
+    (all_run place bit sent s0 s1 (λ x e. subst (MayGoBy true bit sent) (same_some m x (sym there ∙ e)) may) stay go)
+    (all_run past bit sent o0 o1
+    (λ x e. absurd (let within = slice_get_within o0 past x e in omega (arith, within, beyond))) stay_too go_too)
+    along
+
+-- so with the first of the levels
+pub off_taken : (place bit n : ℕ) (levels : List Bool) (members : List Member) → OthersStayOff place bit levels members →
+    OthersStayOff place bit (take n levels) members
+off_taken place bit n levels members h k m e not awake = by_taken false bit n levels m (h k m e not awake)
+
+pub each_may : (place bit n : ℕ) (ahead : List Bool) (members : List Member) →
+    ((sender : Member) → slice_get members place ≡ Some sender → MayGoBy true bit ahead sender) →
+    OthersStayOff place bit ahead members → (k : ℕ) (m : Member) → slice_get members k ≡ Some m → m.rests ≡ false →
+    (is_sender : Bool) × (at : ℕ) × MayGoBy is_sender at (take n ahead) m
+each_may place bit n ahead members sender others k m e awake = elim (eqb_tells k place) [
+  | inl same ↦ (true, bit, by_taken true bit n ahead m (sender m (ap (slice_get members) (sym same.1) ∙ e)))
+  | inr other ↦ (false, bit, by_taken false bit n ahead m (others k m e other.1 awake))
+]
+
+-- none stands behind the last
+pub none_at : (members : List Member) (bit : ℕ) (ahead : List Bool) (sender : Member) →
+    slice_get members (length members) ≡ Some sender → MayGoBy true bit ahead sender
+none_at members bit ahead sender e =
+    absurd (let within = slice_get_within members (length members) sender e in omega (arith, within))
+
+-- the newest levels of a list that was added to
+pub newest : (made sent : List Bool) →
+    take (length (made ++ sent) - length made) (drop (length made) (made ++ sent)) ≡ sent
+newest made sent =
+    let size : length (made ++ sent) - length made ≡ length sent = omega (arith, length-append made sent) in
+    rw (size, drop-append_seam made sent) (take_all (length sent) sent (omega arith))
+
+-- whichever of both lists has the sender
+and_swaps : (a b : Bool) → (a && b) ≡ (b && a)
+and_swaps true true = refl
+and_swaps true false = refl
+and_swaps false true = refl
+and_swaps false false = refl
+
+pub swapped : (bit : ℕ) (levels : List Bool) (old new : Rest) (t0 t1 c0 c1 : List Member) →
+    GoQuietlyBy bit levels old new t0 t1 c0 c1 → GoQuietlyBy bit levels old new c0 c1 t0 t1
+swapped bit [] old new t0 t1 c0 c1 h = (h.0, h.2, h.1)
+swapped bit (level ∷ levels) old new t0 t1 c0 c1 h = (
+  h.0,
+  h.2,
+  h.1,
+  record {
+    starts_none = h.3.starts_none;
+    through = h.3.through;
+    resting = h.3.resting;
+    drives = h.3.drives;
+    talkers = h.3.controllers;
+    controllers = h.3.talkers;
+    level_is = h.3.level_is ∙ and_swaps (driven_beside bit h.3.resting t0) (driven_beside bit h.3.resting c0);
+  },
+  swapped (bit + 1) levels h.0 new h.1 t1 h.2 c1 h.4,
+)

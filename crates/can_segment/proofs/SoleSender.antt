@@ -58,12 +58,12 @@ none_passes : (place bit : ℕ) (members : List Member) → length members ≤ p
     passes (drives_at bit) (slice_get members place) ≡ true
 none_passes place bit members past = ap (passes (drives_at bit)) (slice_get_past members place past)
 
-and_true : (b : Bool) → (b && true) ≡ b
+pub and_true : (b : Bool) → (b && true) ≡ b
 and_true true = refl
 and_true false = refl
 
 -- the AND of what all drive is what it drives
-one_passes : {M : Type 0} (test : M → Bool) (place : ℕ) (xs : List M) →
+pub one_passes : {M : Type 0} (test : M → Bool) (place : ℕ) (xs : List M) →
     ((k : ℕ) (m : M) → slice_get xs k ≡ Some m → k ≢ place → test m ≡ true) →
     list_all test xs ≡ passes test (slice_get xs place)
 one_passes test place [] h = refl

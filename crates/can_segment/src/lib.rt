@@ -11,6 +11,7 @@ mod record;
 mod rest;
 mod seg_fault;
 mod segment;
+mod send_run;
 mod sole_sender;
 
 pub use crate::record::Record;

@@ -80,39 +80,6 @@ fn level_with(
     none_sends(rest, bit)
 }
 
-/// As many of the next bits as one node makes that sends alone, in the stuffed region of its frame, while the listener
-/// follows for all others: `most` at most, and none where none sends alone. Their levels are kept behind those of
-/// `levels`, which has room for them.
-pub(crate) fn send_run(
-    levels: &mut Vec<bool>,
-    talkers: &mut [Member],
-    controllers: &mut [Member],
-    rest: &mut Rest,
-    most: usize,
-)
-    requires few { rest.old.few ≡ true → AreFew rest.old }
-    requires talkers_within { AwakeWithin rest.old.talkers talkers.old }
-    requires controllers_within { AwakeWithin rest.old.controllers controllers.old }
-    requires talker_room { HasRoom (u64.MAX + 1 - most) (length levels.old.items) talkers.old }
-    requires room { HasRoom (u64.MAX + 1 - most) (length levels.old.items) controllers.old }
-    requires level_room { vec_len levels.old + most ≤ vec_capacity levels.old }
-    ensures { (sent : List Bool) × (length sent ≤ most) × (levels.new.items ≡ levels.old.items ++ sent)
-        × GoQuietlyBy (length levels.old.items) sent rest.old rest.new talkers.old talkers.new
-        controllers.old controllers.new }
-{
-    if !rest.few {
-        return;
-    }
-    let bit = levels.len() as u64;
-    let talker = rest.talkers.from;
-    let controller = rest.controllers.from;
-    match (talker < talkers.len(), controller < controllers.len()) {
-        (true, false) => talkers[talker].send_run(bit, &mut rest.listener, levels, most),
-        (false, true) => controllers[controller].send_run(bit, &mut rest.listener, levels, most),
-        _ => {}
-    }
-}
-
 /// The level of the line at a bit at which none starts, and all nodes go on with the AND of what they drive, those that
 /// rest and those that are awake. `None` where they don't: then nothing is changed.
 // most bits are those of one sender alone, so these make no way for it

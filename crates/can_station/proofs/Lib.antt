@@ -5,4 +5,4 @@ pub mod FaultsInOrder
 pub mod Wakes
 pub mod Spans
 pub mod GoingOn
-pub mod SendRuns
+pub mod GoingBy

@@ -6,7 +6,7 @@ use Rattle.can_node.specs.Histories.{Past, IsHistory}
 use Rattle.can_node.specs.Listener.{SendsTo, StandsWith, caught_up as node_caught_up}
 use Rattle.can_node.specs.Node.{IsSample, StandsAfter, bit_of, counters_in, may_begin}
 use Rattle.can_node.specs.declared.outcome.Outcome.TheVariants.{Nothing}
-use Rattle.can_node.specs.PlainBits.{MayGoOn}
+use Rattle.can_node.specs.PlainBits.{MayGoOn, MayGoOnBy}
 use Rattle.can_node.specs.declared.listener.Listener.{Listener}
 use Rattle.can_station.specs.declared.member.Member.{Member}
 use Rattle.can_station.specs.declared.plan.NodeFault.{NodeFault}
@@ -14,6 +14,7 @@ use Rattle.can_station.specs.declared.plan.Talker.{Talker}
 use Rattle.can_station.specs.declared.span.Span.{Span}
 use Rattle.can_station.specs.Faults.{is_inverted}
 use Rattle.can_station.specs.Deeds.{IsQuiet, no_deed}
+use Rattle.can_station.specs.Members.{drives_at}
 use Rattle.can_station.specs.Places.{AtPlaces, MovesOne}
 use Rattle.can_station.specs.Ports.{item_of}
 
@@ -181,12 +182,6 @@ pub record OneSends (place bit : ℕ) (before : Listener) (level : Bool) (after 
   pub step : MemberSends bit before level after from to
   pub moves : MovesOne place (MemberSends bit before level after) old new
 
--- bits of that kind with these levels, one after another
-abbrev pub MemberSendsRun : ℕ → Listener → List Bool → Listener → Member → Member → Type 0
-MemberSendsRun bit before [] after old new = (new ≡ old) × (after ≡ before)
-MemberSendsRun bit before (level ∷ levels) after old new = (mid : Member) × (between : Listener)
-    × MemberSends bit before level between old mid × MemberSendsRun (bit + 1) between levels after mid new
-
 -- it goes on with this bit, if that has this level, and nothing is told of it
 pub record MayGo (bit : ℕ) (level : Bool) (member : Member) : Type 0 where
   pub awake : member.rests ≡ false
@@ -217,3 +212,28 @@ pub record MemberGoes (bit : ℕ) (level : Bool) (old new : Member) : Type 0 whe
 -- all of these that are awake do, and those that rest are left as they are
 abbrev pub AllGo : ℕ → Bool → List Member → List Member → Type 0
 AllGo bit level = AtPlaces (λ k. IfAwake (MemberGoes bit level))
+
+-- It goes on with these levels, one after another from this bit on, and nothing is told of it: it sends them in a
+-- frame, or is in bus off and stays there.
+pub record MayGoBy (is_sender : Bool) (bit : ℕ) (levels : List Bool) (member : Member) : Type 0 where
+  pub awake : member.rests ≡ false
+  pub is_on : member.on ≤ bit
+  pub quiet : IsQuiet member.deed
+  pub goes : MayGoOnBy is_sender levels member.station.node
+
+-- so do all of these that are awake in bus off, but the one at this place
+abbrev pub OthersStayOff : ℕ → ℕ → List Bool → List Member → Type 0
+OthersStayOff place bit levels members = (k : ℕ) (m : Member) → slice_get members k ≡ Some m → k ≢ place →
+    m.rests ≡ false → MayGoBy false bit levels m
+
+-- one that is awake samples these levels, one after another, as it goes on with each: it drives them where it sends,
+-- and drives recessive elsewhere
+abbrev pub MemberGoesBy : Bool → ℕ → List Bool → Member → Member → Type 0
+MemberGoesBy is_sender bit [] old new = new ≡ old
+MemberGoesBy is_sender bit (level ∷ levels) old new = (mid : Member) × MemberGoes bit level old mid
+    × (drives_at bit old ≡ if is_sender then level else true) × MemberGoesBy is_sender (bit + 1) levels mid new
+
+-- so from whatever bit on it may
+abbrev pub GoesAsItMay : List Bool → Member → Member → Type 0
+GoesAsItMay levels old new =
+    (is_sender : Bool) (bit : ℕ) → MayGoBy is_sender bit levels old → MemberGoesBy is_sender bit levels old new

@@ -1,7 +1,11 @@
 //! Bits of which nothing is told.
 
-ghost use Rattle.std.specs.Prelude.{◌≡◌, true};
-ghost use Rattle.can_station.specs.RestingNodes.{AllGo, AwakeWithin, HasRoom, MayAllGo};
+ghost use Rattle.std.specs.Prelude.{◌≡◌, ◌≤◌, ◌<◌, ◌+◌, ℕ, Bool, true, false, Some, length, slice_get, take};
+ghost use Rattle.can_node.specs.Node.{bit_of};
+ghost use Rattle.can_station.specs.Places.{AtPlaces};
+ghost use Rattle.can_station.specs.RestingNodes.{AllGo, AwakeWithin, GoesAsItMay, HasRoom, IfAwake, MayAllGo, MayGoBy};
+ghost use Rattle.can_station.specs.RestingNodes.{OthersStayOff};
+ghost use Rattle.can_station.specs.declared.member.Member.{Member};
 
 use crate::member::Member;
 use crate::span::Span;
@@ -32,5 +36,35 @@ pub fn go_on(members: &mut [Member], bit: u64, level: bool, awake: Span)
 {
     for place in awake.from..awake.to {
         members[place].go_on(bit, level);
+    }
+}
+
+/// With how many of these levels, one after another from this bit on, each of these nodes that is awake goes on in bus
+/// off, but the one at this place. All but those at the places of the span rest.
+pub fn all_stay_off(members: &[Member], bit: u64, levels: &[bool], awake: Span, but: usize) -> usize
+    requires { AwakeWithin awake members.now }
+    ensures few { result ≤ length levels.now }
+    ensures off { 0 < result → OthersStayOff but bit (take result levels.now) members.now }
+{
+    let mut count = levels.len();
+    for place in awake.from..awake.to {
+        if place != but {
+            count = members[place].stays_off(bit, &levels[..count]);
+        }
+    }
+    count
+}
+
+/// Those that are awake go on with these levels, one after another. All but those at the places of the span rest.
+pub fn go_on_by(members: &mut [Member], levels: &[bool], awake: Span)
+    requires awake { AwakeWithin awake members.old }
+    requires goes { (k : ℕ) (m : Member) → slice_get members.old k ≡ Some m → m.rests ≡ false
+        → (is_sender : Bool) × (bit : ℕ) × MayGoBy is_sender bit levels.now m }
+    requires room { (k : ℕ) (m : Member) → slice_get members.old k ≡ Some m → m.rests ≡ false
+        → bit_of m.station.node + length levels.now ≤ u64.MAX }
+    ensures { AtPlaces (λ k. IfAwake (GoesAsItMay levels.now)) members.old members.new }
+{
+    for place in awake.from..awake.to {
+        members[place].go_on_by(levels);
     }
 }

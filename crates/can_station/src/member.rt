@@ -1,7 +1,7 @@
 //! A node of a segment, from the bit on at which it is switched on.
 
 ghost use Rattle.std.specs.Prelude.{◌≡◌, ℕ, ◌<◌, ◌≤◌, ◌++◌, ◌&&◌, true, false, None, List, slice_get};
-ghost use Rattle.std.specs.Prelude.{if◌then◌else◌, IfSome, IfNone, Bool, ◌+◌, length, vec_capacity, vec_len};
+ghost use Rattle.std.specs.Prelude.{if◌then◌else◌, IfSome, IfNone, Bool, ◌+◌, length, take};
 ghost use Rattle.can_frame.specs.Frames.{FrameValue};
 ghost use Rattle.bx_core.specs.TxBus.{BusPast, BusCall};
 ghost use Rattle.can_confinement.specs.KnownCounts.{Knows};
@@ -9,8 +9,8 @@ ghost use Rattle.can_node.specs.Node.{bit_of, counters_in};
 ghost use Rattle.can_station.specs.Ports.{item_of, Undone, Asks, started, started_item};
 ghost use Rattle.can_station.specs.Fresh.{IsFresh};
 ghost use Rattle.can_station.specs.Deeds.{IsQuiet, no_deed};
-ghost use Rattle.can_station.specs.RestingNodes.{MayFallSilent, MayGo, MayRest, MayWake, MemberGoes, MemberSends};
-ghost use Rattle.can_station.specs.RestingNodes.{MemberSendsRun, laid_down, woken};
+ghost use Rattle.can_station.specs.RestingNodes.{GoesAsItMay, MayFallSilent, MayGo, MayGoBy, MayRest, MayWake};
+ghost use Rattle.can_station.specs.RestingNodes.{MemberGoes, MemberSends, laid_down, woken};
 ghost use Rattle.can_station.specs.Members.{
   AreOf,
   is_on,
@@ -342,27 +342,48 @@ impl Member {
         self.station.node.send_to(listener)
     }
 
-    /// As many bits of the stuffed region of a frame as there are that `send_to` would make one after another from this
-    /// one on (`Node::send_run`), `most` at most. Their levels are kept behind those of `levels`, which has room for
-    /// them.
-    pub fn send_run(
-        &mut self,
-        bit: u64,
-        listener: &mut Listener,
-        levels: &mut Vec<bool>,
-        most: usize,
-    )
-        requires bits { self.old.rests ≡ false → self.old.on ≤ bit
-            → bit_of self.old.station.node + most ≤ u64.MAX }
-        requires room { vec_len levels.old + most ≤ vec_capacity levels.old }
-        ensures { (sent : List Bool) × (length sent ≤ most) × (levels.new.items ≡ levels.old.items ++ sent)
-            × MemberSendsRun bit listener.old sent listener.new self.old self.new }
+    /// The levels that it drives next in a frame that it sends, `most` at most (`Node::ahead`). None where it rests, is
+    /// not on at this bit, or something of it is still told.
+    pub fn ahead(&self, bit: u64, most: usize) -> &[bool]
+        ensures few { length result.now ≤ most }
+        ensures may { 0 < length result.now → MayGoBy true bit result.now self.now }
     {
         if self.rests || bit < self.on {
+            return &[];
+        }
+        if !self.deed.is_quiet() {
+            return &[];
+        }
+        self.station.node.ahead(most)
+    }
+
+    /// With how many of these levels, one after another from this bit on, it goes on in bus off, and nothing is told of
+    /// it (`Node::stays_off`); with all where it rests.
+    pub(crate) fn stays_off(&self, bit: u64, levels: &[bool]) -> usize
+        ensures few { result ≤ length levels.now }
+        ensures may { 0 < result → self.now.rests ≡ false → MayGoBy false bit (take result levels.now) self.now }
+    {
+        if self.rests {
+            return levels.len();
+        }
+        if bit < self.on || !self.deed.is_quiet() {
+            return 0;
+        }
+        self.station.node.stays_off(levels)
+    }
+
+    /// If it is awake it goes on with these levels, one after another (`Node::go_on_by`).
+    pub(crate) fn go_on_by(&mut self, levels: &[bool])
+        requires goes { self.old.rests ≡ false → (is_sender : Bool) × (bit : ℕ)
+            × MayGoBy is_sender bit levels.now self.old }
+        requires room { self.old.rests ≡ false → bit_of self.old.station.node + length levels.now ≤ u64.MAX }
+        ensures rests { self.old.rests ≡ true → self.new ≡ self.old }
+        ensures awake { self.new.rests ≡ self.old.rests }
+        ensures goes { self.old.rests ≡ false → GoesAsItMay levels.now self.old self.new }
+    {
+        if self.rests {
             return;
         }
-        if self.deed.is_quiet() {
-            self.station.node.send_run(listener, levels, most);
-        }
+        self.station.node.go_on_by(levels);
     }
 }

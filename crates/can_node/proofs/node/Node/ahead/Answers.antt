@@ -1,0 +1,11 @@
+use Rattle.std.proofs.Common.{refl}
+use Rattle.can_frame.specs.Sending.{StandAhead}
+use Rattle.can_node.specs.PlainBits.MayGoOnBy.{sends_on}
+use Rattle.can_node.proofs.node.Node.ahead.Goals as goal
+
+pub returns-in-Sending-clause-may : goal.returns-in-Sending-clause-may
+returns-in-Sending-clause-may c some =
+    let place = c.in-Sending.place in
+    let ahead : StandAhead c.args.self.now.spelling place c.ahead.result.now =
+    rw c.spelling.ensures at c.ahead.ensures.ahead in
+    sends_on c.in-Sending.field-0 place refl c.in-Sending.is ahead c.ahead.ensures.short

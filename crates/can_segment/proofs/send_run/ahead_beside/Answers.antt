@@ -1,0 +1,39 @@
+use Rattle.std.proofs.Common.{◌≡◌, ◌≤◌, false, true, take, slice_get, Some, ap, arith, sym, subst, ◌∙◌}
+use Rattle.std.proofs.lemmas.List.{length-take, take-take}
+use Rattle.std.proofs.lemmas.Option.{slice_get-get_or}
+use Rattle.can_station.specs.RestingNodes.{MayGoBy}
+use Rattle.can_station.proofs.GoingBy.{by_taken}
+use Rattle.can_station.proofs.Places.{same_some}
+use Rattle.can_segment.proofs.send_run.ahead_beside.Goals as goal
+
+pub returns-clause-may : goal.returns-clause-may
+returns-clause-may c some sender there =
+    let ahead = c.ahead-ahead.result.now in
+    let member = c.index-senders-place.result in
+    let here : slice_get c.args.senders.now c.args.place ≡ Some member =
+    slice_get-get_or c.args.senders.now c.args.place member c.requires.place
+    ∙ ap (λ m. Some m) (sym c.index-senders-place.is) in
+    let n = c.all_stay_off-beside-2.result in
+    subst (MayGoBy true c.args.bit (take n ahead)) (same_some member sender (sym here ∙ there))
+    (by_taken true c.args.bit n ahead member (c.ahead-ahead.ensures.may (omega (arith, some, length-take n ahead))))
+
+pub returns-clause-off : goal.returns-clause-off
+returns-clause-off c some k m e not awake =
+    let ahead = c.ahead-ahead.result.now in
+    let first = c.all_stay_off-beside.result in
+    let n = c.all_stay_off-beside-2.result in
+    let fewer : n ≤ first =
+    omega (arith, c.all_stay_off-beside-2.ensures.few, length-take first ahead) in
+    subst (λ levels. MayGoBy false c.args.bit levels m) (take-take n first ahead fewer)
+    (by_taken false c.args.bit n (take first ahead) m
+    (c.all_stay_off-beside.ensures.off (omega (arith, some, fewer, length-take n ahead)) k m e not awake))
+
+pub returns-clause-off_too : goal.returns-clause-off_too
+returns-clause-off_too c some k m e not awake =
+    let ahead = c.ahead-ahead.result.now in
+    let first = c.all_stay_off-beside.result in
+    let n = c.all_stay_off-beside-2.result in
+    let fewer : n ≤ first =
+    omega (arith, c.all_stay_off-beside-2.ensures.few, length-take first ahead) in
+    subst (λ levels. MayGoBy false c.args.bit levels m) (take-take n first ahead fewer)
+    (c.all_stay_off-beside-2.ensures.off (omega (arith, some, length-take n ahead)) k m e not awake)

@@ -1,0 +1,69 @@
+use Rattle.std.proofs.Common.{rules, ◌≡◌, ◌<◌, ◌-◌, true, is_ok, take, drop, length}
+use Rattle.std.proofs.Common.{arith, subst, ◌∙◌}
+use Rattle.std.proofs.lemmas.List.{length-take}
+use Rattle.can_station.specs.Places.{AtPlaces}
+use Rattle.can_station.specs.RestingNodes.{GoesAsItMay, IfAwake, MayGoBy, OthersStayOff}
+use Rattle.can_station.proofs.GoingBy.{by_taken}
+use Rattle.can_station.proofs.Places.{some_there}
+use Rattle.can_segment.proofs.SendRuns.{each_may, newest, none_at, off_taken, sent_beside}
+use Rattle.can_segment.proofs.send_run.send_beside.Goals as goal
+
+pub go_on_by-requires-clause-goes : goal.go_on_by-requires-clause-goes
+go_on_by-requires-clause-goes c k m e awake =
+    let ahead = c.ahead_beside-ahead.result.now in
+    let count = c.reads_along_by-count.result in
+    let some : 0 < length ahead = omega (arith, c.if-count-eq0.false, c.reads_along_by-count.ensures.few) in
+    let fine : is_ok c.extend_from_slice.result ≡ true = search rules in
+    let made = c.args.levels.now.items in
+    let items = c.as_slice.ensures.value ∙ (rw fine at c.extend_from_slice.ensures.items) in
+    let at : c.len-made.result ≡ length made = search rules in
+    rw (items, at, newest made (take count ahead))
+    (each_may c.args.place c.len-made.result count ahead c.args.senders.now
+    (c.ahead_beside-ahead.ensures.may some) (c.ahead_beside-ahead.ensures.off some) k m e awake)
+
+pub go_on_by-requires-2-clause-goes : goal.go_on_by-requires-2-clause-goes
+go_on_by-requires-2-clause-goes c k m e awake =
+    let ahead = c.ahead_beside-ahead.result.now in
+    let count = c.reads_along_by-count.result in
+    let some : 0 < length ahead = omega (arith, c.if-count-eq0.false, c.reads_along_by-count.ensures.few) in
+    let fine : is_ok c.extend_from_slice.result ≡ true = search rules in
+    let made = c.args.levels.now.items in
+    let items = c.as_slice.ensures.value ∙ (rw fine at c.extend_from_slice.ensures.items) in
+    let at : c.len-made.result ≡ length made = search rules in
+    rw (items, at, newest made (take count ahead))
+    (each_may (length c.args.others.now) c.len-made.result count ahead c.args.others.now
+    (none_at c.args.others.now c.len-made.result ahead)
+    (c.ahead_beside-ahead.ensures.off_too some) k m e awake)
+
+pub returns : goal.returns
+returns c =
+    let ahead = c.ahead_beside-ahead.result.now in
+    let count = c.reads_along_by-count.result in
+    let sent = take count ahead in
+    let some : 0 < length ahead = omega (arith, c.if-count-eq0.false, c.reads_along_by-count.ensures.few) in
+    let fine : is_ok c.extend_from_slice.result ≡ true = search rules in
+    let made = c.args.levels.now.items in
+    let items = c.as_slice.ensures.value ∙ (rw fine at c.extend_from_slice.ensures.items) in
+    let at : c.len-made.result ≡ length made = search rules in
+    let slice = take (length c.as_slice.result.now - c.len-made.result) (drop c.len-made.result c.as_slice.result.now) in
+    let same : slice ≡ sent = rw (items, at) (newest made sent) in
+    let senders = c.args.senders.now in
+    let others = c.args.others.now in
+    let sender = some_there senders c.args.place c.requires.place in
+    let go = subst (λ ls. AtPlaces (λ k. IfAwake (GoesAsItMay ls)) senders c.go_on_by.new.members) same
+    c.go_on_by.ensures in
+    let go_too = subst (λ ls. AtPlaces (λ k. IfAwake (GoesAsItMay ls)) others c.go_on_by-2.new.members) same
+    c.go_on_by-2.ensures in
+    let may = by_taken true (length made) count ahead sender.0
+    (subst (λ n. MayGoBy true n ahead sender.0) at (c.ahead_beside-ahead.ensures.may some sender.0 sender.1)) in
+    let off = off_taken c.args.place (length made) count ahead senders
+    (subst (λ n. OthersStayOff c.args.place n ahead senders) at (c.ahead_beside-ahead.ensures.off some)) in
+    let off_too = off_taken (length others) (length made) count ahead others
+    (subst (λ n. OthersStayOff (length others) n ahead others) at (c.ahead_beside-ahead.ensures.off_too some)) in (
+      sent,
+      omega (arith, length-take count ahead, c.ahead_beside-ahead.ensures.few),
+      rw fine at c.extend_from_slice.ensures.items,
+      sent_beside c.args.place (length others) (length made) sent c.args.rest.now c.reads_along_by-count.new.self senders
+          c.go_on_by.new.members others c.go_on_by-2.new.members sender.0 sender.1 (omega arith) may off off_too go go_too
+          c.reads_along_by-count.ensures.along,
+    )

@@ -1,0 +1,14 @@
+use Rattle.std.proofs.Common.{length}
+use Rattle.can_segment.proofs.SendRuns.{swapped}
+use Rattle.can_segment.proofs.send_run.send_run.Goals as goal
+
+pub returns-in-Some-first_sender : goal.returns-in-Some-first_sender
+returns-in-Some-first_sender c =
+    let made = c.send_beside-in-Some-first_sender in
+    let sent = made.ensures in (
+      sent.0,
+      sent.1,
+      sent.2,
+      swapped (length c.args.levels.now.items) sent.0 c.args.rest.now made.new.rest c.args.controllers.now
+          made.new.senders c.args.talkers.now made.new.others sent.3,
+    )

@@ -1,0 +1,114 @@
+//! Bits of the stuffed region of a frame, many at once: one node sends, and all others rest or are in bus off.
+
+ghost use Rattle.std.specs.Prelude.{◌≡◌, ◌≤◌, ◌<◌, ◌+◌, ◌-◌, ◌++◌, true, Bool, List, Some, IfSome, length, slice_get};
+ghost use Rattle.std.specs.Prelude.{vec_capacity, vec_len};
+ghost use Rattle.can_segment.specs.Rests.{GoQuietlyBy};
+ghost use Rattle.can_station.specs.RestingNodes.{AwakeWithin, HasRoom, MayGoBy, OthersStayOff};
+ghost use Rattle.can_station.specs.declared.member.Member.{Member};
+
+use crate::rest::Rest;
+use can_station::{Member, Span, all_stay_off, go_on_by};
+
+/// The first of the places of this span whose node is awake and sends a frame.
+fn first_sender(members: &[Member], awake: Span) -> Option<usize>
+    requires { AwakeWithin awake members.now }
+    ensures { IfSome result (λ place. place < length members.now) }
+{
+    for place in awake.from..awake.to {
+        let member = &members[place];
+        if !member.rests && member.station.node.sends_from().is_some() {
+            return Some(place);
+        }
+    }
+    None
+}
+
+/// The levels that the node at this place drives next in a frame that it sends, `most` at most, as far as all other
+/// nodes that are awake stay in bus off with them.
+fn ahead_beside<'a>(
+    senders: &'a [Member],
+    place: usize,
+    awake: Span,
+    others: &[Member],
+    awake_others: Span,
+    bit: u64,
+    most: usize,
+) -> &'a [bool]
+    requires place { place < length senders.now }
+    requires senders_within { AwakeWithin awake senders.now }
+    requires others_within { AwakeWithin awake_others others.now }
+    ensures few { length result.now ≤ most }
+    ensures may { 0 < length result.now → (sender : Member) → slice_get senders.now place ≡ Some sender
+        → MayGoBy true bit result.now sender }
+    ensures off { 0 < length result.now → OthersStayOff place bit result.now senders.now }
+    ensures off_too { 0 < length result.now → OthersStayOff (length others.now) bit result.now others.now }
+{
+    let ahead = senders[place].ahead(bit, most);
+    let beside = all_stay_off(senders, bit, ahead, awake, place);
+    let beside = all_stay_off(others, bit, &ahead[..beside], awake_others, others.len());
+    &ahead[..beside]
+}
+
+/// As many of the next bits as the one of these nodes at this place sends in the stuffed region of its frame while the
+/// listener follows for those that rest and all others are in bus off: `most` at most. Their levels are kept behind
+/// those of `levels`, which has room for them.
+fn send_beside(
+    levels: &mut Vec<bool>,
+    senders: &mut [Member],
+    place: usize,
+    awake: Span,
+    others: &mut [Member],
+    awake_others: Span,
+    rest: &mut Rest,
+    most: usize,
+)
+    requires place { place < length senders.old }
+    requires senders_within { AwakeWithin awake senders.old }
+    requires others_within { AwakeWithin awake_others others.old }
+    requires sender_room { HasRoom (u64.MAX + 1 - most) (length levels.old.items) senders.old }
+    requires room { HasRoom (u64.MAX + 1 - most) (length levels.old.items) others.old }
+    requires level_room { vec_len levels.old + most ≤ vec_capacity levels.old }
+    ensures { (sent : List Bool) × (length sent ≤ most) × (levels.new.items ≡ levels.old.items ++ sent)
+        × GoQuietlyBy (length levels.old.items) sent rest.old rest.new senders.old senders.new others.old others.new }
+{
+    let made = levels.len();
+    let ahead = ahead_beside(senders, place, awake, others, awake_others, made as u64, most);
+    let count = rest.listener.reads_along_by(ahead);
+    if count == 0 {
+        return;
+    }
+    let _ = levels.extend_from_slice(&ahead[..count]);
+    let sent = &levels.as_slice()[made..];
+    go_on_by(senders, sent, awake);
+    go_on_by(others, sent, awake_others);
+}
+
+/// As many of the next bits as one node sends in the stuffed region of its frame while all others rest or are in bus
+/// off: `most` at most, and none where that is not so. Their levels are kept behind those of `levels`, which has room
+/// for them.
+pub(crate) fn send_run(
+    levels: &mut Vec<bool>,
+    talkers: &mut [Member],
+    controllers: &mut [Member],
+    rest: &mut Rest,
+    most: usize,
+)
+    requires talkers_within { AwakeWithin rest.old.talkers talkers.old }
+    requires controllers_within { AwakeWithin rest.old.controllers controllers.old }
+    requires talker_room { HasRoom (u64.MAX + 1 - most) (length levels.old.items) talkers.old }
+    requires room { HasRoom (u64.MAX + 1 - most) (length levels.old.items) controllers.old }
+    requires level_room { vec_len levels.old + most ≤ vec_capacity levels.old }
+    ensures { (sent : List Bool) × (length sent ≤ most) × (levels.new.items ≡ levels.old.items ++ sent)
+        × GoQuietlyBy (length levels.old.items) sent rest.old rest.new talkers.old talkers.new
+        controllers.old controllers.new }
+{
+    let awake = rest.talkers;
+    let awake_too = rest.controllers;
+    if let Some(place) = first_sender(talkers, awake) {
+        send_beside(levels, talkers, place, awake, controllers, awake_too, rest, most);
+        return;
+    }
+    if let Some(place) = first_sender(controllers, awake_too) {
+        send_beside(levels, controllers, place, awake_too, talkers, awake, rest, most);
+    }
+}

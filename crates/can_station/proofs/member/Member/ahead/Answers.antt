@@ -1,0 +1,10 @@
+use Rattle.std.proofs.Common.{arith}
+use Rattle.can_station.proofs.member.Member.ahead.Goals as goal
+
+pub returns-clause-may : goal.returns-clause-may
+returns-clause-may c some = record {
+  awake = c.if-self.false;
+  is_on = omega (arith, c.if-bit-self.false);
+  quiet = c.is_quiet.ensures c.if-not-is_quiet.false;
+  goes = c.ahead.ensures.may some;
+}
