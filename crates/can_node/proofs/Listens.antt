@@ -4,7 +4,8 @@ use Rattle.std.proofs.Common.{◌++◌, length, refl, sym, ap, subst, ◌∙◌}
 use Rattle.std.proofs.lemmas.List.Sums.{fold-append}
 use Rattle.can_frame.specs.Reading.{IsPush, ReadsOn, StandsAs, StandsAfter as ReaderStandsAfter, IsReading}
 use Rattle.can_frame.specs.declared.step.Step.{Step}
-use Rattle.can_frame.specs.declared.step.Step.TheVariants.{More, StuffBit, Tail}
+use Rattle.can_frame.specs.declared.step.Step.TheVariants.{More, StuffBit, Tail, Taken}
+use Rattle.can_frame.specs.Frames.{FrameValue}
 use Rattle.can_frame.specs.declared.reader.Reader.{Reader}
 use Rattle.can_confinement.specs.declared.confinement.ErrorEvent.{ErrorEvent}
 use Rattle.can_confinement.specs.declared.confinement.ErrorEvent.TheVariants.{Received}
@@ -13,9 +14,9 @@ use Rattle.can_confinement.specs.declared.known_counts.KnownCounts.{KnownCounts}
 use Rattle.can_confinement.specs.declared.known_counts.KnownCounts.TheVariants.{Zero}
 use Rattle.can_confinement.specs.KnownCounts.{Knows}
 use Rattle.can_confinement.specs.declared.counters.Counters.{Counters}
-use Rattle.can_node.specs.declared.outcome.Outcome.TheVariants.{Nothing}
+use Rattle.can_node.specs.declared.outcome.Outcome.TheVariants.{Nothing, Took}
 use Rattle.can_node.specs.declared.state.State.{State}
-use Rattle.can_node.specs.declared.state.State.TheVariants.{Idling, Taking, Sending}
+use Rattle.can_node.specs.declared.state.State.TheVariants.{Closing, Idling, Taking, Sending}
 use Rattle.can_node.specs.declared.state.Stage.{Stage}
 use Rattle.can_node.specs.declared.state.Stage.TheVariants.{Region, AfterRegion, Slot, AfterSlot}
 use Rattle.can_node.specs.declared.state.Turn.{Turn}
@@ -28,13 +29,13 @@ use Rattle.can_node.specs.Machine.{Advances, behind_end, Counts, Goes, GoesReadi
 use Rattle.can_node.specs.Machine.{is_sending, is_taking, level_in, may_start, quiet}
 use Rattle.can_frame.specs.Sending.{level_at}
 use Rattle.can_node.specs.Machine.LeadsTo.{stays_on}
-use Rattle.can_node.specs.Listener.{Follows, IsUnseen, ReadsAlong, SendsTo, StandsWith, caught_up}
+use Rattle.can_node.specs.Listener.{AllTake, Follows, IsUnseen, ReadsAlong, SendsTo, StandsWith, caught_up, taken_up}
 use Rattle.can_node.proofs.Samples.{counts_none, quiet_steps, samples}
 use Rattle.can_node.proofs.Advancing.{idle_advances, other_advances, reading_advances}
 use Rattle.can_node.proofs.Samples.{stands_history}
 use Rattle.can_node.proofs.Advancing.{sending_advances, steady_advances}
 use Rattle.can_node.proofs.SendMoves.{send_echoed}
-use Rattle.can_node.proofs.TakeMoves.{tail_delimiter, tail_later}
+use Rattle.can_node.proofs.TakeMoves.{tail_delimiter, tail_later, take_taken}
 
 abbrev listening : State → Reader → Listener
 listening state reader = record { state = state; reader = reader }
@@ -251,3 +252,33 @@ sends_to node start place next before after level here slot last echo next_is al
       follows = along.follows;
       listens = along.listens;
     }
+
+-- a frame that is taken: the reader has done its work
+other_reader : (state : State) (old new other : Reader) (spelling : Spelling) (now : ℕ) (errors : ErrorState)
+    (level : Bool) (turn : Turn) → is_taking turn.state ≡ false → Advances state old spelling now errors level turn new →
+    Advances state old spelling now errors level turn other
+other_reader state old new other spelling now errors level turn none advances text at before phase part events clock err
+    agrees holds reads =
+    let lands = advances text at before phase part events clock err agrees holds reads in
+    record {
+      after = lands.after;
+      lands = lands.lands;
+      reads = record { stands = λ is. absurd (cc (is, none)); reading = λ is. absurd (cc (is, none)) };
+    }
+
+pub all_take : (listener : Listener) (start : ℕ) (may : Bool) (stage : Stage) (level : Bool) (frame : FrameValue)
+    (new : Reader) → listener.state ≡ Taking start may stage → IsPush listener.reader level (Taken frame) new →
+    AllTake listener level (record { start = start; frame = frame })
+all_take listener start may stage level frame new here push node bit =
+    let turn : Turn = record { state = Closing; event = None; outcome = Took start frame } in
+    samples (caught_up node listener bit) (taken_up node bit) level (Took start frame) (rw here (record {
+      turn = turn;
+      errors = state_of (counts_of node.counters);
+      shows = λ events h. ap state_of h;
+      advances = other_reader (Taking start may stage) listener.reader new node.reader node.spelling bit
+          (state_of (counts_of node.counters)) level turn refl
+          (reading_advances start may stage listener.reader new node.spelling bit (state_of (counts_of node.counters))
+          level (Taken frame) turn push
+          (λ may. take_taken start may stage (state_of (counts_of node.counters)) level frame));
+      is_made = record { off = false; counts = counts_none node.counters None refl; ends_in = (refl, refl) };
+    })) refl refl

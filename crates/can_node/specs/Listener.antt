@@ -1,7 +1,9 @@
 -- One that follows a line in place of nodes that listen to it and have come equally far.
 use Rattle.std.specs.Prelude.{◌≡◌, ◌⊎◌, ℕ, ◌+◌, Bool, true, false, None, Some, List, [], ◌∷◌}
 use Rattle.can_confinement.specs.declared.confinement.ErrorEvent.TheVariants.{Received}
-use Rattle.can_node.specs.declared.outcome.Outcome.TheVariants.{Nothing}
+use Rattle.can_node.specs.declared.outcome.Outcome.TheVariants.{Nothing, Took}
+use Rattle.can_node.specs.declared.state.State.TheVariants.{Closing}
+use Rattle.can_node.specs.declared.taken_frame.TakenFrame.{TakenFrame}
 use Rattle.can_node.specs.declared.state.Turn.{Turn}
 use Rattle.can_node.specs.declared.node.Node.{Node}
 use Rattle.can_node.specs.declared.listener.Listener.{Listener}
@@ -87,3 +89,19 @@ pub record SendsTo (old : Node) (before : Listener) (level : Bool) (new : Node) 
   pub others_begin : (node : Node) (bit : ℕ) → may_begin (caught_up node before bit) ≡ false
   pub follows : (known : KnownCounts) (bit : ℕ) → Follows known before bit level after
   pub listens : IsListening after
+
+-- a node that was left alone up to this bit, at which it took a frame: its next one is the last bit of EOF
+abbrev pub taken_up : Node → ℕ → Node
+taken_up node bit = record {
+  state = Closing;
+  reader = node.reader;
+  spelling = node.spelling;
+  counters = node.counters;
+  clock = bit + 1;
+}
+
+-- What a bit does to each node for which a listener stands: caught up before, the node samples this level and takes
+-- this frame.
+abbrev pub AllTake : Listener → Bool → TakenFrame → Type 0
+AllTake listener level taken = (node : Node) (bit : ℕ) →
+    IsSample (caught_up node listener bit) level (Took taken.start taken.frame) (taken_up node bit)

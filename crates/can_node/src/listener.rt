@@ -4,8 +4,8 @@ ghost use Rattle.std.specs.Prelude.{◌≡◌, ◌≤◌, ℕ, Bool, true, false
 ghost use Rattle.can_node.specs.declared.node.Node.{Node};
 ghost use Rattle.can_node.specs.Machine.{GoesReading, is_sending, is_taking};
 ghost use Rattle.can_node.specs.Node.{driven_by, may_begin};
-ghost use Rattle.can_node.specs.Listener.{IsListening, IsUnseen, Follows, ReadsAlong, ReadsAlongBy, caught_up};
-ghost use Rattle.can_node.specs.Listener.{is_reading};
+ghost use Rattle.can_node.specs.Listener.{AllTake, IsListening, IsUnseen, Follows, ReadsAlong, ReadsAlongBy};
+ghost use Rattle.can_node.specs.Listener.{caught_up, is_reading};
 ghost use Rattle.can_confinement.specs.declared.confinement.ErrorState.{ErrorState as ErrorStateValue};
 
 use crate::machine::{
@@ -14,6 +14,7 @@ use crate::machine::{
 };
 use crate::outcome::Outcome;
 use crate::state::{Stage, State, Turn};
+use crate::taken_frame::TakenFrame;
 use crate::takes::after_taking;
 use can_confinement::{ErrorEvent, ErrorState, KnownCounts};
 use can_frame::{Reader, Step};
@@ -99,6 +100,21 @@ impl Listener {
             return 0;
         }
         self.reader.reads_on_by(levels)
+    }
+
+    /// The frame that each of them takes if it samples this level at the next bit, the last but one of EOF: then it has
+    /// come to the last one (`Node::take_up`). `None` where they take none.
+    #[inline(never)]
+    pub fn takes(&self, level: bool) -> Option<TakenFrame>
+        ensures { IfSome result (AllTake self.now level) }
+    {
+        let State::Taking(start, _, Stage::AfterSlot) = self.state else {
+            return None;
+        };
+        match self.reader.copy().push(level) {
+            Step::Taken(frame) => Some(TakenFrame { start, frame }),
+            _ => None,
+        }
     }
 
     /// So behind the stuffed region.

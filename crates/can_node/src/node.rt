@@ -3,7 +3,7 @@
 ghost use Rattle.std.specs.Prelude.{◌≡◌, ℕ, ◌+◌, ◌<◌, ◌≤◌, true, false, Bool, IsSome, IfSome, IfNone, length, take};
 ghost use Rattle.can_confinement.specs.Counters.{StandsAfter as CountersStandAfter, counts_of};
 ghost use Rattle.can_node.specs.Histories.{Past, no_past, IsHistory};
-ghost use Rattle.can_node.specs.Listener.{SendsTo, StandsWith, caught_up, listener_of, listens_in};
+ghost use Rattle.can_node.specs.Listener.{SendsTo, StandsWith, caught_up, listener_of, listens_in, taken_up};
 ghost use Rattle.can_confinement.specs.KnownCounts.{Knows, known_of};
 ghost use Rattle.can_node.specs.PlainBits.{GoesOn, GoesOnBy, MayGoOn, MayGoOnBy};
 ghost use Rattle.can_node.specs.Node.{StandsAfter, IsSample, IsWanting, IsSending, bit_of, counters_in};
@@ -121,6 +121,16 @@ impl Node {
         self.state = listener.state;
         self.reader = listener.reader.copy();
         self.clock = bit;
+    }
+
+    /// The node, for which a listener stood, has taken a frame at this bit (`Listener::takes`): its next one is the last
+    /// bit of EOF.
+    pub fn take_up(&mut self, bit: u64)
+        requires { bit < u64.MAX }
+        ensures { self.new ≡ taken_up self.old bit }
+    {
+        self.state = State::Closing;
+        self.clock = bit + 1;
     }
 
     /// The node begins to send this frame at the next bit: with its SOF where the bus is idle, and with its

@@ -30,3 +30,4 @@ pub mod SoleSender
 pub mod QuietBits
 pub mod SendRuns
 pub mod QuietRuns
+pub mod Taken

@@ -177,7 +177,7 @@ all_drive rest bit drive (m ∷ members) drives rests =
         ap (λ b. cond b drive (drives_at bit m)) is ∙ ap (drives_at bit) (sym (awake_woken rest.listener bit m is))
 
 -- Nodes of which those that are awake sample the line: so do all for which they stand.
-undisturbed_level : (faults : List NodeFault) (n bit : ℕ) (level : Bool) → is_inverted faults n bit ≡ false →
+pub undisturbed_level : (faults : List NodeFault) (n bit : ℕ) (level : Bool) → is_inverted faults n bit ≡ false →
     level ≡ sampled_level faults n bit level
 undisturbed_level faults n bit level none = sym (ap (λ b. cond b (not_ level) level) none)
   where

@@ -13,6 +13,7 @@ mod seg_fault;
 mod segment;
 mod send_run;
 mod sole_sender;
+mod taking;
 
 pub use crate::record::Record;
 pub use crate::seg_fault::SegFault;

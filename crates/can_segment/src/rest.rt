@@ -98,7 +98,7 @@ impl Rest {
     }
 
     /// Nodes at any place may be awake.
-    fn look_everywhere(&mut self, talkers: &[Member], controllers: &[Member])
+    pub(crate) fn look_everywhere(&mut self, talkers: &[Member], controllers: &[Member])
         ensures same { IsSame self.old self.new }
         ensures few { self.new.few ≡ false }
         ensures talkers { IsWhole (length talkers.now) self.new.talkers }

@@ -3,9 +3,10 @@ use Rattle.std.specs.Prelude.{◌≡◌, ◌≢◌, ◌⊎◌, ℕ, ◌+◌, ◌
 use Rattle.std.specs.Prelude.{Option, None, Some, List, [], ◌∷◌, length, slice_get, if◌then◌else◌}
 use Rattle.bx_core.specs.TxBus.{Item}
 use Rattle.can_node.specs.Histories.{Past, IsHistory}
-use Rattle.can_node.specs.Listener.{SendsTo, StandsWith, caught_up as node_caught_up}
+use Rattle.can_node.specs.Listener.{SendsTo, StandsWith, caught_up as node_caught_up, taken_up as node_taken_up}
 use Rattle.can_node.specs.Node.{IsSample, StandsAfter, bit_of, counters_in, may_begin}
-use Rattle.can_node.specs.declared.outcome.Outcome.TheVariants.{Nothing}
+use Rattle.can_node.specs.declared.outcome.Outcome.TheVariants.{Nothing, Took}
+use Rattle.can_node.specs.declared.taken_frame.TakenFrame.{TakenFrame}
 use Rattle.can_node.specs.PlainBits.{MayGoOn, MayGoOnBy}
 use Rattle.can_node.specs.declared.listener.Listener.{Listener}
 use Rattle.can_station.specs.declared.member.Member.{Member}
@@ -44,6 +45,29 @@ woken listener bit member = record {
   };
   deed = member.deed;
 }
+
+-- the member that rested up to this bit, at which it took this frame
+abbrev pub taken_up : TakenFrame → ℕ → Member → Member
+taken_up taken bit member = record {
+  on = member.on;
+  rests = false;
+  station = record {
+    node = node_taken_up member.station.node bit;
+    sending = member.station.sending;
+    completed = member.station.completed;
+  };
+  deed = record {
+    began = false;
+    sent = member.station.sending;
+    outcome = Took taken.start taken.frame;
+    reaped = None;
+  };
+}
+
+-- one that rested has woken so; any other is as it was
+pub record TakesUp (taken : TakenFrame) (bit : ℕ) (old new : Member) : Type 0 where
+  pub was_awake : old.rests ≡ false → new ≡ old
+  pub takes : old.rests ≡ true → new ≡ taken_up taken bit old
 
 -- a step of one that is awake, and stays it; one that rests is left as it is
 pub record IfAwake (Step : Member → Member → Type 0) (old new : Member) : Type 0 where

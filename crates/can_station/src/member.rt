@@ -10,7 +10,7 @@ ghost use Rattle.can_station.specs.Ports.{item_of, Undone, Asks, started, starte
 ghost use Rattle.can_station.specs.Fresh.{IsFresh};
 ghost use Rattle.can_station.specs.Deeds.{IsQuiet, no_deed};
 ghost use Rattle.can_station.specs.RestingNodes.{GoesAsItMay, MayFallSilent, MayGo, MayGoBy, MayRest, MayWake};
-ghost use Rattle.can_station.specs.RestingNodes.{MemberGoes, MemberSends, laid_down, woken};
+ghost use Rattle.can_station.specs.RestingNodes.{MemberGoes, MemberSends, TakesUp, laid_down, woken};
 ghost use Rattle.can_station.specs.Members.{
   AreOf,
   is_on,
@@ -31,7 +31,7 @@ use crate::rx_sink::RxSink;
 use crate::station::Station;
 use crate::transmission::Transmission;
 use can_frame::Frame;
-use can_node::{Counters, KnownCounts, Listener, Outcome};
+use can_node::{Counters, KnownCounts, Listener, Outcome, TakenFrame};
 
 /// What a node did at the last bit. What it sent is kept up only at bits of which something is told.
 #[derive(Clone, Copy)]
@@ -147,6 +147,27 @@ impl Member {
             return;
         }
         self.wake(listener, bit);
+    }
+
+    /// If it rests it wakes behind this bit, at which it took this frame (`Node::take_up`).
+    pub(crate) fn take_up(&mut self, taken: &TakenFrame, bit: u64)
+        requires { bit < u64.MAX }
+        ensures { TakesUp taken.now bit self.old self.new }
+    {
+        if !self.rests {
+            return;
+        }
+        self.rests = false;
+        self.station.node.take_up(bit);
+        self.deed = Deed {
+            began: false,
+            sent: self.station.sending,
+            outcome: Outcome::Took {
+                start: taken.start,
+                frame: taken.frame,
+            },
+            reaped: None,
+        };
     }
 
     /// It comes to rest, and nothing is told any more of what it did.

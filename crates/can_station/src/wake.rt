@@ -1,15 +1,15 @@
 //! Nodes that wake, and such of which nothing is told any more.
 
-ghost use Rattle.std.specs.Prelude.{◌≡◌, ◌+◌, ◌≤◌, length};
+ghost use Rattle.std.specs.Prelude.{◌≡◌, ◌+◌, ◌<◌, ◌≤◌, length};
 ghost use Rattle.can_station.specs.Places.{AtPlaces};
-ghost use Rattle.can_station.specs.RestingNodes.{AwakeWithin, IfAwake, MayFallSilent};
+ghost use Rattle.can_station.specs.RestingNodes.{AwakeWithin, IfAwake, MayFallSilent, TakesUp};
 ghost use Rattle.can_station.specs.RestingNodes.{WakesDisturbed, WakesUnspent, woken};
 
 use crate::faults::is_inverted;
 use crate::member::Member;
 use crate::plan::{NodeFault, Talker};
 use crate::span::Span;
-use can_node::Listener;
+use can_node::{Listener, TakenFrame};
 
 /// Nothing is told any more of what those that are awake did at the last bit, if something may have been. All but those
 /// at the places of the span rest.
@@ -34,7 +34,17 @@ pub fn wake_all(members: &mut [Member], listener: &Listener, bit: u64)
     }
 }
 
-/// So do those talkers that have a frame left. Each stands at the place of its plan.
+/// All of these wake behind this bit that rest: each took this frame at it.
+pub fn take_up_all(members: &mut [Member], taken: &TakenFrame, bit: u64)
+    requires { bit < u64.MAX }
+    ensures { AtPlaces (λ k. TakesUp taken.now bit) members.old members.new }
+{
+    for place in 0..members.len() {
+        members[place].take_up(taken, bit);
+    }
+}
+
+/// Before this bit those talkers that rest wake that have a frame left. Each stands at the place of its plan.
 pub fn wake_unspent(members: &mut [Member], plan: &[Talker], listener: &Listener, bit: u64)
     requires { length plan.now ≡ length members.old }
     ensures { AtPlaces (WakesUnspent listener.now bit plan.now) members.old members.new }

@@ -1,14 +1,14 @@
-use Rattle.std.proofs.Common.{◌≡◌, ◌+◌, length, ap, sym, subst, ◌∙◌}
+use Rattle.std.proofs.Common.{◌≡◌, ◌+◌, length, refl, ap, sym, subst, ◌∙◌}
 use Rattle.std.proofs.lemmas.Bool.{or_parts}
 use Rattle.can_station.specs.Faults.{sampled_level}
 use Rattle.can_station.specs.Members.{NodeSamples, PortSettles}
 use Rattle.can_station.specs.Places.{AtBoth, AtPlaces}
 use Rattle.can_station.specs.RestingNodes.{HasRoom, TransmitsAll}
 use Rattle.can_segment.specs.Rests.{members_at}
-use Rattle.can_segment.proofs.Holds.{left_holds, left_rests}
+use Rattle.can_segment.proofs.Holds.{left_holds, left_rests, none_rests}
 use Rattle.can_segment.proofs.Rests.{all_quiet, controllers_sample, members_length, members_sample, room_real}
 use Rattle.can_segment.proofs.Rests.{transmits_real}
-use Rattle.can_station.proofs.Spans.{within_both, within_places}
+use Rattle.can_station.proofs.Spans.{whole_within, within_both, within_places}
 use Rattle.can_segment.proofs.Woken.{left_both, left_on, left_places}
 use Rattle.can_segment.proofs.all_nodes.sample_all.Goals as goal
 
@@ -125,3 +125,27 @@ returns-clause-left g c =
           c.sample_controllers-controllers_told.new.ports size
           c.sample_controllers-controllers_told.ensures.settles)),
     )
+
+pub returns-in-Some-clause-controllers : goal.returns-in-Some-clause-controllers
+returns-in-Some-clause-controllers g c =
+    let first : length c.disturb.new.talkers ≡ length c.args.talkers.now =
+    sym (members_length c.disturb.new.self c.args.bit c.disturb.new.talkers) ∙ ap length c.disturb.ensures.talkers
+    ∙ members_length c.args.rest.now c.args.bit c.args.talkers.now in
+    let after = members_at c.take_all.new.rest (c.args.bit + 1) c.take_all.new.controllers in
+    subst (λ n. AtBoth (λ k. PortSettles g.P.TxBus.bus_after g.P.TxBus.bus_asked g.P.TxBus.transmitting
+    g.P.RxSink.sink_after g.P.RxSink.port_stays c.args.bit
+    (sampled_level c.args.faults.now (n + k) c.args.bit c.args.level))
+    (members_at c.args.rest.now c.args.bit c.args.controllers.now) after c.args.ports.now c.take_all.new.ports) first
+    (subst (λ ms. AtBoth (λ k. PortSettles g.P.TxBus.bus_after g.P.TxBus.bus_asked g.P.TxBus.transmitting
+    g.P.RxSink.sink_after g.P.RxSink.port_stays c.args.bit
+    (sampled_level c.args.faults.now (length c.disturb.new.talkers + k) c.args.bit c.args.level)) ms after
+    c.args.ports.now c.take_all.new.ports) c.disturb.ensures.controllers c.take_all.ensures.controllers)
+
+pub returns-in-Some-clause-rests : goal.returns-in-Some-clause-rests
+returns-in-Some-clause-rests g c =
+    let made = c.take_all.new in
+    let whole = c.take_all.ensures.whole in
+    none_rests made.rest (c.args.bit + 1) c.args.plan.now made.talkers made.controllers c.take_all.ensures.few
+    (whole_within made.rest.talkers _ made.talkers whole.0 refl)
+    (whole_within made.rest.controllers _ made.controllers whole.1 refl) c.take_all.ensures.awake.0
+    c.take_all.ensures.awake.1

@@ -1,0 +1,12 @@
+//! A frame that a node took.
+
+use can_frame::Frame;
+
+/// A frame that a node took.
+#[derive(Clone, Copy)]
+pub struct TakenFrame {
+    /// The number of its SOF bit.
+    pub start: u64,
+    /// The frame.
+    pub frame: Frame,
+}
