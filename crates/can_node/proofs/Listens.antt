@@ -255,7 +255,8 @@ sends_to node start place next before after level here slot last echo next_is al
 
 -- a frame that is taken: the reader has done its work
 other_reader : (state : State) (old new other : Reader) (spelling : Spelling) (now : ℕ) (errors : ErrorState)
-    (level : Bool) (turn : Turn) → is_taking turn.state ≡ false → Advances state old spelling now errors level turn new →
+    (level : Bool) (turn : Turn) → is_taking turn.state ≡ false →
+    Advances state old spelling now errors level turn new →
     Advances state old spelling now errors level turn other
 other_reader state old new other spelling now errors level turn none advances text at before phase part events clock err
     agrees holds reads =

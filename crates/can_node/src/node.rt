@@ -123,8 +123,8 @@ impl Node {
         self.clock = bit;
     }
 
-    /// The node, for which a listener stood, has taken a frame at this bit (`Listener::takes`): its next one is the last
-    /// bit of EOF.
+    /// The node, for which a listener stood, has taken a frame at this bit (`Listener::takes`): its next one is the
+    /// last bit of EOF.
     pub fn take_up(&mut self, bit: u64)
         requires { bit < u64.MAX }
         ensures { self.new ≡ taken_up self.old bit }
@@ -273,7 +273,8 @@ impl Node {
     pub fn go_on_by(&mut self, levels: &[bool])
         requires goes { (is_sender : Bool) × MayGoOnBy is_sender levels.now self.old }
         requires room { bit_of self.old + length levels.now ≤ u64.MAX }
-        ensures { (is_sender : Bool) → MayGoOnBy is_sender levels.now self.old → GoesOnBy is_sender self.old levels.now self.new }
+        ensures { (is_sender : Bool) → MayGoOnBy is_sender levels.now self.old
+            → GoesOnBy is_sender self.old levels.now self.new }
     {
         self.clock += levels.len() as u64;
         match &mut self.state {

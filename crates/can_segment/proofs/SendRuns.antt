@@ -33,10 +33,14 @@ first_and_rest {M = M} R x y xs ys first rest = record { at = by; size = ap suc 
 -- two steps at each place are two steps of the list
 both_steps : {M : Type 0} (R S : ℕ → M → M → Type 0) (xs ys : List M) →
     AtPlaces (λ k a b. (m : M) × R k a m × S k m b) xs ys → (ms : List M) × AtPlaces R xs ms × AtPlaces S ms ys
-both_steps R S [] [] h = ([], record { at = λ k a b p q. absurd (cc p); size = refl }, record {
-  at = λ k a b p q. absurd (cc p);
-  size = refl;
-})
+both_steps R S [] [] h = (
+  [],
+  record { at = λ k a b p q. absurd (cc p); size = refl },
+  record {
+    at = λ k a b p q. absurd (cc p);
+    size = refl;
+  },
+)
 both_steps R S [] (y ∷ ys) h = absurd (let size = h.size in omega (arith, size))
 both_steps R S (x ∷ xs) [] h = absurd (let size = h.size in omega (arith, size))
 both_steps R S (x ∷ xs) (y ∷ ys) h =
@@ -234,8 +238,8 @@ sent_beside place past bit sent rest after s0 s1 o0 o1 m there beyond may stay s
     along
 
 -- so with the first of the levels
-pub off_taken : (place bit n : ℕ) (levels : List Bool) (members : List Member) → OthersStayOff place bit levels members →
-    OthersStayOff place bit (take n levels) members
+pub off_taken : (place bit n : ℕ) (levels : List Bool) (members : List Member) →
+    OthersStayOff place bit levels members → OthersStayOff place bit (take n levels) members
 off_taken place bit n levels members h k m e not awake = by_taken false bit n levels m (h k m e not awake)
 
 pub each_may : (place bit n : ℕ) (ahead : List Bool) (members : List Member) →

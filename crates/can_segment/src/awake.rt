@@ -73,3 +73,11 @@ pub(crate) fn nodes_within(members: &[Member], places: Span) -> &[Member] {
         None => &[],
     }
 }
+
+/// Whether the first of these may start at the next bit: then its port is asked, and nothing comes to rest.
+pub(crate) fn asks_at_each_bit(controllers: &[Member]) -> bool {
+    match controllers.first() {
+        Some(member) => member.station.node.wants_start(),
+        None => false,
+    }
+}

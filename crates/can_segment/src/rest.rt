@@ -20,7 +20,7 @@ ghost use Rattle.can_segment.specs.Rests.{
 };
 ghost use Rattle.can_station.specs.Places.{AtPlaces};
 
-use crate::awake::{Awake, nodes_within};
+use crate::awake::{Awake, asks_at_each_bit, nodes_within};
 use crate::leader::{Leader, Votes};
 use can_node::{KnownCounts, Listener, Node};
 use can_station::{
@@ -268,6 +268,9 @@ impl Rest {
             return;
         }
         self.choose(talkers, controllers, bit);
+        if !self.resting {
+            return;
+        }
         self.lull_talkers(plan, talkers, bit);
         self.lull_controllers(controllers, bit);
         self.settle(plan, talkers, controllers, bit);
@@ -386,13 +389,5 @@ impl Rest {
         self.asleep = awake_talkers
             .resting()
             .saturating_add(awake_controllers.resting());
-    }
-}
-
-/// Whether the first of these may start at the next bit: then its port is asked, and nothing comes to rest.
-pub(crate) fn asks_at_each_bit(controllers: &[Member]) -> bool {
-    match controllers.first() {
-        Some(member) => member.station.node.wants_start(),
-        None => false,
     }
 }

@@ -72,7 +72,15 @@ fn send_beside(
         × GoQuietlyBy (length levels.old.items) sent rest.old rest.new senders.old senders.new others.old others.new }
 {
     let made = levels.len();
-    let ahead = ahead_beside(senders, place, awake, others, awake_others, made as u64, most);
+    let ahead = ahead_beside(
+        senders,
+        place,
+        awake,
+        others,
+        awake_others,
+        made as u64,
+        most,
+    );
     let count = rest.listener.reads_along_by(ahead);
     if count == 0 {
         return;
@@ -105,10 +113,28 @@ pub(crate) fn send_run(
     let awake = rest.talkers;
     let awake_too = rest.controllers;
     if let Some(place) = first_sender(talkers, awake) {
-        send_beside(levels, talkers, place, awake, controllers, awake_too, rest, most);
+        send_beside(
+            levels,
+            talkers,
+            place,
+            awake,
+            controllers,
+            awake_too,
+            rest,
+            most,
+        );
         return;
     }
     if let Some(place) = first_sender(controllers, awake_too) {
-        send_beside(levels, controllers, place, awake_too, talkers, awake, rest, most);
+        send_beside(
+            levels,
+            controllers,
+            place,
+            awake_too,
+            talkers,
+            awake,
+            rest,
+            most,
+        );
     }
 }

@@ -9,7 +9,8 @@ ghost use Rattle.can_segment.specs.Rests.{AreFew, Drives, GoQuietlyBy, GoesQuiet
 ghost use Rattle.can_segment.specs.Rests.{RestsThrough, SendsAlone, StartsNone};
 ghost use Rattle.can_station.specs.RestingNodes.{AwakeWithin, HasRoom, OneSends};
 
-use crate::rest::{Rest, asks_at_each_bit};
+use crate::awake::asks_at_each_bit;
+use crate::rest::Rest;
 use can_node::Listener;
 use can_station::{FaultOrder, Member, all_go_on, driven_by_all, go_on};
 

@@ -67,22 +67,14 @@ pub(crate) fn take_all<R, P: RxSink<R>>(
         ports.old ports.new }
     ensures awake { NoneRests talkers.new × NoneRests controllers.new }
     ensures few { rest.new.few ≡ false }
-    ensures whole { IsWhole (length talkers.new) rest.new.talkers × IsWhole (length controllers.new) rest.new.controllers }
+    ensures whole { IsWhole (length talkers.new) rest.new.talkers
+        × IsWhole (length controllers.new) rest.new.controllers }
 {
     let first = talkers.len() as u32;
     let _ = sample_nodes(talkers, faults, 0, bit, level, rest.talkers);
     take_up_all(talkers, taken, bit);
     wake_all(controllers, &rest.listener, bit);
     let all = Span::whole(controllers.len());
-    let _ = sample_controllers(
-        rt,
-        controllers,
-        ports,
-        faults,
-        first,
-        bit,
-        level,
-        all,
-    );
+    let _ = sample_controllers(rt, controllers, ports, faults, first, bit, level, all);
     rest.end(talkers, controllers);
 }

@@ -10,6 +10,7 @@ mod member;
 mod members;
 mod plan;
 mod port;
+mod runs;
 mod rx_sink;
 mod span;
 mod station;

@@ -45,7 +45,8 @@ returns c =
     let made = c.args.levels.now.items in
     let items = c.as_slice.ensures.value ∙ (rw fine at c.extend_from_slice.ensures.items) in
     let at : c.len-made.result ≡ length made = search rules in
-    let slice = take (length c.as_slice.result.now - c.len-made.result) (drop c.len-made.result c.as_slice.result.now) in
+    let all = c.as_slice.result.now in
+    let slice = take (length all - c.len-made.result) (drop c.len-made.result all) in
     let same : slice ≡ sent = rw (items, at) (newest made sent) in
     let senders = c.args.senders.now in
     let others = c.args.others.now in
@@ -63,7 +64,7 @@ returns c =
       sent,
       omega (arith, length-take count ahead, c.ahead_beside-ahead.ensures.few),
       rw fine at c.extend_from_slice.ensures.items,
-      sent_beside c.args.place (length others) (length made) sent c.args.rest.now c.reads_along_by-count.new.self senders
-          c.go_on_by.new.members others c.go_on_by-2.new.members sender.0 sender.1 (omega arith) may off off_too go go_too
-          c.reads_along_by-count.ensures.along,
+      sent_beside c.args.place (length others) (length made) sent c.args.rest.now
+          c.reads_along_by-count.new.self senders c.go_on_by.new.members others c.go_on_by-2.new.members sender.0
+          sender.1 (omega arith) may off off_too go go_too c.reads_along_by-count.ensures.along,
     )

@@ -13,6 +13,31 @@ pub returns-then-stays_so : goal.returns-then-stays_so
 returns-then-stays_so c =
     record { talkers = alike_self _ _ refl; controllers = alike_self _ _ refl; holds = c.requires.holds }
 
+pub returns-then-not-self : goal.returns-then-not-self
+returns-then-not-self c =
+    let old = c.args.self.now in
+    let new = c.choose.new.self in
+    let bit = c.args.bit in
+    let talkers = c.args.talkers.now in
+    let controllers = c.args.controllers.now in
+    let held = c.requires.holds in
+    let chosen = c.choose.ensures in
+    let many = chosen.many in
+    record {
+      talkers = alike_self _ _ (chosen_same old new bit talkers chosen held.talkers_rest);
+      controllers = alike_self _ _ (chosen_same old new bit controllers chosen held.controllers_rest);
+      holds = record {
+        talkers_rest = chosen_rests old new bit talkers chosen held.talkers_rest;
+        controllers_rest = chosen_rests old new bit controllers chosen held.controllers_rest;
+        talkers_spent = chosen_spent old new bit c.args.plan.now talkers chosen held.talkers_rest held.talkers_spent;
+        controllers_awake = chosen_awake old new bit controllers chosen held.controllers_rest held.controllers_awake;
+        talkers_within = subst (λ span. AwakeWithin span talkers) (sym chosen.talkers_is) held.talkers_within;
+        controllers_within =
+            subst (λ span. AwakeWithin span controllers) (sym chosen.controllers_is) held.controllers_within;
+        few_are = λ few. absurd (cc (few, many));
+      };
+    }
+
 pub lull_talkers-requires-clause-within : goal.lull_talkers-requires-clause-within
 lull_talkers-requires-clause-within c = subst (λ span. span.to ≤ length c.args.talkers.now)
     (sym c.choose.ensures.talkers_is) c.requires.holds.talkers_within.within
