@@ -1,13 +1,5 @@
-//! The tests of frames, nodes and segments, over what these libraries show to those above them.
+//! The tests of segments, over what these libraries show to those above them.
 #![tactic(auto)]
 
-#[cfg(test)]
-mod bus;
-#[cfg(test)]
-mod frames;
-#[cfg(test)]
-mod listeners;
-#[cfg(test)]
-mod node;
 #[cfg(test)]
 mod segment;

@@ -1,5 +1,5 @@
 use Rattle.std.proofs.Common.{refl}
-use Rattle.bus_tests.proofs.listeners.go_on.Goals as goal
+use Rattle.node_tests.proofs.listeners.go_on.Goals as goal
 
 pub go_on-requires-clause-goes : goal.go_on-requires-clause-goes
 go_on-requires-clause-goes c = c.if-not-goes_on.ensures.may refl

@@ -3,7 +3,6 @@
 
 use can_frame::{Frame, Reader, Step};
 use can_node::{Counters, ErrorKind, KnownCounts, Listener, Node, Outcome};
-use std::test::Fail;
 
 /// A data frame of identifier 0 without bytes as all sample it, its ACK slot, the level at place 41, dominant.
 const FRAME: &str = "00000100000100000100000100000100000100001011111111";
@@ -31,6 +30,29 @@ fn go_on(node: &mut Node, level: bool) -> Option<Outcome> {
     }
     node.go_on(level);
     Some(Outcome::Nothing)
+}
+
+/// The node goes on with these levels, one after another, if they are the next that it drives in a frame, and it has the
+/// bits left.
+fn send_on(node: &mut Node, levels: &[bool]) -> bool {
+    if levels.is_empty() || levels.len() > 100 || node.bit() > 1000 {
+        return false;
+    }
+    if node.ahead(levels.len()) == levels {
+        node.go_on_by(levels);
+        return true;
+    }
+    false
+}
+
+/// The node goes on in bus off with as many of these levels as it can, if it has the bits left: how many those are.
+fn stay_off(node: &mut Node, levels: &[bool]) -> usize {
+    let count = node.stays_off(levels);
+    if count == 0 || count > 100 || node.bit() > 10_000 {
+        return 0;
+    }
+    node.go_on_by(&levels[..count]);
+    count
 }
 
 /// The reader is pushed a level with which the stuffed region goes on.
@@ -91,6 +113,11 @@ fn one_follows_for_those_that_listen(rt: HostRuntime) {
                 assert_eq!(rt; send_to(&mut sender, &mut listener), None);
                 assert!(rt; !listener.follow(sender.bit(), level, KnownCounts::Zero));
                 assert!(rt; !receiver.stands_with(&listener));
+                assert!(rt; listener.takes(false).is_none());
+                let Some(taken) = listener.takes(level) else {
+                    panic!(rt; "it is taken");
+                };
+                assert_eq!(rt; (taken.start, taken.frame), (11, Frame::default()));
                 receiver.catch_up(&listener, sender.bit());
                 assert_eq!(rt; sample(&mut sender, level), Some(Outcome::Nothing));
                 assert_eq!(rt;
@@ -110,6 +137,11 @@ fn one_follows_for_those_that_listen(rt: HostRuntime) {
     }
     assert_eq!(rt; sender.bit(), 61);
     assert_eq!(rt; receiver.bit(), 60);
+    // one that took the frame together with others has come as far as one that took it by itself
+    let mut other = synchronized();
+    other.take_up(59);
+    assert_eq!(rt; other.bit(), 60);
+    assert!(rt; other.stands_with(&receiver.listener()));
     assert_eq!(rt;
         KnownCounts::Zero.and(sender.known_counts()),
         KnownCounts::Zero
@@ -144,10 +176,11 @@ fn one_goes_on_through_flags_and_in_bus_off(rt: HostRuntime) {
     for level in [true, true, true, false] {
         assert_eq!(rt; go_on(&mut node, level), Some(Outcome::Nothing));
     }
+    assert_eq!(rt; stay_off(&mut node, &[true, true, true, true, false]), 5);
     for run in 1..=128u8 {
-        for _ in 0..10u8 {
-            assert_eq!(rt; go_on(&mut node, true), Some(Outcome::Nothing));
-        }
+        assert_eq!(rt; stay_off(&mut node, &[true; 7]), 7);
+        assert_eq!(rt; stay_off(&mut node, &[true; 7]), 3);
+        assert_eq!(rt; stay_off(&mut node, &[true, false]), 0);
         assert_eq!(rt; go_on(&mut node, true), None);
         let comes_back = run == 128;
         assert_eq!(rt;
@@ -155,7 +188,7 @@ fn one_goes_on_through_flags_and_in_bus_off(rt: HostRuntime) {
             comes_back
         );
     }
-    assert_eq!(rt; node.bit().checked_sub(start), Some(4 + 128 * 11));
+    assert_eq!(rt; node.bit().checked_sub(start), Some(9 + 128 * 11));
     assert_eq!(rt; node.counters(), Counters::new());
 }
 
@@ -206,25 +239,28 @@ fn a_receiver_goes_on_in_the_stuffed_region(rt: HostRuntime) {
 }
 
 #[test]
-fn a_sender_makes_many_bits_at_once(rt: HostRuntime) -> Result<(), Fail> {
+fn a_sender_makes_many_bits_at_once(rt: HostRuntime) {
     let mut sender = sender();
     let mut receiver = synchronized();
     for _ in 0..2u8 {
         sample(&mut sender, false);
         sample(&mut receiver, false);
     }
-    let mut listener = receiver.listener();
-    let mut levels = Vec::new(rt.alloc());
-    levels.reserve(64)?;
-    if sender.bit() < 100 {
-        sender.send_run(&mut listener, &mut levels, 64);
+    let mut levels = [false; 39];
+    for (level, byte) in levels.iter_mut().zip(FRAME.as_bytes().iter().skip(2)) {
+        *level = *byte == b'1';
     }
+    assert!(rt; receiver.ahead(64).is_empty());
+    // all before the ACK slot
+    assert!(rt; sender.ahead(64) == levels.as_slice());
     // up to the last bit of the CRC, at which the frame is read
-    assert_eq!(rt; (sender.bit(), levels.len()), (50, 37));
-    for (level, byte) in levels.iter().zip(FRAME.as_bytes().iter().skip(2)) {
-        assert_eq!(rt; *level, *byte == b'1');
-    }
-    Ok(())
+    let mut listener = receiver.listener();
+    assert_eq!(rt; listener.reads_along_by(&levels), 37);
+    assert_eq!(rt; listener.reads_along_by(&levels), 0);
+    assert!(rt; !send_on(&mut sender, &levels[1..20]));
+    assert!(rt; send_on(&mut sender, &levels[..37]));
+    assert_eq!(rt; sender.bit(), 50);
+    assert!(rt; sender.ahead(64) == &levels[37..]);
 }
 
 #[test]

@@ -1,0 +1,11 @@
+//! The tests of frames and nodes, over what these libraries show to those above them.
+#![tactic(auto)]
+
+#[cfg(test)]
+mod bus;
+#[cfg(test)]
+mod frames;
+#[cfg(test)]
+mod listeners;
+#[cfg(test)]
+mod node;
