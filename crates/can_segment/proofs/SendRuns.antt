@@ -3,7 +3,7 @@ use Rattle.std.proofs.Common.{◌≡◌, ◌≢◌, ℕ, zero, suc, ◌+◌, ◌
 use Rattle.std.proofs.Common.{[], ◌∷◌, ◌++◌, ◌-◌, length, take, drop, slice_get, refl, sym, ap, subst, arith, inl, inr}
 use Rattle.std.proofs.Common.{length-append, ◌∙◌}
 use Rattle.std.proofs.lemmas.Bool.Decides.{eqb_tells}
-use Rattle.std.proofs.lemmas.List.{take_all}
+use Rattle.std.proofs.lemmas.List.{length-take, take_all, take-take}
 use Rattle.std.proofs.lemmas.Option.{slice_get_within}
 use Rattle.std.proofs.Math.Seq.{drop-append_seam}
 use Rattle.can_node.specs.declared.listener.Listener.{Listener}
@@ -18,7 +18,7 @@ use Rattle.can_station.proofs.Places.{same_some, some_there}
 use Rattle.can_station.proofs.Spans.{all_pass}
 use Rattle.can_segment.specs.declared.rest.Rest.{Rest}
 use Rattle.can_segment.specs.Rests.{GoQuietlyBy, GoesQuietly, driven_beside}
-use Rattle.can_segment.proofs.SoleSender.{and_true, one_passes, with_listener}
+use Rattle.can_segment.proofs.SoleSender.{and_true, one_passes, rests_through, with_listener}
 use Rattle.can_segment.proofs.Woken.{same_list}
 
 -- a step at each place of two lists is one at the first place, and one at each behind it
@@ -170,16 +170,7 @@ one_bit : (place past bit : ℕ) (level : Bool) (rest : Rest) (after : Listener)
     GoesQuietly bit level rest (with_listener rest after) s0 s1 o0 o1
 one_bit place past bit level rest after s0 s1 o0 o1 m there awake beyond senders others along = record {
   starts_none = inr along.begins;
-  through = record {
-    resting = refl;
-    talkers_is = refl;
-    controllers_is = refl;
-    few_is = refl;
-    known_is = refl;
-    spent_is = refl;
-    follows = along.follows rest.known bit;
-    listens = λ was. along.listens;
-  };
+  through = rests_through rest bit after level (along.follows rest.known bit) along.listens;
   resting = true;
   drives = λ listening node at. sym (along.drives node at);
   talkers = steps_go place bit level s0 s1 senders;
@@ -241,6 +232,11 @@ sent_beside place past bit sent rest after s0 s1 o0 o1 m there beyond may stay s
 pub off_taken : (place bit n : ℕ) (levels : List Bool) (members : List Member) →
     OthersStayOff place bit levels members → OthersStayOff place bit (take n levels) members
 off_taken place bit n levels members h k m e not awake = by_taken false bit n levels m (h k m e not awake)
+
+pub off_of_fewer : (bit first n : ℕ) (levels : List Bool) (m : Member) → n ≤ length (take first levels) →
+    MayGoBy false bit (take n (take first levels)) m → MayGoBy false bit (take n levels) m
+off_of_fewer bit first n levels m few = subst (λ ls. MayGoBy false bit ls m)
+    (take-take n first levels (omega (arith, few, length-take first levels)))
 
 pub each_may : (place bit n : ℕ) (ahead : List Bool) (members : List Member) →
     ((sender : Member) → slice_get members place ≡ Some sender → MayGoBy true bit ahead sender) →

@@ -8,6 +8,7 @@ use Rattle.std.proofs.lemmas.List.{length-map}
 use Rattle.std.proofs.lemmas.Option.{slice_get_past, slice_get_within}
 use Rattle.bx_core.specs.TxBus.{Item, BusPast, BusCall}
 use Rattle.can_frame.specs.Frames.{FrameValue}
+use Rattle.can_node.specs.Listener.{Follows, IsListening}
 use Rattle.can_node.specs.Node.{driven_by, may_begin}
 use Rattle.can_confinement.specs.declared.counters.Counters.{Counters}
 use Rattle.can_node.specs.declared.listener.Listener.{Listener}
@@ -115,19 +116,24 @@ with_listener rest listener = record {
   leader = rest.leader;
 }
 
-rests_through_alone : (rest : Rest) (place bit : ℕ) (after : Listener) (level : Bool) (old new : List Member) →
-    OneSends place bit rest.listener level after old new →
+pub rests_through : (rest : Rest) (bit : ℕ) (after : Listener) (level : Bool) →
+    Follows rest.known rest.listener bit level after → IsListening after →
     RestsThrough bit level rest (with_listener rest after)
-rests_through_alone rest place bit after level old new h = record {
+rests_through rest bit after level follows listens = record {
   resting = refl;
   talkers_is = refl;
   controllers_is = refl;
   few_is = refl;
   known_is = refl;
   spent_is = refl;
-  follows = h.step.sends.follows rest.known bit;
-  listens = λ was. h.step.sends.listens;
+  follows = follows;
+  listens = λ was. listens;
 }
+
+rests_through_alone : (rest : Rest) (place bit : ℕ) (after : Listener) (level : Bool) (old new : List Member) →
+    OneSends place bit rest.listener level after old new → RestsThrough bit level rest (with_listener rest after)
+rests_through_alone rest place bit after level old new h =
+    rests_through rest bit after level (h.step.sends.follows rest.known bit) h.step.sends.listens
 
 drives_alone : (rest : Rest) (place bit : ℕ) (after : Listener) (level : Bool) (old new : List Member) →
     OneSends place bit rest.listener level after old new → Drives rest true

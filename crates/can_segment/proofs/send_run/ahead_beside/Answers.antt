@@ -1,9 +1,10 @@
-use Rattle.std.proofs.Common.{◌≡◌, ◌≤◌, false, true, take, slice_get, Some, ap, arith, sym, subst, ◌∙◌}
-use Rattle.std.proofs.lemmas.List.{length-take, take-take}
+use Rattle.std.proofs.Common.{◌≡◌, false, true, take, slice_get, Some, ap, arith, sym, subst, ◌∙◌}
+use Rattle.std.proofs.lemmas.List.{length-take}
 use Rattle.std.proofs.lemmas.Option.{slice_get-get_or}
 use Rattle.can_station.specs.RestingNodes.{MayGoBy}
 use Rattle.can_station.proofs.GoingBy.{by_taken}
 use Rattle.can_station.proofs.Places.{same_some}
+use Rattle.can_segment.proofs.SendRuns.{off_of_fewer}
 use Rattle.can_segment.proofs.send_run.ahead_beside.Goals as goal
 
 pub returns-clause-may : goal.returns-clause-may
@@ -22,18 +23,15 @@ returns-clause-off c some k m e not awake =
     let ahead = c.ahead-ahead.result.now in
     let first = c.all_stay_off-beside.result in
     let n = c.all_stay_off-beside-2.result in
-    let fewer : n ≤ first =
-    omega (arith, c.all_stay_off-beside-2.ensures.few, length-take first ahead) in
-    subst (λ levels. MayGoBy false c.args.bit levels m) (take-take n first ahead fewer)
+    let few = c.all_stay_off-beside-2.ensures.few in
+    off_of_fewer c.args.bit first n ahead m few
     (by_taken false c.args.bit n (take first ahead) m
-    (c.all_stay_off-beside.ensures.off (omega (arith, some, fewer, length-take n ahead)) k m e not awake))
+    (c.all_stay_off-beside.ensures.off (omega (arith, some, few, length-take first ahead, length-take n ahead)) k m e
+    not awake))
 
 pub returns-clause-off_too : goal.returns-clause-off_too
 returns-clause-off_too c some k m e not awake =
     let ahead = c.ahead-ahead.result.now in
-    let first = c.all_stay_off-beside.result in
     let n = c.all_stay_off-beside-2.result in
-    let fewer : n ≤ first =
-    omega (arith, c.all_stay_off-beside-2.ensures.few, length-take first ahead) in
-    subst (λ levels. MayGoBy false c.args.bit levels m) (take-take n first ahead fewer)
+    off_of_fewer c.args.bit c.all_stay_off-beside.result n ahead m c.all_stay_off-beside-2.ensures.few
     (c.all_stay_off-beside-2.ensures.off (omega (arith, some, length-take n ahead)) k m e not awake)
