@@ -1,6 +1,6 @@
 -- Bits with which a node goes on, one after another.
 use Rattle.std.proofs.Common.{◌≡◌, ℕ, zero, suc, ◌+◌, ◌<◌, ◌≤◌, ◌++◌, min, nat_le, Bool, true, false, List, [], ◌∷◌}
-use Rattle.std.proofs.Common.{length, take, inl, inr, refl, sym, ap, subst, arith, ◌∙◌}
+use Rattle.std.proofs.Common.{length, take, get_or, inl, inr, refl, sym, ap, arith, ◌∙◌}
 use Rattle.std.proofs.lemmas.Bool.Decides.{leb_tells}
 use Rattle.std.proofs.lemmas.List.{length-take}
 use Rattle.can_frame.specs.Sending.{StandAhead}
@@ -9,10 +9,14 @@ use Rattle.can_frame.specs.declared.spelling.Spelling.{Spelling}
 use Rattle.can_confinement.specs.declared.counters.Counters.{Counters}
 use Rattle.can_node.specs.declared.node.Node.{Node}
 use Rattle.can_node.specs.declared.state.State.{State}
-use Rattle.can_node.specs.declared.state.State.TheVariants.{Recovering, Sending}
+use Rattle.can_confinement.specs.Confinement.{state_of}
+use Rattle.can_confinement.specs.Counters.{counts_of}
+use Rattle.can_node.specs.declared.state.State.TheVariants.{PassiveFlagging, Recovering, Sending}
 use Rattle.can_node.specs.Machine.{level_in}
-use Rattle.can_node.specs.PlainBits.{GoesOnBy, LeavesPlainly, MayGoOnBy, StaysOff, is_plain, ones_behind, with_level}
-use Rattle.can_node.specs.PlainBits.MayGoOnBy.{sends_on, stays_off}
+use Rattle.can_node.specs.PlainBits.{GoesOnBy, LeavesPlainly, MayGoOnBy, StaysOut, is_plain, out_behind, out_behind_all}
+use Rattle.can_node.specs.PlainBits.{stays_out}
+use Rattle.can_node.specs.PlainBits.MayGoOnBy.{sends_on, waits_on}
+use Rattle.can_node.proofs.PassiveMoves.{passive_dominant, passive_recessive}
 use Rattle.can_node.proofs.PlainBits.{behind, goes_plainly, goes_sending, off_broken_plain, off_longer_plain}
 
 -- so with the first of them
@@ -22,35 +26,34 @@ ahead_taken spelling place zero levels h = tt
 ahead_taken spelling place (suc n) [] h = tt
 ahead_taken spelling place (suc n) (level ∷ levels) h = (h.0, h.1, ahead_taken spelling (place + 1) n levels h.2)
 
-off_taken : (ones n : ℕ) (levels : List Bool) → StaysOff ones levels → StaysOff ones (take n levels)
-off_taken ones zero levels h = tt
-off_taken ones (suc n) [] h = tt
-off_taken ones (suc n) (level ∷ levels) h = (h.0, off_taken (with_level ones level) n levels h.1)
+out_taken : (state : State) (n : ℕ) (levels : List Bool) → StaysOut state levels → StaysOut state (take n levels)
+out_taken state zero levels h = tt
+out_taken state (suc n) [] h = tt
+out_taken state (suc n) (level ∷ levels) h = (h.0, out_taken (out_behind state level) n levels h.1)
 
 pub may_taken : (is_sender : Bool) (n : ℕ) (levels : List Bool) (node : Node) → MayGoOnBy is_sender levels node →
     MayGoOnBy is_sender (take n levels) node
 may_taken is_sender n levels node (sends_on start place is here ahead short) =
     sends_on start place is here (ahead_taken node.spelling place n levels ahead)
     (omega (arith, short, length-take n levels))
-may_taken is_sender n levels node (stays_off runs ones is here off) =
-    stays_off runs ones is here (off_taken ones n levels off)
+may_taken is_sender n levels node (waits_on is out) = waits_on is (out_taken node.state n levels out)
 
--- one level more in bus off
-pub off_more : (ones : ℕ) (levels : List Bool) (level : Bool) → StaysOff ones levels → ones_behind ones levels ≤ 9 →
-    StaysOff ones (levels ++ level ∷ [])
-off_more ones [] level h few = (few, tt)
-off_more ones (x ∷ xs) level h few = (h.0, off_more (with_level ones x) xs level h.1 few)
+-- one level more in bus off or in a flag
+pub out_more : (state : State) (levels : List Bool) (level : Bool) → StaysOut state levels →
+    stays_out level (out_behind_all state levels) ≡ true → StaysOut state (levels ++ level ∷ [])
+out_more state [] level h stays = (stays, tt)
+out_more state (x ∷ xs) level h stays = (h.0, out_more (out_behind state x) xs level h.1 stays)
 
-pub behind_more : (ones : ℕ) (levels : List Bool) (level : Bool) →
-    ones_behind ones (levels ++ level ∷ []) ≡ with_level (ones_behind ones levels) level
-behind_more ones [] level = refl
-behind_more ones (x ∷ xs) level = behind_more (with_level ones x) xs level
+pub behind_more : (state : State) (levels : List Bool) (level : Bool) →
+    out_behind_all state (levels ++ level ∷ []) ≡ out_behind (out_behind_all state levels) level
+behind_more state [] level = refl
+behind_more state (x ∷ xs) level = behind_more (out_behind state x) xs level
 
-pub few_at : (ones i : ℕ) (levels : List Bool) → StaysOff ones levels → i < length levels →
-    ones_behind ones (take i levels) ≤ 9
-few_at ones i [] h within = absurd (omega (arith, within))
-few_at ones zero (x ∷ xs) h within = h.0
-few_at ones (suc i) (x ∷ xs) h within = few_at (with_level ones x) i xs h.1 (omega (arith, within))
+pub stays_at : (state : State) (i : ℕ) (levels : List Bool) → StaysOut state levels → i < length levels →
+    stays_out (get_or levels i false) (out_behind_all state (take i levels)) ≡ true
+stays_at state i [] h within = absurd (omega (arith, within))
+stays_at state zero (x ∷ xs) h within = h.0
+stays_at state (suc i) (x ∷ xs) h within = stays_at (out_behind state x) i xs h.1 (omega (arith, within))
 
 -- the node behind so many bits at which nothing but its state changes
 abbrev behind_by : Node → State → ℕ → Node
@@ -83,57 +86,97 @@ sends_by node start place (level ∷ levels) here ahead short =
       rw (further, later) (sends_by mid start (place + 1) levels refl ahead.2 (omega (arith, short))),
     )
 
--- one in bus off
-off_leaves : (runs ones : ℕ) (counters : Counters) (now : ℕ) (level : Bool) → ones ≤ 9 →
-    LeavesPlainly (Recovering runs ones) counters now level (Recovering runs (with_level ones level))
-off_leaves runs ones counters now true few = off_longer_plain runs ones counters now (omega (arith, few))
-off_leaves runs ones counters now false few = off_broken_plain runs ones counters now
+-- one that stays in bus off or in a flag
+pub record IsOut (state : State) (level : Bool) : Type 0 where
+  pub plain : is_plain level state ≡ true
+  pub leaves : (counters : Counters) (now : ℕ) → LeavesPlainly state counters now level (out_behind state level)
+  pub drives : (spelling : Spelling) → level_in state spelling ≡ true
 
-few_is : (ones : ℕ) → ones ≤ 9 → nat_le ones 9 ≡ true
-few_is ones few =
-    elim (leb_tells ones 9) [ inl is ↦ is.0 | inr not ↦ absurd (let more = not.1 in omega (arith, few, more)) ]
+few_of : (n most : ℕ) → nat_le n most ≡ true → n ≤ most
+few_of n most h = elim (leb_tells n most) [ inl is ↦ is.1 | inr not ↦ absurd (let no = not.0 in cc (no, h)) ]
 
-off_by : (node : Node) (runs ones : ℕ) (levels : List Bool) → node.state ≡ Recovering runs ones →
-    StaysOff ones levels →
-    GoesOnBy false node levels (behind_by node (Recovering runs (ones_behind ones levels)) (length levels))
-off_by node runs ones [] here off =
+is_out : (state : State) (level : Bool) → stays_out level state ≡ true → IsOut state level
+is_out (Recovering runs ones) true h = record {
+  plain = h;
+  leaves = λ counters now. off_longer_plain runs ones counters now (let few = few_of ones 9 h in omega (arith, few));
+  drives = λ spelling. refl;
+}
+is_out (Recovering runs ones) false h = record {
+  plain = h;
+  leaves = λ counters now. off_broken_plain runs ones counters now;
+  drives = λ spelling. refl;
+}
+is_out (PassiveFlagging role owes ones zeros) true h = record {
+  plain = refl;
+  leaves = λ counters now. record {
+    goes = passive_recessive role owes ones zeros now (state_of (counts_of counters))
+        (let few = few_of ones 4 h in omega (arith, few));
+    reads_none = refl;
+  };
+  drives = λ spelling. refl;
+}
+is_out (PassiveFlagging role true ones zeros) false h = absurd (cc h)
+is_out (PassiveFlagging role false ones zeros) false h = record {
+  plain = refl;
+  leaves = λ counters now. record {
+    goes = passive_dominant role ones zeros now (state_of (counts_of counters))
+        (let few = few_of zeros 4 h in omega (arith, few));
+    reads_none = refl;
+  };
+  drives = λ spelling. refl;
+}
+is_out state level h = absurd (cc h)
+
+out_by : (node : Node) (levels : List Bool) → StaysOut node.state levels →
+    GoesOnBy false node levels (behind_by node (out_behind_all node.state levels) (length levels))
+out_by node [] out =
     let clock : node.clock + 0 ≡ node.clock = omega arith in
-    rw (sym here, clock) refl
-off_by node runs ones (level ∷ levels) here off =
-    let next = with_level ones level in
-    let mid = behind node (Recovering runs next) in
+    rw clock refl
+out_by node (level ∷ levels) out =
+    let next = out_behind node.state level in
+    let mid = behind node next in
     let n = length levels in
-    let later : node.clock + suc n ≡ node.clock + 1 + n = omega arith in (
+    let later : node.clock + suc n ≡ node.clock + 1 + n = omega arith in
+    let is = is_out node.state level out.0 in (
       mid,
-      goes_plainly node level (Recovering runs next) (ap (is_plain level) here ∙ few_is ones off.0)
-          (subst (λ s. LeavesPlainly s node.counters node.clock level (Recovering runs next)) (sym here)
-          (off_leaves runs ones node.counters node.clock level off.0)),
-      ap (λ state. level_in state node.spelling) here,
-      rw later (off_by mid runs next levels refl off.1),
+      goes_plainly node level next is.plain (is.leaves node.counters node.clock),
+      is.drives node.spelling,
+      rw later (out_by mid levels out.1),
     )
 
 -- whichever it is tells its state
 pub sending_by : (node : Node) (start place next n : ℕ) (levels : List Bool) (is_sender : Bool) →
     node.state ≡ Sending start place → n ≡ length levels → next ≡ min (place + n) 255 →
-    MayGoOnBy is_sender levels node → GoesOnBy is_sender node levels (behind_by node (Sending start next) n)
-sending_by node start place next n levels is_sender here size next_is (sends_on s p is there ahead short) =
+    place ≤ 255 → MayGoOnBy is_sender levels node →
+    GoesOnBy is_sender node levels (behind_by node (Sending start next) n)
+sending_by node start place next n levels is_sender here size next_is fits (sends_on s p is there ahead short) =
     let same : Sending s p ≡ Sending start place = sym there ∙ here in
     let started : s ≡ start = cc same in
     let placed : p ≡ place = cc same in
     let end : next ≡ p + length levels = omega (arith, size, next_is, short, placed) in
     rw (is, sym started, end, size) (sends_by node s p levels there ahead short)
-sending_by node start place next n levels is_sender here size next_is (stays_off runs ones is there off) =
-    absurd (let same : Recovering runs ones ≡ Sending start place = sym there ∙ here in cc same)
+sending_by node start place next n [] is_sender here size next_is fits (waits_on is out) =
+    let end : Sending start next ≡ node.state =
+    ap (λ p. Sending start p) (omega (arith, size, next_is, fits)) ∙ sym here in
+    let clock : node.clock + n ≡ node.clock = omega (arith, size) in
+    rw (end, clock) refl
+sending_by node start place next n (level ∷ levels) is_sender here size next_is fits (waits_on is out) =
+    absurd (let not : stays_out level node.state ≡ false = ap (stays_out level) here in
+    let stays = out.0 in cc (not, stays))
 
-pub recovering_by : (node : Node) (runs ones next n : ℕ) (levels : List Bool) (is_sender : Bool) →
-    node.state ≡ Recovering runs ones → n ≡ length levels →
-    (StaysOff ones levels → next ≡ ones_behind ones levels) → MayGoOnBy is_sender levels node →
-    GoesOnBy is_sender node levels (behind_by node (Recovering runs next) n)
-recovering_by node runs ones next n levels is_sender here size next_is (sends_on s p is there ahead short) =
-    absurd (let same : Sending s p ≡ Recovering runs ones = sym there ∙ here in cc same)
-recovering_by node runs ones next n levels is_sender here size next_is (stays_off r o is there off) =
-    let same : Recovering r o ≡ Recovering runs ones = sym there ∙ here in
-    let ran : r ≡ runs = cc same in
-    let seen : o ≡ ones = cc same in
-    let stays = subst (λ k. StaysOff k levels) seen off in
-    rw (is, next_is stays, size) (off_by node runs ones levels here stays)
+pub waiting_by : (node : Node) (next : State) (n : ℕ) (levels : List Bool) (is_sender : Bool) →
+    ((start place : ℕ) → node.state ≡ Sending start place → ⊥) → n ≡ length levels →
+    (StaysOut node.state levels → next ≡ out_behind_all node.state levels) → MayGoOnBy is_sender levels node →
+    GoesOnBy is_sender node levels (behind_by node next n)
+waiting_by node next n levels is_sender not size next_is (sends_on s p is there ahead short) = absurd (not s p there)
+waiting_by node next n levels is_sender not size next_is (waits_on is out) =
+    rw (is, next_is out, size) (out_by node levels out)
+
+-- no more levels than it has places
+pub short_by : (node : Node) (start place : ℕ) (levels : List Bool) (is_sender : Bool) →
+    node.state ≡ Sending start place → MayGoOnBy is_sender levels node → length levels ≤ 255
+short_by node start place levels is_sender here (sends_on s p is there ahead short) = omega (arith, short)
+short_by node start place [] is_sender here (waits_on is out) = omega arith
+short_by node start place (level ∷ levels) is_sender here (waits_on is out) =
+    absurd (let not : stays_out level node.state ≡ false = ap (stays_out level) here in
+    let stays = out.0 in cc (not, stays))

@@ -65,28 +65,37 @@ pub record GoesOn (old : Node) (level : Bool) (new : Node) : Type 0 where
   pub bit_is : bit_of new ≡ bit_of old + 1
   pub counts_none : counters_in new ≡ counters_in old
 
--- how many recessive levels in a row a node in bus off has seen behind this one
-abbrev pub with_level : ℕ → Bool → ℕ
-with_level ones true = ones + 1
-with_level ones false = 0
+-- a node stays in bus off with this level, for no run of eleven recessive bits ends with it, or in a passive error
+-- flag, for that doesn't end with it and counts nothing
+abbrev pub stays_out : Bool → State → Bool
+stays_out level (Recovering runs ones) = nat_le ones 9
+stays_out true (PassiveFlagging role owes ones zeros) = nat_le ones 4
+stays_out false (PassiveFlagging role owes ones zeros) = not owes && nat_le zeros 4
+stays_out level state = false
 
--- so behind these
-abbrev pub ones_behind : ℕ → List Bool → ℕ
-ones_behind ones [] = ones
-ones_behind ones (level ∷ levels) = ones_behind (with_level ones level) levels
+-- where it is then
+abbrev pub out_behind : State → Bool → State
+out_behind (Recovering runs ones) true = Recovering runs (ones + 1)
+out_behind (Recovering runs ones) false = Recovering runs 0
+out_behind (PassiveFlagging role owes ones zeros) true = PassiveFlagging role owes (ones + 1) 0
+out_behind (PassiveFlagging role owes ones zeros) false = PassiveFlagging role owes 0 (zeros + 1)
+out_behind state level = state
 
--- no run of eleven recessive levels ends with one of these, which come one after another
-abbrev pub StaysOff : ℕ → List Bool → Type 0
-StaysOff ones [] = Unit {0}
-StaysOff ones (level ∷ levels) = (ones ≤ 9) × StaysOff (with_level ones level) levels
+-- so with these levels, one after another
+abbrev pub StaysOut : State → List Bool → Type 0
+StaysOut state [] = Unit {0}
+StaysOut state (level ∷ levels) = (stays_out level state ≡ true) × StaysOut (out_behind state level) levels
+
+abbrev pub out_behind_all : State → List Bool → State
+out_behind_all state [] = state
+out_behind_all state (level ∷ levels) = out_behind_all (out_behind state level) levels
 
 -- The node goes on with these levels, one after another: it sends a frame, and they are the next that it drives, before
--- its ACK slot; or it is in bus off, and stays there.
+-- its ACK slot; or it stays in bus off, or in a passive error flag.
 pub data MayGoOnBy (is_sender : Bool) (levels : List Bool) (node : Node) : Type 0 where
   sends_on : (start place : ℕ) → is_sender ≡ true → node.state ≡ Sending start place →
       StandAhead node.spelling place levels → place + length levels ≤ 255 → MayGoOnBy is_sender levels node
-  stays_off : (runs ones : ℕ) → is_sender ≡ false → node.state ≡ Recovering runs ones → StaysOff ones levels →
-      MayGoOnBy is_sender levels node
+  waits_on : is_sender ≡ false → StaysOut node.state levels → MayGoOnBy is_sender levels node
 
 -- Bits with these levels, one after another, with each of which it goes on: it drives them where it sends, and drives
 -- recessive elsewhere.

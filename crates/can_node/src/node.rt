@@ -12,7 +12,7 @@ ghost use Rattle.can_node.specs.Node.{driven_by, may_begin, sends_from, with_beg
 use crate::listener::Listener;
 use crate::machine::{advance, begin, is_in_region, level_in, listens, may_start, sof_of};
 use crate::outcome::Outcome;
-use crate::plain_bits::{go_plainly, is_plain, ones_behind, stays_off};
+use crate::plain_bits::{go_plainly, is_plain, out_behind_all, stays_out};
 use crate::state::State;
 use can_confinement::{Counters, KnownCounts};
 use can_frame::{Frame, Reader, Spelled};
@@ -256,20 +256,18 @@ impl Node {
         }
     }
 
-    /// With how many of these levels, one after another, the node goes on in bus off: it stays there, up to the end of
-    /// a run of eleven recessive ones. 0 where it is not in bus off.
-    pub fn stays_off(&self, levels: &[bool]) -> usize
+    /// With how many of these levels, one after another, the node goes on in bus off or in a passive error flag: it
+    /// stays there, up to the end of a run of eleven recessive levels or of the flag, or a level that it counts. 0
+    /// where it is in neither.
+    pub fn stays_out(&self, levels: &[bool]) -> usize
         ensures few { result ≤ length levels.now }
-        ensures may { 0 < result → MayGoOnBy false (take result levels.now) self.now }
+        ensures may { MayGoOnBy false (take result levels.now) self.now }
     {
-        match self.state {
-            State::Recovering(_, ones) => stays_off(ones, levels),
-            _ => 0,
-        }
+        stays_out(self.state, levels)
     }
 
-    /// Bits with which the node goes on, one after another, in a frame that it sends or in bus off: what `go_on` does
-    /// with each of these levels.
+    /// Bits with which the node goes on, one after another, in a frame that it sends, in bus off or in a passive error
+    /// flag: what `go_on` does with each of these levels.
     pub fn go_on_by(&mut self, levels: &[bool])
         requires goes { (is_sender : Bool) × MayGoOnBy is_sender levels.now self.old }
         requires room { bit_of self.old + length levels.now ≤ u64.MAX }
@@ -277,10 +275,10 @@ impl Node {
             → GoesOnBy is_sender self.old levels.now self.new }
     {
         self.clock += levels.len() as u64;
-        match &mut self.state {
-            State::Sending(_start, place) => *place = place.saturating_add(levels.len() as u8),
-            State::Recovering(_runs, ones) => *ones = ones_behind(*ones, levels),
-            _ => {}
+        if let State::Sending(_start, place) = &mut self.state {
+            *place = place.saturating_add(levels.len() as u8);
+            return;
         }
+        self.state = out_behind_all(self.state, levels);
     }
 }

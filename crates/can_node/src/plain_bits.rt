@@ -1,9 +1,10 @@
 //! Bits at which a node goes on that neither reads nor sends a frame: nothing begins, nothing is told and nothing
 //! counted.
 
-ghost use Rattle.std.specs.Prelude.{◌≡◌, ◌≤◌, ℕ, true, false, length, take};
+ghost use Rattle.std.specs.Prelude.{◌≡◌, ◌≤◌, ℕ, true, false, IfSome, IfNone, length, take};
 ghost use Rattle.can_confinement.specs.declared.counters.Counters.{Counters as CountersValue};
-ghost use Rattle.can_node.specs.PlainBits.{LeavesPlainly, StaysOff, is_plain, ones_behind, overlooks, with_level};
+ghost use Rattle.can_node.specs.PlainBits.{LeavesPlainly, StaysOut, is_plain, out_behind, out_behind_all, overlooks};
+ghost use Rattle.can_node.specs.PlainBits.{stays_out};
 
 use crate::machine::{is_receiver, turn_of};
 use crate::state::State;
@@ -69,37 +70,54 @@ fn count_on(state: &mut State, level: bool) -> bool
     false
 }
 
-/// How many recessive levels in a row a node in bus off has seen behind this one, where those were so many before.
-fn with_level(ones: u8, level: bool) -> u8
-    ensures { ones ≤ 9 → result ≡ with_level ones level }
+/// Where a node in this state is behind a bit with this level, if it is in bus off or in a passive error flag and stays
+/// there: no run of eleven recessive bits ends, nor the flag, and nothing is counted. `None` elsewhere.
+#[inline(always)]
+fn out_behind(state: State, level: bool) -> Option<State>
+    ensures stays { IfSome result (λ next. (stays_out level state ≡ true) × (next ≡ out_behind state level)) }
+    ensures none { IfNone result (stays_out level state ≡ false) }
 {
-    if level { ones.saturating_add(1) } else { 0 }
+    match state {
+        State::Recovering(runs, ones) if ones <= 9 => {
+            Some(State::Recovering(runs, if level { ones + 1 } else { 0 }))
+        }
+        State::PassiveFlagging(role, owes, ones, _) if level && ones <= 4 => {
+            Some(State::PassiveFlagging(role, owes, ones + 1, 0))
+        }
+        State::PassiveFlagging(role, false, _, zeros) if !level && zeros <= 4 => {
+            Some(State::PassiveFlagging(role, false, 0, zeros + 1))
+        }
+        _ => None,
+    }
 }
 
-/// With how many of these levels a node stays in bus off that has seen so many recessive ones in a row.
-pub(crate) fn stays_off(ones: u8, levels: &[bool]) -> usize
+/// With how many of these levels, one after another, a node in this state stays so.
+pub(crate) fn stays_out(state: State, levels: &[bool]) -> usize
     ensures few { result ≤ length levels.now }
-    ensures off { StaysOff ones (take result levels.now) }
+    ensures out { StaysOut state (take result levels.now) }
 {
-    let mut seen = ones;
+    let mut state = state;
     for (place, level) in levels.iter().enumerate() {
-        if seen > 9 {
+        let Some(next) = out_behind(state, *level) else {
             return place;
-        }
-        seen = with_level(seen, *level);
+        };
+        state = next;
     }
     levels.len()
 }
 
-/// How many recessive levels in a row it has seen behind these, with which it stays there.
-pub(crate) fn ones_behind(ones: u8, levels: &[bool]) -> u8
-    ensures { StaysOff ones levels.now → result ≡ ones_behind ones levels.now }
+/// Where it is behind these levels, with which it stays so.
+pub(crate) fn out_behind_all(state: State, levels: &[bool]) -> State
+    ensures { StaysOut state levels.now → result ≡ out_behind_all state levels.now }
 {
-    let mut seen = ones;
+    let mut state = state;
     for level in levels {
-        seen = with_level(seen, *level);
+        let Some(next) = out_behind(state, *level) else {
+            return state;
+        };
+        state = next;
     }
-    seen
+    state
 }
 
 /// One bit of a node in such a state, at which it samples this level.

@@ -1,4 +1,4 @@
--- Bits that one node sends while all others rest or are in bus off, one after another.
+-- Bits that one node sends while all others rest or stay in bus off or in passive error flags, one after another.
 use Rattle.std.proofs.Common.{◌≡◌, ◌≢◌, ℕ, zero, suc, ◌+◌, ◌≤◌, ◌&&◌, nat_eq, cond, Bool, true, false, Some, List}
 use Rattle.std.proofs.Common.{[], ◌∷◌, ◌++◌, ◌-◌, length, take, drop, slice_get, refl, sym, ap, subst, arith, inl, inr}
 use Rattle.std.proofs.Common.{length-append, ◌∙◌}
@@ -12,7 +12,7 @@ use Rattle.can_station.specs.declared.member.Member.{Member}
 use Rattle.can_station.specs.Members.{drives_at}
 use Rattle.can_station.specs.Places.{AtPlaces}
 use Rattle.can_station.specs.RestingNodes.{AllGo, GoesAsItMay, IfAwake, MayGoBy, MemberGoes, MemberGoesBy}
-use Rattle.can_station.specs.RestingNodes.{OthersStayOff, passes}
+use Rattle.can_station.specs.RestingNodes.{OthersStayOut, passes}
 use Rattle.can_station.proofs.GoingBy.{by_taken}
 use Rattle.can_station.proofs.Places.{same_some, some_there}
 use Rattle.can_station.proofs.Spans.{all_pass}
@@ -202,7 +202,7 @@ run_beside place past bit (level ∷ sent) rest after s0 s1 o0 o1 m there awake 
 
 -- each goes on as it may
 all_run : (place bit : ℕ) (sent : List Bool) (old new : List Member) →
-    ((m : Member) → slice_get old place ≡ Some m → MayGoBy true bit sent m) → OthersStayOff place bit sent old →
+    ((m : Member) → slice_get old place ≡ Some m → MayGoBy true bit sent m) → OthersStayOut place bit sent old →
     AtPlaces (λ k. IfAwake (GoesAsItMay sent)) old new → AllRun place bit sent old new
 all_run place bit sent old new sender others h = record {
   at = λ k a b p q. record {
@@ -218,7 +218,7 @@ all_run place bit sent old new sender others h = record {
 
 pub sent_beside : (place past bit : ℕ) (sent : List Bool) (rest : Rest) (after : Listener)
     (s0 s1 o0 o1 : List Member) (m : Member) → slice_get s0 place ≡ Some m → length o0 ≤ past →
-    MayGoBy true bit sent m → OthersStayOff place bit sent s0 → OthersStayOff past bit sent o0 →
+    MayGoBy true bit sent m → OthersStayOut place bit sent s0 → OthersStayOut past bit sent o0 →
     AtPlaces (λ k. IfAwake (GoesAsItMay sent)) s0 s1 → AtPlaces (λ k. IfAwake (GoesAsItMay sent)) o0 o1 →
     ReadsAlongBy rest.listener sent after → GoQuietlyBy bit sent rest (with_listener rest after) s0 s1 o0 o1
 sent_beside place past bit sent rest after s0 s1 o0 o1 m there beyond may stay stay_too go go_too along =
@@ -229,22 +229,31 @@ sent_beside place past bit sent rest after s0 s1 o0 o1 m there beyond may stay s
     along
 
 -- so with the first of the levels
-pub off_taken : (place bit n : ℕ) (levels : List Bool) (members : List Member) →
-    OthersStayOff place bit levels members → OthersStayOff place bit (take n levels) members
-off_taken place bit n levels members h k m e not awake = by_taken false bit n levels m (h k m e not awake)
+pub out_taken : (place bit n : ℕ) (levels : List Bool) (members : List Member) →
+    OthersStayOut place bit levels members → OthersStayOut place bit (take n levels) members
+out_taken place bit n levels members h k m e not awake = by_taken false bit n levels m (h k m e not awake)
 
-pub off_of_fewer : (bit first n : ℕ) (levels : List Bool) (m : Member) → n ≤ length (take first levels) →
+pub out_of_fewer : (bit first n : ℕ) (levels : List Bool) (m : Member) → n ≤ length (take first levels) →
     MayGoBy false bit (take n (take first levels)) m → MayGoBy false bit (take n levels) m
-off_of_fewer bit first n levels m few = subst (λ ls. MayGoBy false bit ls m)
+out_of_fewer bit first n levels m few = subst (λ ls. MayGoBy false bit ls m)
     (take-take n first levels (omega (arith, few, length-take first levels)))
 
 pub each_may : (place bit n : ℕ) (ahead : List Bool) (members : List Member) →
     ((sender : Member) → slice_get members place ≡ Some sender → MayGoBy true bit ahead sender) →
-    OthersStayOff place bit ahead members → (k : ℕ) (m : Member) → slice_get members k ≡ Some m → m.rests ≡ false →
+    OthersStayOut place bit ahead members → (k : ℕ) (m : Member) → slice_get members k ≡ Some m → m.rests ≡ false →
     (is_sender : Bool) × (at : ℕ) × MayGoBy is_sender at (take n ahead) m
 each_may place bit n ahead members sender others k m e awake = elim (eqb_tells k place) [
   | inl same ↦ (true, bit, by_taken true bit n ahead m (sender m (ap (slice_get members) (sym same.1) ∙ e)))
   | inr other ↦ (false, bit, by_taken false bit n ahead m (others k m e other.1 awake))
+]
+
+pub each_on : (place bit : ℕ) (ahead : List Bool) (members : List Member) →
+    ((sender : Member) → slice_get members place ≡ Some sender → MayGoBy true bit ahead sender) →
+    OthersStayOut place bit ahead members → (k : ℕ) (m : Member) → slice_get members k ≡ Some m → m.rests ≡ false →
+    m.on ≤ bit
+each_on place bit ahead members sender others k m e awake = elim (eqb_tells k place) [
+  | inl same ↦ (sender m (ap (slice_get members) (sym same.1) ∙ e)).is_on
+  | inr other ↦ (others k m e other.1 awake).is_on
 ]
 
 -- none stands behind the last

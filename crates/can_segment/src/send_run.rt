@@ -1,13 +1,14 @@
-//! Bits of the stuffed region of a frame, many at once: one node sends, and all others rest or are in bus off.
+//! Bits of the stuffed region of a frame, many at once: one node sends, and all others rest, are in bus off or are in
+//! passive error flags.
 
 ghost use Rattle.std.specs.Prelude.{◌≡◌, ◌≤◌, ◌<◌, ◌+◌, ◌-◌, ◌++◌, true, Bool, List, Some, IfSome, length, slice_get};
 ghost use Rattle.std.specs.Prelude.{vec_capacity, vec_len};
 ghost use Rattle.can_segment.specs.Rests.{GoQuietlyBy};
-ghost use Rattle.can_station.specs.RestingNodes.{AwakeWithin, HasRoom, MayGoBy, OthersStayOff};
+ghost use Rattle.can_station.specs.RestingNodes.{AwakeWithin, HasRoom, MayGoBy, OthersStayOut};
 ghost use Rattle.can_station.specs.declared.member.Member.{Member};
 
 use crate::rest::Rest;
-use can_station::{Member, Span, all_stay_off, go_on_by};
+use can_station::{Member, Span, all_stay_out, go_on_by};
 
 /// The first of the places of this span whose node is awake and sends a frame.
 fn first_sender(members: &[Member], awake: Span) -> Option<usize>
@@ -24,7 +25,7 @@ fn first_sender(members: &[Member], awake: Span) -> Option<usize>
 }
 
 /// The levels that the node at this place drives next in a frame that it sends, `most` at most, as far as all other
-/// nodes that are awake stay in bus off with them.
+/// nodes that are awake stay in bus off or in passive error flags with them.
 fn ahead_beside<'a>(
     senders: &'a [Member],
     place: usize,
@@ -40,18 +41,18 @@ fn ahead_beside<'a>(
     ensures few { length result.now ≤ most }
     ensures may { 0 < length result.now → (sender : Member) → slice_get senders.now place ≡ Some sender
         → MayGoBy true bit result.now sender }
-    ensures off { 0 < length result.now → OthersStayOff place bit result.now senders.now }
-    ensures off_too { 0 < length result.now → OthersStayOff (length others.now) bit result.now others.now }
+    ensures off { 0 < length result.now → OthersStayOut place bit result.now senders.now }
+    ensures off_too { 0 < length result.now → OthersStayOut (length others.now) bit result.now others.now }
 {
     let ahead = senders[place].ahead(bit, most);
-    let beside = all_stay_off(senders, bit, ahead, awake, place);
-    let beside = all_stay_off(others, bit, &ahead[..beside], awake_others, others.len());
+    let beside = all_stay_out(senders, bit, ahead, awake, place);
+    let beside = all_stay_out(others, bit, &ahead[..beside], awake_others, others.len());
     &ahead[..beside]
 }
 
 /// As many of the next bits as the one of these nodes at this place sends in the stuffed region of its frame while the
-/// listener follows for those that rest and all others are in bus off: `most` at most. Their levels are kept behind
-/// those of `levels`, which has room for them.
+/// listener follows for those that rest, and all others stay in bus off or in passive error flags: `most` at most.
+/// Their levels are kept behind those of `levels`, which has room for them.
 fn send_beside(
     levels: &mut Vec<bool>,
     senders: &mut [Member],
@@ -91,9 +92,9 @@ fn send_beside(
     go_on_by(others, sent, awake_others);
 }
 
-/// As many of the next bits as one node sends in the stuffed region of its frame while all others rest or are in bus
-/// off: `most` at most, and none where that is not so. Their levels are kept behind those of `levels`, which has room
-/// for them.
+/// As many of the next bits as one node sends in the stuffed region of its frame while all others rest or stay in bus
+/// off or in passive error flags: `most` at most, and none where that is not so. Their levels are kept behind those of
+/// `levels`, which has room for them.
 pub(crate) fn send_run(
     levels: &mut Vec<bool>,
     talkers: &mut [Member],

@@ -11,7 +11,7 @@ use Rattle.can_node.proofs.GoingBy.{may_taken}
 use Rattle.can_station.specs.declared.member.Member.{Member}
 use Rattle.can_station.specs.declared.span.Span.{Span}
 use Rattle.can_station.specs.Deeds.{IsQuiet}
-use Rattle.can_station.specs.RestingNodes.{AwakeWithin, MayGoBy, MemberGoesBy, OthersStayOff}
+use Rattle.can_station.specs.RestingNodes.{AwakeWithin, MayGoBy, MemberGoesBy, OthersStayOut}
 use Rattle.can_station.proofs.Places.{same_some}
 
 -- the member with this node
@@ -68,32 +68,32 @@ by_taken is_sender bit n levels member h = record {
 }
 
 -- so do the first of these but the one at this place, with so many of the levels
-abbrev pub OffBelow : ℕ → ℕ → List Bool → List Member → ℕ → Type 0
-OffBelow but bit levels members i = (k : ℕ) (m : Member) → k < i → slice_get members k ≡ Some m → k ≢ but →
+abbrev pub OutBelow : ℕ → ℕ → List Bool → List Member → ℕ → Type 0
+OutBelow but bit levels members i = (k : ℕ) (m : Member) → k < i → slice_get members k ≡ Some m → k ≢ but →
     m.rests ≡ false → MayGoBy false bit levels m
 
-pub off_from : (but bit : ℕ) (levels : List Bool) (members : List Member) (span : Span) → AwakeWithin span members →
-    OffBelow but bit levels members span.from
-off_from but bit levels members span h k m less e not awake =
+pub out_from : (but bit : ℕ) (levels : List Bool) (members : List Member) (span : Span) → AwakeWithin span members →
+    OutBelow but bit levels members span.from
+out_from but bit levels members span h k m less e not awake =
     absurd (let is = h.outside k m e (inl less) in cc (is, awake))
 
-pub off_passed : (but bit : ℕ) (levels : List Bool) (members : List Member) (i : ℕ) → i ≡ but →
-    OffBelow but bit levels members i → OffBelow but bit levels members (i + 1)
-off_passed but bit levels members i here below k m less e not awake =
+pub out_passed : (but bit : ℕ) (levels : List Bool) (members : List Member) (i : ℕ) → i ≡ but →
+    OutBelow but bit levels members i → OutBelow but bit levels members (i + 1)
+out_passed but bit levels members i here below k m less e not awake =
     below k m (omega (arith, less, here, not)) e not awake
 
-pub off_step : (but bit : ℕ) (levels : List Bool) (members : List Member) (i n : ℕ) (m : Member) →
+pub out_step : (but bit : ℕ) (levels : List Bool) (members : List Member) (i n : ℕ) (m : Member) →
     slice_get members i ≡ Some m → (m.rests ≡ false → MayGoBy false bit (take n levels) m) →
-    OffBelow but bit levels members i → OffBelow but bit (take n levels) members (i + 1)
-off_step but bit levels members i n m here may below k x less e not awake = elim (cases_eq k i) [
+    OutBelow but bit levels members i → OutBelow but bit (take n levels) members (i + 1)
+out_step but bit levels members i n m here may below k x less e not awake = elim (cases_eq k i) [
   | inl is ↦ (let same : m ≡ x = same_some m x (sym here ∙ ap (slice_get members) (sym is) ∙ e) in
       subst (MayGoBy false bit (take n levels)) same (may (subst (λ y. y.rests ≡ false) (sym same) awake)))
   | inr other ↦ by_taken false bit n levels x (below k x (omega (arith, less, other)) e not awake)
 ]
 
-pub off_to : (but bit : ℕ) (levels : List Bool) (members : List Member) (span : Span) (i : ℕ) → span.to ≤ i →
-    AwakeWithin span members → OffBelow but bit levels members i → OthersStayOff but bit levels members
-off_to but bit levels members span i all h below k m e not awake = elim (cases_lt k i) [
+pub out_to : (but bit : ℕ) (levels : List Bool) (members : List Member) (span : Span) (i : ℕ) → span.to ≤ i →
+    AwakeWithin span members → OutBelow but bit levels members i → OthersStayOut but bit levels members
+out_to but bit levels members span i all h below k m e not awake = elim (cases_lt k i) [
   | inl less ↦ below k m less e not awake
   | inr more ↦ absurd (let is = h.outside k m e (inr (omega (arith, all, more))) in cc (is, awake))
 ]

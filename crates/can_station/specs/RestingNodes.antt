@@ -238,16 +238,16 @@ abbrev pub AllGo : ℕ → Bool → List Member → List Member → Type 0
 AllGo bit level = AtPlaces (λ k. IfAwake (MemberGoes bit level))
 
 -- It goes on with these levels, one after another from this bit on, and nothing is told of it: it sends them in a
--- frame, or is in bus off and stays there.
+-- frame, or stays in bus off or in a passive error flag.
 pub record MayGoBy (is_sender : Bool) (bit : ℕ) (levels : List Bool) (member : Member) : Type 0 where
   pub awake : member.rests ≡ false
   pub is_on : member.on ≤ bit
   pub quiet : IsQuiet member.deed
   pub goes : MayGoOnBy is_sender levels member.station.node
 
--- so do all of these that are awake in bus off, but the one at this place
-abbrev pub OthersStayOff : ℕ → ℕ → List Bool → List Member → Type 0
-OthersStayOff place bit levels members = (k : ℕ) (m : Member) → slice_get members k ≡ Some m → k ≢ place →
+-- so do all of these that are awake and send nothing, but the one at this place
+abbrev pub OthersStayOut : ℕ → ℕ → List Bool → List Member → Type 0
+OthersStayOut place bit levels members = (k : ℕ) (m : Member) → slice_get members k ≡ Some m → k ≢ place →
     m.rests ≡ false → MayGoBy false bit levels m
 
 -- one that is awake samples these levels, one after another, as it goes on with each: it drives them where it sends,

@@ -4,7 +4,7 @@ ghost use Rattle.std.specs.Prelude.{◌≡◌, ◌≤◌, ◌<◌, ◌+◌, ℕ,
 ghost use Rattle.can_node.specs.Node.{bit_of};
 ghost use Rattle.can_station.specs.Places.{AtPlaces};
 ghost use Rattle.can_station.specs.RestingNodes.{AllGo, AwakeWithin, GoesAsItMay, HasRoom, IfAwake, MayAllGo, MayGoBy};
-ghost use Rattle.can_station.specs.RestingNodes.{OthersStayOff};
+ghost use Rattle.can_station.specs.RestingNodes.{OthersStayOut};
 ghost use Rattle.can_station.specs.declared.member.Member.{Member};
 
 use crate::member::Member;
@@ -39,17 +39,17 @@ pub fn go_on(members: &mut [Member], bit: u64, level: bool, awake: Span)
     }
 }
 
-/// With how many of these levels, one after another from this bit on, each of these nodes that is awake goes on in bus
-/// off, but the one at this place. All but those at the places of the span rest.
-pub fn all_stay_off(members: &[Member], bit: u64, levels: &[bool], awake: Span, but: usize) -> usize
+/// With how many of these levels, one after another from this bit on, each of these nodes that is awake stays in bus
+/// off or in a passive error flag, but the one at this place. All but those at the places of the span rest.
+pub fn all_stay_out(members: &[Member], bit: u64, levels: &[bool], awake: Span, but: usize) -> usize
     requires { AwakeWithin awake members.now }
     ensures few { result ≤ length levels.now }
-    ensures off { 0 < result → OthersStayOff but bit (take result levels.now) members.now }
+    ensures off { 0 < result → OthersStayOut but bit (take result levels.now) members.now }
 {
     let mut count = levels.len();
     for place in awake.from..awake.to {
         if place != but {
-            count = members[place].stays_off(bit, &levels[..count]);
+            count = members[place].stays_out(bit, &levels[..count]);
         }
     }
     count

@@ -20,7 +20,7 @@ mod wake;
 
 pub use crate::event::{Event, Label, Told};
 pub use crate::fault_order::FaultOrder;
-pub use crate::going::{all_go_on, all_stay_off, go_on, go_on_by};
+pub use crate::going::{all_go_on, all_stay_out, go_on, go_on_by};
 pub use crate::member::{Deed, Member};
 pub use crate::members::{
     driven_by_all, sample_controllers, sample_nodes, start_controllers, start_talkers,

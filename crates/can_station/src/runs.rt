@@ -22,9 +22,9 @@ impl Member {
         self.station.node.ahead(most)
     }
 
-    /// With how many of these levels, one after another from this bit on, it goes on in bus off, and nothing is told of
-    /// it (`Node::stays_off`); with all where it rests.
-    pub(crate) fn stays_off(&self, bit: u64, levels: &[bool]) -> usize
+    /// With how many of these levels, one after another from this bit on, it goes on in bus off or in a passive error
+    /// flag, and nothing is told of it (`Node::stays_out`); with all where it rests.
+    pub(crate) fn stays_out(&self, bit: u64, levels: &[bool]) -> usize
         ensures few { result ≤ length levels.now }
         ensures may { 0 < result → self.now.rests ≡ false → MayGoBy false bit (take result levels.now) self.now }
     {
@@ -34,7 +34,7 @@ impl Member {
         if bit < self.on || !self.deed.is_quiet() {
             return 0;
         }
-        self.station.node.stays_off(levels)
+        self.station.node.stays_out(levels)
     }
 
     /// If it is awake it goes on with these levels, one after another (`Node::go_on_by`).

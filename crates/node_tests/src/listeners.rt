@@ -32,8 +32,8 @@ fn go_on(node: &mut Node, level: bool) -> Option<Outcome> {
     Some(Outcome::Nothing)
 }
 
-/// The node goes on with these levels, one after another, if they are the next that it drives in a frame, and it has the
-/// bits left.
+/// The node goes on with these levels, one after another, if they are the next that it drives in a frame, and it has
+/// the bits left.
 fn send_on(node: &mut Node, levels: &[bool]) -> bool {
     if levels.is_empty() || levels.len() > 100 || node.bit() > 1000 {
         return false;
@@ -46,8 +46,8 @@ fn send_on(node: &mut Node, levels: &[bool]) -> bool {
 }
 
 /// The node goes on in bus off with as many of these levels as it can, if it has the bits left: how many those are.
-fn stay_off(node: &mut Node, levels: &[bool]) -> usize {
-    let count = node.stays_off(levels);
+fn stay_out(node: &mut Node, levels: &[bool]) -> usize {
+    let count = node.stays_out(levels);
     if count == 0 || count > 100 || node.bit() > 10_000 {
         return 0;
     }
@@ -176,11 +176,11 @@ fn one_goes_on_through_flags_and_in_bus_off(rt: HostRuntime) {
     for level in [true, true, true, false] {
         assert_eq!(rt; go_on(&mut node, level), Some(Outcome::Nothing));
     }
-    assert_eq!(rt; stay_off(&mut node, &[true, true, true, true, false]), 5);
+    assert_eq!(rt; stay_out(&mut node, &[true, true, true, true, false]), 5);
     for run in 1..=128u8 {
-        assert_eq!(rt; stay_off(&mut node, &[true; 7]), 7);
-        assert_eq!(rt; stay_off(&mut node, &[true; 7]), 3);
-        assert_eq!(rt; stay_off(&mut node, &[true, false]), 0);
+        assert_eq!(rt; stay_out(&mut node, &[true; 7]), 7);
+        assert_eq!(rt; stay_out(&mut node, &[true; 7]), 3);
+        assert_eq!(rt; stay_out(&mut node, &[true, false]), 0);
         assert_eq!(rt; go_on(&mut node, true), None);
         let comes_back = run == 128;
         assert_eq!(rt;

@@ -1,15 +1,22 @@
-use Rattle.std.proofs.Common.{refl}
-use Rattle.can_node.proofs.GoingBy.{recovering_by, sending_by}
+use Rattle.std.proofs.Common.{rules, ◌≤◌, refl, arith}
+use Rattle.can_node.proofs.GoingBy.{sending_by, short_by, waiting_by}
 use Rattle.can_node.proofs.node.Node.go_on_by.Goals as goal
+
+pub overflow_cast-levels : goal.overflow_cast-levels
+overflow_cast-levels c =
+    let here = c.in-Sending in
+    let may = c.requires.goes in
+    let short = short_by c.args.self.now here._start here.place c.args.levels.now may.0 here.is may.1 in
+    omega (arith, short)
 
 pub returns-in-Sending : goal.returns-in-Sending
 returns-in-Sending c is_sender may =
     let here = c.in-Sending in
+    let fits : here.place ≤ 255 = search rules in
     sending_by c.args.self.now here._start here.place c.saturating_add.result _ c.args.levels.now is_sender here.is
-    refl c.saturating_add.ensures may
+    refl c.saturating_add.ensures fits may
 
-pub returns-in-Recovering : goal.returns-in-Recovering
-returns-in-Recovering c is_sender may =
-    let here = c.in-Recovering in
-    recovering_by c.args.self.now here._runs here.ones c.ones_behind.result _ c.args.levels.now is_sender here.is
-    refl c.ones_behind.ensures may
+pub returns : goal.returns
+returns c is_sender may =
+    waiting_by c.args.self.now c.out_behind_all-self.result _ c.args.levels.now is_sender c.in_default.not-Sending refl
+    c.out_behind_all-self.ensures may

@@ -1,5 +1,0 @@
-use Rattle.std.proofs.Common.{false, arith}
-use Rattle.node_tests.proofs.listeners.stay_off.Goals as goal
-
-pub go_on_by-requires-clause-goes : goal.go_on_by-requires-clause-goes
-go_on_by-requires-clause-goes c = (false, c.stays_off-count.ensures.may (omega (arith, c.if-count-eq0.false)))
