@@ -155,13 +155,6 @@ impl ClockSeat {
         limit >= self.pace.bits || limit.saturating_sub(made) > self.pace.slack / 2
     }
 
-    /// How many bits the clock that is furthest behind is short of where a clock at `made`, which may go to `limit`, is
-    /// let far enough.
-    pub(crate) fn missing(&self, made: u64, limit: u64) -> u64 {
-        let enough = made.saturating_add(self.pace.slack / 2).saturating_add(1);
-        enough.min(self.pace.bits).saturating_sub(limit)
-    }
-
     /// Whether all clocks were seen at the run's bits.
     pub(crate) fn all_done(&mut self) -> bool
         ensures same { self.new.pace ≡ self.old.pace }

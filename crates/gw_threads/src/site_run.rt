@@ -13,16 +13,7 @@ use std::sync::Wait;
 use std::thread;
 
 /// How many looks at the other clocks a segment that waits makes before it gives its processor away.
-const LOOKS: u32 = 16;
-/// So many pauses take about as long as a segment takes for a bit.
-const PAUSES_A_BIT: u64 = 2;
-
-/// Waits about as long as another segment takes for so many bits.
-fn pause(bits: u64) {
-    for _ in 0..bits.min(64) * PAUSES_A_BIT {
-        spin_loop();
-    }
-}
+const LOOKS: u32 = 64;
 
 /// How far the clock may go, which is beyond `made`: as far as it may anyway, or what the others let it once they have
 /// come so far. Where it waits for them, it does so until half of the slack is free, so that it need not wait again at
@@ -50,13 +41,12 @@ fn wait_for_others<R: Wait>(
         if clock.is_stopped() {
             return Err(ThreadFault::Memory);
         }
-        // those that it waits for run on other processors, if there are enough of them; each look takes a clock's word
-        // from the one that ticks it, so it looks again when that may have come far enough
+        // those that it waits for run on other processors, if there are enough of them
         looks = looks.wrapping_add(1);
         if looks % LOOKS == 0 {
             thread::yield_now();
         } else {
-            pause(clock.missing(made, limit));
+            spin_loop();
         }
     }
     unreachable!()
