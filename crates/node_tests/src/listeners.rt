@@ -193,6 +193,35 @@ fn one_goes_on_through_flags_and_in_bus_off(rt: HostRuntime) {
 }
 
 #[test]
+fn a_passive_flag_waits_for_six_equal_levels(rt: HostRuntime) {
+    let mut node = synchronized();
+    // each SOF that it drives is sampled recessive, which adds 8 to its transmit error count: the 17th is met when that
+    // is 128, and its flag is passive
+    let mut errors = 0u8;
+    for _ in 0..1000u16 {
+        let starts = node.wants_start();
+        if starts {
+            node.begin(Frame::default());
+        }
+        let level = starts || node.drive();
+        if sample(&mut node, level) == Some(Outcome::Errored(ErrorKind::Bit)) {
+            errors = errors.saturating_add(1);
+        }
+        if errors == 17 {
+            break;
+        }
+    }
+    assert_eq!(rt; node.counters().tec(), 136);
+    // the sixth equal level is the last one
+    assert_eq!(rt; node.stays_out(&[true; 8]), 5);
+    assert_eq!(rt; node.stays_out(&[false; 8]), 5);
+    let others = [true, true, false, true, true, true, true, true, true, true];
+    assert_eq!(rt; stay_out(&mut node, &others), 8);
+    assert_eq!(rt; go_on(&mut node, true), Some(Outcome::Nothing));
+    assert_eq!(rt; node.stays_out(&others), 0);
+}
+
+#[test]
 fn most_levels_are_read_in_a_short_way(rt: HostRuntime) {
     let mut reader = Reader::new();
     for (place, byte) in FRAME.as_bytes().iter().enumerate() {
