@@ -1,5 +1,5 @@
 -- Bits that one node sends while all others rest or stay in bus off or in passive error flags, one after another.
-use Rattle.std.proofs.Common.{◌≡◌, ◌≢◌, ℕ, zero, suc, ◌+◌, ◌≤◌, ◌&&◌, nat_eq, cond, Bool, true, false, Some, List}
+use Rattle.std.proofs.Common.{◌≡◌, ◌≢◌, ℕ, zero, suc, ◌+◌, ◌<◌, ◌≤◌, ◌&&◌, nat_eq, cond, Bool, true, false, Some, List}
 use Rattle.std.proofs.Common.{[], ◌∷◌, ◌++◌, ◌-◌, length, take, drop, slice_get, refl, sym, ap, subst, arith, inl, inr}
 use Rattle.std.proofs.Common.{length-append, ◌∙◌}
 use Rattle.std.proofs.lemmas.Bool.Decides.{eqb_tells}
@@ -268,6 +268,20 @@ pub newest : (made sent : List Bool) →
 newest made sent =
     let size : length (made ++ sent) - length made ≡ length sent = omega (arith, length-append made sent) in
     rw (size, drop-append_seam made sent) (take_all (length sent) sent (omega arith))
+
+-- what is kept of a run behind what was made: its levels are the newest
+pub record Kept (made ahead all : List Bool) (count at : ℕ) : Type 0 where
+  pub some : 0 < length ahead
+  pub at_is : at ≡ length made
+  pub newest_is : take (length all - at) (drop at all) ≡ take count ahead
+
+pub kept : (made ahead all grown : List Bool) (count at : ℕ) → (count ≡ 0 → ⊥) → count ≤ length ahead → all ≡ grown →
+    grown ≡ made ++ take count ahead → at ≡ length made → Kept made ahead all count at
+kept made ahead all grown count at not_none few same grows here = record {
+  some = omega (arith, not_none, few);
+  at_is = here;
+  newest_is = rw (same, grows, here) (newest made (take count ahead));
+}
 
 -- whichever of both lists has the sender
 and_swaps : (a b : Bool) → (a && b) ≡ (b && a)

@@ -1,96 +1,91 @@
-use Rattle.std.proofs.Common.{rules, ◌≡◌, ◌≤◌, ◌<◌, ◌-◌, true, is_ok, take, drop, length}
-use Rattle.std.proofs.Common.{arith, subst, ◌∙◌}
+use Rattle.std.proofs.Common.{rules, ◌≡◌, ◌≤◌, true, is_ok, take, length}
+use Rattle.std.proofs.Common.{arith, subst}
 use Rattle.std.proofs.lemmas.List.{length-take}
 use Rattle.can_station.specs.Places.{AtPlaces}
 use Rattle.can_station.specs.RestingNodes.{GoesAsItMay, IfAwake, MayGoBy, OthersStayOut}
 use Rattle.can_station.proofs.GoingBy.{by_taken}
 use Rattle.can_station.proofs.Places.{some_there}
-use Rattle.can_segment.proofs.SendRuns.{each_may, each_on, newest, none_at, out_taken, sent_beside}
+use Rattle.can_segment.proofs.SendRuns.{each_may, each_on, kept, none_at, out_taken, sent_beside}
 use Rattle.can_segment.proofs.send_run.send_beside.Goals as goal
 
 pub go_on_by-requires-clause-goes : goal.go_on_by-requires-clause-goes
 go_on_by-requires-clause-goes c k m e awake =
+    let made = c.args.levels.now.items in
     let ahead = c.ahead_beside-ahead.result.now in
     let count = c.reads_along_by-count.result in
-    let some : 0 < length ahead = omega (arith, c.if-count-eq0.false, c.reads_along_by-count.ensures.few) in
     let fine : is_ok c.extend_from_slice.result ≡ true = search rules in
-    let made = c.args.levels.now.items in
-    let items = c.as_slice.ensures.value ∙ (rw fine at c.extend_from_slice.ensures.items) in
-    let at : c.len-made.result ≡ length made = search rules in
-    rw (items, at, newest made (take count ahead))
-    (each_may c.args.place c.len-made.result count ahead c.args.senders.now
-    (c.ahead_beside-ahead.ensures.may some) (c.ahead_beside-ahead.ensures.off some) k m e awake)
+    let run = kept made ahead c.as_slice.result.now c.extend_from_slice.new.self.items count c.len-made.result
+    c.if-count-eq0.false c.reads_along_by-count.ensures.few c.as_slice.ensures.value
+    (rw fine at c.extend_from_slice.ensures.items) (search rules) in
+    rw run.newest_is
+    (each_may c.args.place c.len-made.result count ahead c.args.senders.now (c.ahead_beside-ahead.ensures.may run.some)
+    (c.ahead_beside-ahead.ensures.off run.some) k m e awake)
 
 pub go_on_by-requires-2-clause-goes : goal.go_on_by-requires-2-clause-goes
 go_on_by-requires-2-clause-goes c k m e awake =
+    let made = c.args.levels.now.items in
     let ahead = c.ahead_beside-ahead.result.now in
     let count = c.reads_along_by-count.result in
-    let some : 0 < length ahead = omega (arith, c.if-count-eq0.false, c.reads_along_by-count.ensures.few) in
     let fine : is_ok c.extend_from_slice.result ≡ true = search rules in
-    let made = c.args.levels.now.items in
-    let items = c.as_slice.ensures.value ∙ (rw fine at c.extend_from_slice.ensures.items) in
-    let at : c.len-made.result ≡ length made = search rules in
-    rw (items, at, newest made (take count ahead))
+    let run = kept made ahead c.as_slice.result.now c.extend_from_slice.new.self.items count c.len-made.result
+    c.if-count-eq0.false c.reads_along_by-count.ensures.few c.as_slice.ensures.value
+    (rw fine at c.extend_from_slice.ensures.items) (search rules) in
+    rw run.newest_is
     (each_may (length c.args.others.now) c.len-made.result count ahead c.args.others.now
-    (none_at c.args.others.now c.len-made.result ahead)
-    (c.ahead_beside-ahead.ensures.off_too some) k m e awake)
+    (none_at c.args.others.now c.len-made.result ahead) (c.ahead_beside-ahead.ensures.off_too run.some) k m e awake)
 
 pub go_on_by-requires-clause-room : goal.go_on_by-requires-clause-room
 go_on_by-requires-clause-room c k m e awake =
+    let made = c.args.levels.now.items in
     let ahead = c.ahead_beside-ahead.result.now in
     let count = c.reads_along_by-count.result in
-    let some : 0 < length ahead = omega (arith, c.if-count-eq0.false, c.reads_along_by-count.ensures.few) in
     let fine : is_ok c.extend_from_slice.result ≡ true = search rules in
-    let made = c.args.levels.now.items in
-    let items = c.as_slice.ensures.value ∙ (rw fine at c.extend_from_slice.ensures.items) in
-    let at : c.len-made.result ≡ length made = search rules in
-    let on = each_on c.args.place c.len-made.result ahead c.args.senders.now (c.ahead_beside-ahead.ensures.may some)
-    (c.ahead_beside-ahead.ensures.off some) k m e awake in
-    let room = c.requires.sender_room k m e awake (subst (λ n. m.on ≤ n) at on) in
-    rw (items, at, newest made (take count ahead))
-    (omega (arith, room.0, length-take count ahead, c.ahead_beside-ahead.ensures.few))
+    let run = kept made ahead c.as_slice.result.now c.extend_from_slice.new.self.items count c.len-made.result
+    c.if-count-eq0.false c.reads_along_by-count.ensures.few c.as_slice.ensures.value
+    (rw fine at c.extend_from_slice.ensures.items) (search rules) in
+    let on = each_on c.args.place c.len-made.result ahead c.args.senders.now (c.ahead_beside-ahead.ensures.may run.some)
+    (c.ahead_beside-ahead.ensures.off run.some) k m e awake in
+    let room = c.requires.sender_room k m e awake (subst (λ n. m.on ≤ n) run.at_is on) in
+    rw run.newest_is (omega (arith, room.0, length-take count ahead, c.ahead_beside-ahead.ensures.few))
 
 pub go_on_by-requires-2-clause-room : goal.go_on_by-requires-2-clause-room
 go_on_by-requires-2-clause-room c k m e awake =
+    let made = c.args.levels.now.items in
     let ahead = c.ahead_beside-ahead.result.now in
     let count = c.reads_along_by-count.result in
-    let some : 0 < length ahead = omega (arith, c.if-count-eq0.false, c.reads_along_by-count.ensures.few) in
     let fine : is_ok c.extend_from_slice.result ≡ true = search rules in
-    let made = c.args.levels.now.items in
-    let items = c.as_slice.ensures.value ∙ (rw fine at c.extend_from_slice.ensures.items) in
-    let at : c.len-made.result ≡ length made = search rules in
+    let run = kept made ahead c.as_slice.result.now c.extend_from_slice.new.self.items count c.len-made.result
+    c.if-count-eq0.false c.reads_along_by-count.ensures.few c.as_slice.ensures.value
+    (rw fine at c.extend_from_slice.ensures.items) (search rules) in
     let on = each_on (length c.args.others.now) c.len-made.result ahead c.args.others.now
-    (none_at c.args.others.now c.len-made.result ahead) (c.ahead_beside-ahead.ensures.off_too some) k m e awake in
-    let room = c.requires.room k m e awake (subst (λ n. m.on ≤ n) at on) in
-    rw (items, at, newest made (take count ahead))
-    (omega (arith, room.0, length-take count ahead, c.ahead_beside-ahead.ensures.few))
+    (none_at c.args.others.now c.len-made.result ahead) (c.ahead_beside-ahead.ensures.off_too run.some) k m e awake in
+    let room = c.requires.room k m e awake (subst (λ n. m.on ≤ n) run.at_is on) in
+    rw run.newest_is (omega (arith, room.0, length-take count ahead, c.ahead_beside-ahead.ensures.few))
 
 pub returns : goal.returns
 returns c =
+    let made = c.args.levels.now.items in
     let ahead = c.ahead_beside-ahead.result.now in
     let count = c.reads_along_by-count.result in
-    let sent = take count ahead in
-    let some : 0 < length ahead = omega (arith, c.if-count-eq0.false, c.reads_along_by-count.ensures.few) in
     let fine : is_ok c.extend_from_slice.result ≡ true = search rules in
-    let made = c.args.levels.now.items in
-    let items = c.as_slice.ensures.value ∙ (rw fine at c.extend_from_slice.ensures.items) in
-    let at : c.len-made.result ≡ length made = search rules in
-    let all = c.as_slice.result.now in
-    let slice = take (length all - c.len-made.result) (drop c.len-made.result all) in
-    let same : slice ≡ sent = rw (items, at) (newest made sent) in
+    let run = kept made ahead c.as_slice.result.now c.extend_from_slice.new.self.items count c.len-made.result
+    c.if-count-eq0.false c.reads_along_by-count.ensures.few c.as_slice.ensures.value
+    (rw fine at c.extend_from_slice.ensures.items) (search rules) in
+    let sent = take count ahead in
+    let at = run.at_is in
     let senders = c.args.senders.now in
     let others = c.args.others.now in
     let sender = some_there senders c.args.place c.requires.place in
-    let go = subst (λ ls. AtPlaces (λ k. IfAwake (GoesAsItMay ls)) senders c.go_on_by.new.members) same
+    let go = subst (λ ls. AtPlaces (λ k. IfAwake (GoesAsItMay ls)) senders c.go_on_by.new.members) run.newest_is
     c.go_on_by.ensures in
-    let go_too = subst (λ ls. AtPlaces (λ k. IfAwake (GoesAsItMay ls)) others c.go_on_by-2.new.members) same
+    let go_too = subst (λ ls. AtPlaces (λ k. IfAwake (GoesAsItMay ls)) others c.go_on_by-2.new.members) run.newest_is
     c.go_on_by-2.ensures in
     let may = by_taken true (length made) count ahead sender.0
-    (subst (λ n. MayGoBy true n ahead sender.0) at (c.ahead_beside-ahead.ensures.may some sender.0 sender.1)) in
+    (subst (λ n. MayGoBy true n ahead sender.0) at (c.ahead_beside-ahead.ensures.may run.some sender.0 sender.1)) in
     let off = out_taken c.args.place (length made) count ahead senders
-    (subst (λ n. OthersStayOut c.args.place n ahead senders) at (c.ahead_beside-ahead.ensures.off some)) in
+    (subst (λ n. OthersStayOut c.args.place n ahead senders) at (c.ahead_beside-ahead.ensures.off run.some)) in
     let off_too = out_taken (length others) (length made) count ahead others
-    (subst (λ n. OthersStayOut (length others) n ahead others) at (c.ahead_beside-ahead.ensures.off_too some)) in (
+    (subst (λ n. OthersStayOut (length others) n ahead others) at (c.ahead_beside-ahead.ensures.off_too run.some)) in (
       sent,
       omega (arith, length-take count ahead, c.ahead_beside-ahead.ensures.few),
       rw fine at c.extend_from_slice.ensures.items,
