@@ -65,8 +65,9 @@ pub record GoesOn (old : Node) (level : Bool) (new : Node) : Type 0 where
   pub bit_is : bit_of new ≡ bit_of old + 1
   pub counts_none : counters_in new ≡ counters_in old
 
--- a node stays in bus off with this level, for no run of eleven recessive bits ends with it, or in a passive error
--- flag, for that doesn't end with it and counts nothing
+-- A node stays in bus off with this level, for no run of eleven recessive bits ends with it, or in a passive error
+-- flag, for that doesn't end with it and counts nothing. This and what follows up to `MayGoOnBy` are conditions: what
+-- is promised under them is `GoesOnBy`, by the samples of the node's histories.
 abbrev pub stays_out : Bool → State → Bool
 stays_out level (Recovering runs ones) = nat_le ones 9
 stays_out true (PassiveFlagging role owes ones zeros) = nat_le ones 4
