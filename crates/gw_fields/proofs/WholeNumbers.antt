@@ -1,14 +1,17 @@
--- What std's `parse` makes of a text is the whole number that it writes.
+-- What std's `parse` makes of a text is the whole number that it writes, and a short one is read digit by digit.
 use Rattle.std.proofs.Common.{◌≡◌, ◌∙◌, ℕ, ◌<◌, ◌^◌, List, length, Bool, true, false, ◌&&◌, nat_lt, Option, Some, None}
-use Rattle.std.proofs.Common.{MatchOption, option_and_then, ok_or, if◌then◌else◌, refl, sym, ap}
+use Rattle.std.proofs.Common.{MatchOption, option_and_then, ok_or, if◌then◌else◌, pos, refl, subst, sym, ap, arith}
 use Rattle.std.proofs.lemmas.Bool.{lt-ltb, ltb-true}
+use Rattle.std.proofs.lemmas.Float.Parse.{parse_float-IsNumeral}
+use Rattle.std.specs.Float.{binary64}
+use Rattle.std.specs.Float.Ieee.{of_int}
+use Rattle.std.specs.Float.Parse.{parse_float}
 use Rattle.std.proofs.lemmas.Str.Parse.{IsNumeralModel, numerals_by_value, tells_all_ascii_digits}
+use Rattle.std.proofs.lemmas.Str.Parse.{not_in_digits, without_leading_plus_none}
 use Rattle.std.specs.Str.{all_ascii_digits}
-use Rattle.std.specs.Str.Parse.{IsNumeral, ParsesUnsigned, without_leading_plus, digits_value}
-use Rattle.json.specs.Json.{Json}
-use Rattle.json.specs.Find.{as_number}
-use Rattle.gw_fields.specs.Faults.{wrong_kind}
-use Rattle.gw_fields.specs.Fields.{or_fault, is_numeral, numeral_below, whole_number, natural_of}
+use Rattle.std.specs.Str.Parse.{AllDigits, IsNumeral, ParsesUnsigned, without_leading_plus, digits_value}
+use Rattle.gw_fields.specs.Fields.{is_numeral, numeral_below, whole_number}
+use Rattle.gw_fields.specs.Numbers.{Writes}
 
 digits : IsNumeralModel (λ ds. all_ascii_digits ds ≡ true) (digits_value 10)
 digits = numerals_by_value (λ ds. all_ascii_digits ds ≡ true) tells_all_ascii_digits
@@ -37,14 +40,34 @@ parses_whole : (text : List ℕ) (r : Option ℕ) → ParsesUnsigned 64 10 text 
 parses_whole text (Some n) h = ap Some h.1 ∙ sym (writes (2 ^ 64) (without_leading_plus text) h.0.0 h.0.1)
 parses_whole text None h = writes_none (2 ^ 64) (without_leading_plus text) h
 
-of_text : (text : Option (List ℕ)) (r : Option ℕ) →
+-- what json's `as_u64` answers of a value is its whole number
+pub of_text : (text : Option (List ℕ)) (r : Option ℕ) →
     MatchOption text (r ≡ None) (λ s. ParsesUnsigned 64 10 s (ok_or r s)) → option_and_then whole_number text ≡ r
 of_text None r none = sym none
 of_text (Some text) r parses = sym (parses_whole text r parses)
 
--- what json's `as_u64` answers is the whole number
-pub natural_is : (name : List ℕ) (value : Json) (r : Option ℕ) →
-    MatchOption (as_number value) (r ≡ None) (λ s. ParsesUnsigned 64 10 s (ok_or r s)) →
-    natural_of name value ≡ or_fault (wrong_kind name) r
-unfolding natural_of
-natural_is name value r answer = ap (or_fault (wrong_kind name)) (of_text (as_number value) r answer)
+-- no sign stands in front of digits alone
+no_sign : (text : List ℕ) → is_numeral text ≡ true → without_leading_plus text ≡ text
+no_sign text e =
+    let h = both (nat_lt 0 (length text)) (all_ascii_digits text) e in
+    without_leading_plus_none text (λ plus. not_in_digits digits text 43 h.1 (λ range. omega (arith, range)) 0
+    (ltb-true 0 (length text) h.0) plus)
+
+numeral_of : (text : List ℕ) → is_numeral text ≡ true → IsNumeral 10 (without_leading_plus text)
+numeral_of text e =
+    let h = both (nat_lt 0 (length text)) (all_ascii_digits text) e in
+    subst (IsNumeral 10) (sym (no_sign text e)) ((ltb-true 0 (length text) h.0, digits.to text h.1))
+
+-- a text of digits writes a whole number of 64 bits, if it is small enough
+pub whole_is : (text : List ℕ) (n : ℕ) → Writes text n → n < 2 ^ 64 → whole_number text ≡ Some n
+whole_is text n h fits = rw (no_sign text h.0, h.0, ← h.1, lt-ltb n (2 ^ 64) fits) refl
+
+-- the float that is nearest to it is that of the number
+pub float_is : (text : List ℕ) (n : ℕ) → Writes text n → parse_float binary64 text ≡ Some (of_int binary64 (pos n))
+float_is text n h = parse_float-IsNumeral binary64 text (numeral_of text h.0)
+    ∙ ap (λ m. Some (of_int binary64 (pos m))) (ap (digits_value 10) (no_sign text h.0) ∙ sym h.1)
+
+-- digits of which there is one or more are a numeral
+pub writes_digits : (text : List ℕ) (n : ℕ) → 0 < length text → AllDigits 10 text → n ≡ digits_value 10 text →
+    Writes text n
+writes_digits text n some all is = (rw (lt-ltb 0 (length text) some, digits.from text all) refl, is)

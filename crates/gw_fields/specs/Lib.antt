@@ -4,3 +4,4 @@ pub mod Frames
 pub mod JsonValues
 pub mod Documents
 pub mod Names
+pub mod Numbers

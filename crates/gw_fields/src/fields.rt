@@ -8,6 +8,7 @@ ghost use Rattle.gw_fields.specs.Fields.{object_of, field, natural_of, whole_of,
 ghost use Rattle.gw_fields.specs.Fields.{optional_truth, text_of, text, list_of, list, some_list, filled_list};
 ghost use Rattle.gw_fields.specs.Fields.{optional_list};
 
+use crate::numbers::whole_number;
 use crate::script_fault::ScriptFault;
 use json::Value;
 
@@ -70,7 +71,7 @@ pub fn field<'v, 'a>(
 fn natural_of(value: &Value<'_>, name: &'static str) -> Result<u64, ScriptFault>
     ensures { Reads (λ n. n) result (natural_of name.entry.now (view value.now)) }
 {
-    match value.as_u64() {
+    match whole_number(value) {
         Some(number) => Ok(number),
         None => Err(ScriptFault::Kind(name)),
     }

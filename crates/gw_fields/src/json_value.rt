@@ -1,24 +1,15 @@
 //! The JSON value that a reader comes to next.
 
-ghost use Rattle.std.specs.Prelude.{◌≡◌, ◌<◌, [], ◌∷◌, ◌++◌, length, true, false, Some, IfOk, OnOk, IfErr};
+ghost use Rattle.std.specs.Prelude.{◌≡◌, ◌<◌, length, true, false, Some, IfOk, OnOk, IfErr};
 ghost use Rattle.json.specs.Json.{number};
 ghost use Rattle.json.specs.Value.{value_view as view, items_view, members_view};
 ghost use Rattle.gw_fields.specs.JsonValues.{is_finite_number, finite_value, finite_items, finite_members, SaysNone};
 
+use crate::gathered::Gathered;
+use crate::numbers::nearest_float;
 use crate::script_fault::ScriptFault;
 use json::{Reader, Token, Value};
-use std::alloc::{AllocError, Global};
-
-/// Adds an element at the end. The first gets room for itself alone: a text may have millions of lists
-/// with one element, and `push` makes room for four.
-fn add<T: Drop>(elements: &mut Vec<T>, element: T) -> Result<(), AllocError>
-    ensures { OnOk result (elements.new.items ≡ elements.old.items ++ element ∷ []) }
-{
-    if elements.is_empty() {
-        elements.reserve_exact(1)?;
-    }
-    elements.push(element).map_err(|_| AllocError)
-}
+use std::alloc::Global;
 
 /// A number, unless it is too large for a floating-point number.
 fn finite_number(text: &str) -> Result<Value<'_>, ScriptFault>
@@ -26,7 +17,7 @@ fn finite_number(text: &str) -> Result<Value<'_>, ScriptFault>
     ensures err { IfErr result (λ e. (e ≡ ScriptFault.NotJson) × (is_finite_number text.now ≡ false)) }
 {
     let value = Value::Number(text);
-    match value.as_f64() {
+    match nearest_float(text) {
         Some(number) if number.is_finite() => Ok(value),
         _ => Err(ScriptFault::NotJson),
     }
@@ -34,6 +25,7 @@ fn finite_number(text: &str) -> Result<Value<'_>, ScriptFault>
 
 /// The next value, in which lists and objects nest no deeper than `depth`.
 #[cycle(read_value)]
+#[inline(always)]
 pub fn read_value<'a>(
     alloc: Global,
     reader: &mut Reader<'a>,
@@ -69,6 +61,7 @@ pub fn read_value<'a>(
 
 /// The elements of a list, up to its closing bracket.
 #[cycle(read_value)]
+#[inline(never)]
 fn read_items<'a>(
     alloc: Global,
     reader: &mut Reader<'a>,
@@ -78,16 +71,17 @@ fn read_items<'a>(
     ensures shorter { OnOk result (length reader.new < length reader.old) }
     ensures err { IfErr result (SaysNone (finite_items depth reader.old)) }
 {
-    let mut found = Vec::new(alloc);
+    let mut found = Gathered::new(alloc);
     'items: while !reader.take_end_array() {
         let item = read_value(alloc, reader, depth)?;
-        add(&mut found, item)?;
+        found.add(item)?;
     }
-    Ok(found)
+    Ok(found.finish()?)
 }
 
 /// The fields of an object, up to its closing brace.
 #[cycle(read_value)]
+#[inline(never)]
 fn read_members<'a>(
     alloc: Global,
     reader: &mut Reader<'a>,
@@ -97,10 +91,10 @@ fn read_members<'a>(
     ensures shorter { OnOk result (length reader.new < length reader.old) }
     ensures err { IfErr result (SaysNone (finite_members depth reader.old)) }
 {
-    let mut found = Vec::new(alloc);
+    let mut found = Gathered::new(alloc);
     'members: while let Some(name) = reader.next_key()? {
         let value = read_value(alloc, reader, depth)?;
-        add(&mut found, (name, value))?;
+        found.add((name, value))?;
     }
-    Ok(found)
+    Ok(found.finish()?)
 }

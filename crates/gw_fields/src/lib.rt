@@ -4,8 +4,10 @@
 mod document;
 mod fields;
 mod frames;
+mod gathered;
 mod json_value;
 mod name;
+mod numbers;
 mod reads_element;
 mod script_fault;
 

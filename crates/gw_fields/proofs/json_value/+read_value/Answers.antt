@@ -2,7 +2,7 @@ use Rattle.std.proofs.Common.{◌≡◌, ◌-◌, ◌<◌, [], ◌∷◌, ◌++�
 use Rattle.json.specs.Token.{Token}
 use Rattle.json.specs.Json.{Json, array, object, parse_map, after_end_array, read_key, items, members, value}
 use Rattle.json.specs.Reads.{token_of}
-use Rattle.json.specs.Value.{value_view}
+use Rattle.json.specs.Value.{items_view, members_view, value_view}
 use Rattle.json.specs.declared.value.Value.{String, Bool, Null, the_lemmas}
 use Rattle.json.proofs.Grammar.{value_is, value-begin_array, value-begin_object, read_key-shorter}
 use Rattle.json.proofs.Trees.{items_before, members_before, items_before-no_items, members_before-no_members}
@@ -22,7 +22,7 @@ read_items-returns-in_err-item-clause-err t c =
     let going : (after_end_array l.reader ≡ None) × (c.take_end_array.new.self ≡ l.reader) = grind arith in
     none_handed_on c.from_residual.result c.in_err-item.field-0.0 (finite_value c.args.depth c.take_end_array.new.self)
     (finite_items c.args.depth c.args.reader.now) c.from_residual.ensures.1
-    (λ none. l.invariant.2 ∙ ap (parse_map (items_before l.found.items))
+    (λ none. l.invariant.2 ∙ ap (parse_map (items_before l.found))
     (item_refused p n l.reader going.0 (rw (← going.1) none)))
     c.in_err-item.ensures.err
 
@@ -36,12 +36,12 @@ read_items-items-preserved t c =
     let v = c.in_ok-item.item in
     let r = c.read_value.new.reader in
     let less : length r < length l.reader = rw (← going.1) done.shorter in
-    let added : c.add.new.elements.items ≡ l.found.items ++ v ∷ [] = search rules in
+    let added : c.add.new.self ≡ l.found ++ v ∷ [] = search rules in
     let turn =
     item_read p n l.reader r (value_view v) (omega (arith, l.invariant.1)) going.0 (rw (← going.1) done.ok) in (
       n - 1,
       omega (arith, l.invariant.1),
-      l.invariant.2 ∙ ap (parse_map (items_before l.found.items)) turn ∙ one_more_item l.found.items v _
+      l.invariant.2 ∙ ap (parse_map (items_before l.found)) turn ∙ one_more_item l.found v _
           ∙ ap (λ vs. parse_map (items_before vs) (tested are_finite_items (items p (n - 1) r))) (sym added),
       omega (arith, l.invariant.3),
     )
@@ -52,8 +52,9 @@ read_items-returns-clause-ok t c =
     let l = c.items in
     let n = l.invariant.0 in
     let r = c.take_end_array.new.self in
-    l.invariant.2 ∙ ap (parse_map (items_before l.found.items)) (items_over p n l.reader r l.invariant.1 (grind arith))
-    ∙ ap (λ js. Some (js, r)) (items_before-no_items l.found.items)
+    l.invariant.2 ∙ ap (parse_map (items_before l.found)) (items_over p n l.reader r l.invariant.1 (grind arith))
+    ∙ ap (λ js. Some (js, r)) (items_before-no_items l.found
+    ∙ ap items_view (sym c.in_ok-finish.ensures))
 
 pub read_members-returns-in_err-name-clause-err : goal.read_members-returns-in_err-name-clause-err
 read_members-returns-in_err-name-clause-err t c =
@@ -61,7 +62,7 @@ read_members-returns-in_err-name-clause-err t c =
     let l = c.members in
     let n = l.invariant.0 in
     let none : finite_members c.args.depth c.args.reader.now ≡ None = l.invariant.2
-    ∙ ap (parse_map (members_before l.found.items)) (key_refused p n l.reader c.in_err-name.ensures.value) in
+    ∙ ap (parse_map (members_before l.found)) (key_refused p n l.reader c.in_err-name.ensures.value) in
     grind (arith, none)
 
 pub read_members-returns-in_err-value-clause-err : goal.read_members-returns-in_err-value-clause-err
@@ -74,7 +75,7 @@ read_members-returns-in_err-value-clause-err t c =
     let key : read_key l.reader ≡ Some (Some k, s) = grind arith in
     none_handed_on c.from_residual-in_err-value.result c.in_err-value.field-0.0 (finite_value c.args.depth s)
     (finite_members c.args.depth c.args.reader.now) c.from_residual-in_err-value.ensures.1
-    (λ none. l.invariant.2 ∙ ap (parse_map (members_before l.found.items)) (member_refused p n k l.reader s key none))
+    (λ none. l.invariant.2 ∙ ap (parse_map (members_before l.found)) (member_refused p n k l.reader s key none))
     c.in_err-value.ensures.err
 
 pub read_members-members-preserved : goal.read_members-members-preserved
@@ -90,12 +91,12 @@ read_members-members-preserved t c =
     let r = c.read_value.new.reader in
     let less = read_key-shorter l.reader (Some k) s key in
     let lesser = done.shorter in
-    let added : c.add.new.elements.items ≡ l.found.items ++ (c.in-Some.name, v) ∷ [] = search rules in
+    let added : c.add.new.self ≡ l.found ++ (c.in-Some.name, v) ∷ [] = search rules in
     let turn = member_read p n k l.reader s r (value_view v) (omega (arith, l.invariant.1)) key done.ok in (
       n - 1,
       omega (arith, l.invariant.1),
-      l.invariant.2 ∙ ap (parse_map (members_before l.found.items)) turn
-          ∙ one_more_member l.found.items (c.in-Some.name, v) _
+      l.invariant.2 ∙ ap (parse_map (members_before l.found)) turn
+          ∙ one_more_member l.found (c.in-Some.name, v) _
           ∙ ap (λ ms. parse_map (members_before ms) (tested are_finite_members (members p (n - 1) r))) (sym added),
       omega (arith, l.invariant.3),
     )
@@ -106,9 +107,10 @@ read_members-returns-clause-ok t c =
     let l = c.members in
     let n = l.invariant.0 in
     let r = c.next_key.new.self in
-    l.invariant.2 ∙ ap (parse_map (members_before l.found.items))
+    l.invariant.2 ∙ ap (parse_map (members_before l.found))
     (members_over p n l.reader r l.invariant.1 (grind arith))
-    ∙ ap (λ ms. Some (ms, r)) (members_before-no_members l.found.items)
+    ∙ ap (λ ms. Some (ms, r)) (members_before-no_members l.found
+    ∙ ap members_view (sym c.in_ok-finish.ensures))
 
 pub read_value-returns-in_err-token-clause-err : goal.read_value-returns-in_err-token-clause-err
 read_value-returns-in_err-token-clause-err t c =

@@ -16,7 +16,7 @@ decreases-read_members l = 2 * l.depth + 1
 abbrev pub invariant-read_items-items : goal.invariant-read_items-items
 invariant-read_items-items l =
     (n : ℕ) × (length l.reader ≤ n)
-    × (finite_items l.depth l.initial.reader ≡ parse_map (items_before l.found.items)
+    × (finite_items l.depth l.initial.reader ≡ parse_map (items_before l.found)
     (tested are_finite_items (items (value l.depth) n l.reader)))
     × (length l.reader ≤ length l.initial.reader)
 
@@ -26,7 +26,7 @@ decreases-read_items-items l = length l.reader
 abbrev pub invariant-read_members-members : goal.invariant-read_members-members
 invariant-read_members-members l =
     (n : ℕ) × (length l.reader ≤ n)
-    × (finite_members l.depth l.initial.reader ≡ parse_map (members_before l.found.items)
+    × (finite_members l.depth l.initial.reader ≡ parse_map (members_before l.found)
     (tested are_finite_members (members (value l.depth) n l.reader)))
     × (length l.reader ≤ length l.initial.reader)
 
