@@ -38,6 +38,19 @@ fn digit_of(level: bool) -> u32
     if level { 1 } else { 0 }
 }
 
+/// The number that these levels write, the most significant first.
+fn number_in(field: &[bool]) -> u32
+    requires { length field.now ≤ 18 }
+    ensures value { result ≡ number_at field.now 0 (length field.now) }
+    ensures range { result < 2 ^ length field.now }
+{
+    let mut number = 0u32;
+    for level in field {
+        number = number * 2 + digit_of(*level);
+    }
+    number
+}
+
 /// The number at a place, the most significant level first.
 fn number_of(text: &[bool], start: usize, width: usize) -> u32
     requires start { start ≤ 200 }
@@ -45,6 +58,9 @@ fn number_of(text: &[bool], start: usize, width: usize) -> u32
     ensures value { result ≡ number_at text.now start width }
     ensures range { result < 2 ^ width }
 {
+    if let Some(field) = text.get(start..start + width) {
+        return number_in(field);
+    }
     let mut number = 0u32;
     for place in 0..width {
         number = number * 2 + digit_of(level_at(text, start + place));
