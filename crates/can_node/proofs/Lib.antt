@@ -2,6 +2,7 @@ pub mod Advancing
 pub mod Starts
 pub mod Readers
 pub mod Moves
+pub mod PlainSteps
 pub mod Places
 pub mod TakeMoves
 pub mod FlagMoves

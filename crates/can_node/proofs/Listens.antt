@@ -31,6 +31,8 @@ use Rattle.can_frame.specs.Sending.{level_at}
 use Rattle.can_node.specs.Machine.LeadsTo.{stays_on}
 use Rattle.can_node.specs.Listener.{AllTake, Follows, IsUnseen, ReadsAlong, SendsTo, StandsWith, caught_up, taken_up}
 use Rattle.can_node.proofs.Samples.{counts_none, quiet_steps, samples}
+use Rattle.can_node.specs.PlainBits.{LeavesPlainly}
+use Rattle.can_node.proofs.PlainSteps.{plain_steps}
 use Rattle.can_node.proofs.Advancing.{idle_advances, other_advances, reading_advances}
 use Rattle.can_node.proofs.Samples.{stands_history}
 use Rattle.can_node.proofs.Advancing.{sending_advances, steady_advances}
@@ -129,6 +131,14 @@ other_follows known old new bit level turn sends_none goes unseen stands reading
     unseen_follows known old (listening turn.state new) bit level turn unseen refl
     (λ spelling errors. other_advances old.state old.reader new spelling bit errors level turn sends_none
     (goes errors) stands reading)
+
+-- a level with which a flag, a delimiter or the intermission goes on
+pub plain_follows : (known : KnownCounts) (old : Listener) (next : State) (bit : ℕ) (level : Bool) →
+    is_sending old.state ≡ false → ((counters : Counters) → LeavesPlainly old.state counters bit level next) →
+    Follows known old bit level (listening next old.reader)
+plain_follows known old next bit level sends_none leaves =
+    follows_by known old (listening next old.reader) bit level (λ node counts.
+    plain_steps old.state next node.counters old.reader node.spelling bit level sends_none (leaves node.counters))
 
 -- a node that has come as far as a listener
 same_reads : (state : State) (one other : Reader) (text : List Bool) → (is_taking state ≡ true → StandsAs one other) →

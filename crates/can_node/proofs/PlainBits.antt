@@ -25,8 +25,9 @@ use Rattle.can_node.specs.PlainBits.MayGoOn.{is_in, reads, sends}
 use Rattle.can_node.proofs.Listens.{region_begins, region_follows}
 use Rattle.can_node.proofs.Moves.{off_broken, off_longer}
 use Rattle.can_node.proofs.SendMoves.{send_acknowledged, send_echoed}
-use Rattle.can_node.proofs.Samples.{quiet_steps, quiet_steps_now, samples}
-use Rattle.can_node.proofs.Advancing.{other_advances, sending_advances}
+use Rattle.can_node.proofs.PlainSteps.{plain_steps}
+use Rattle.can_node.proofs.Samples.{quiet_steps, samples}
+use Rattle.can_node.proofs.Advancing.{sending_advances}
 use Rattle.can_node.proofs.Samples.{stands_history}
 
 -- in bus off
@@ -121,14 +122,11 @@ pub goes_plainly : (node : Node) (level : Bool) (next : State) → is_plain leve
     LeavesPlainly node.state node.counters node.clock level next → GoesOn node level (behind node next)
 goes_plainly node level next plain leaves =
     let out = is_out level node.state plain in
-    let not = leaves.reads_none in
     record {
       begins_none = out.begins_none;
       samples = samples node (behind node next) level Nothing
-          (quiet_steps_now node.state next node.counters node.reader node.reader node.spelling node.clock level
-          (other_advances node.state node.reader node.reader node.spelling node.clock
-          (state_of (counts_of node.counters)) level (quiet next) out.sends_none leaves.goes
-          (λ is. absurd (cc (is, not))) (λ is. absurd (cc (is, not))))) refl refl;
+          (plain_steps node.state next node.counters node.reader node.spelling node.clock level out.sends_none leaves)
+          refl refl;
       history = stands_history (behind node next);
       bit_is = refl;
       counts_none = refl;

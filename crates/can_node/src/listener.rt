@@ -6,6 +6,7 @@ ghost use Rattle.can_node.specs.Machine.{GoesReading, is_sending, is_taking};
 ghost use Rattle.can_node.specs.Node.{driven_by, may_begin};
 ghost use Rattle.can_node.specs.Listener.{AllTake, IsListening, IsUnseen, Follows, ReadsAlong, ReadsAlongBy};
 ghost use Rattle.can_node.specs.Listener.{caught_up, is_reading};
+ghost use Rattle.can_confinement.specs.declared.known_counts.KnownCounts.{KnownCounts as KnownCountsValue};
 ghost use Rattle.can_confinement.specs.declared.confinement.ErrorState.{ErrorState as ErrorStateValue};
 
 use crate::machine::{
@@ -13,6 +14,7 @@ use crate::machine::{
     turns_alike,
 };
 use crate::outcome::Outcome;
+use crate::plain_bits::count_on;
 use crate::state::{Stage, State, Turn};
 use crate::taken_frame::TakenFrame;
 use crate::takes::after_taking;
@@ -141,9 +143,19 @@ impl Listener {
         ensures other { result ≡ false → self.new ≡ self.old }
     {
         match self.state {
-            State::Taking(start, _, stage) => self.read_on(start, stage, level, known),
+            State::Taking(start, _, stage) => {
+                if self.reads_end(level) {
+                    return true;
+                }
+                self.read_on(start, stage, level, known)
+            }
             State::Sending(_, _) => false,
-            _ => self.go_on(bit, level, known),
+            _ => {
+                if self.counts_on(level) {
+                    return true;
+                }
+                self.go_on(bit, level, known)
+            }
         }
     }
 
@@ -182,6 +194,17 @@ impl Listener {
         }
         self.state = turn.state;
         true
+    }
+
+    /// So where they count on in a flag, a delimiter or the intermission, as most such bits are.
+    #[inline(always)]
+    fn counts_on(&mut self, level: bool) -> bool
+        ensures follows { result ≡ true → is_sending self.old.state ≡ false → (known : KnownCountsValue) (bit : ℕ)
+            → Follows known self.old bit level self.new }
+        ensures listens { result ≡ true → IsListening self.new }
+        ensures other { result ≡ false → self.new ≡ self.old }
+    {
+        count_on(&mut self.state, level)
     }
 
     /// So where they neither read nor send one.

@@ -24,6 +24,7 @@ ghost use Rattle.can_node.specs.Machine.{
 ghost use Rattle.can_node.specs.PlainBits.{IsPlain, turns_plainly};
 
 use crate::outcome::Outcome;
+use crate::plain_bits::count_on;
 use crate::sends::after_sending;
 use crate::state::{Stage, State, Turn};
 use crate::takes::after_taking;
@@ -288,8 +289,7 @@ fn turn_sending(
 }
 
 /// A turn of a node that neither reads nor sends a frame.
-#[inline(never)]
-fn turn_outside(
+fn turn_elsewhere(
     state: &mut State,
     counters: &mut Counters,
     reader: &mut Reader,
@@ -306,6 +306,24 @@ fn turn_outside(
         return make(turn, state, counters);
     }
     make(turn, state, counters)
+}
+
+/// The same, of which most only count on in a flag, a delimiter or the intermission.
+#[inline(never)]
+fn turn_outside(
+    state: &mut State,
+    counters: &mut Counters,
+    reader: &mut Reader,
+    now: u64,
+    level: bool,
+) -> Outcome
+    ensures { (spelling : Spelling) → is_taking state.old ≡ false → is_sending state.old ≡ false
+        → Steps state.old counters.old reader.old spelling now level result state.new counters.new reader.new }
+{
+    if count_on(state, level) {
+        return Outcome::Nothing;
+    }
+    turn_elsewhere(state, counters, reader, now, level)
 }
 
 /// One bit of a node, at which it samples this level: what it brings to an end. If a frame is read, its reader is

@@ -4,6 +4,7 @@
 ghost use Rattle.std.specs.Prelude.{◌≡◌, ◌≤◌, ℕ, true, false, IfSome, IfNone, length, take};
 ghost use Rattle.can_confinement.specs.declared.counters.Counters.{Counters as CountersValue};
 ghost use Rattle.can_node.specs.PlainBits.{LeavesPlainly, StaysOut, is_plain, out_behind, out_behind_all, overlooks};
+ghost use Rattle.can_node.specs.Machine.{is_sending};
 ghost use Rattle.can_node.specs.PlainBits.{stays_out};
 
 use crate::machine::{is_receiver, turn_of};
@@ -37,15 +38,34 @@ pub(crate) fn is_plain(state: State, level: bool) -> bool
     }
 }
 
-/// Counts a recessive level of a delimiter, of the intermission or of suspend transmission, and tells whether it did.
-/// Where that ends with this bit, and elsewhere, nothing is changed.
-fn count_on(state: &mut State, level: bool) -> bool
+/// Counts a dominant level of a flag that drives dominant, and tells whether it did. Where the flag ends with this bit,
+/// and elsewhere, nothing is changed.
+fn flag_on(state: &mut State) -> bool
+    ensures counted { result ≡ true → (counters : CountersValue) (now : ℕ)
+        → LeavesPlainly state.old counters now false state.new }
+    ensures sends_none { result ≡ true → is_sending state.new ≡ false }
+    ensures other { result ≡ false → state.new ≡ state.old }
+{
+    if let State::Flagging(_kind, _role, sent, until) = state {
+        if *sent < 5 {
+            *sent += 1;
+            *until = until.saturating_sub(1);
+            return true;
+        }
+    }
+    false
+}
+
+/// Counts a dominant level of a flag that drives dominant, or a recessive one of a delimiter, of the intermission or of
+/// suspend transmission, and tells whether it did. Where that ends with this bit, and elsewhere, nothing is changed.
+pub(crate) fn count_on(state: &mut State, level: bool) -> bool
     ensures counted { result ≡ true → (counters : CountersValue) (now : ℕ)
         → LeavesPlainly state.old counters now level state.new }
+    ensures sends_none { result ≡ true → is_sending state.new ≡ false }
     ensures other { result ≡ false → state.new ≡ state.old }
 {
     if !level {
-        return false;
+        return flag_on(state);
     }
     if let State::Delimiting(_role, ones) = state {
         if *ones < 7 {

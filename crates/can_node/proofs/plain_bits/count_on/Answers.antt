@@ -30,3 +30,7 @@ returns-then-ones-lt7-2-clause-counted c told counters now =
       goes = suspend_on c.in-Suspending.ones now (state_of (counts_of counters)) c.if-ones-lt7-2.true;
       reads_none = refl;
     })
+
+pub returns-then-not-level-clause-counted : goal.returns-then-not-level-clause-counted
+returns-then-not-level-clause-counted c told counters now =
+    rw c.if-not-level.true (c.flag_on.ensures.counted told counters now)
