@@ -2,22 +2,8 @@
 
 ghost use Rattle.std.specs.Prelude.{◌≡◌, ◌+◌, ◌≤◌, true, false, ℕ, length};
 ghost use Rattle.can_station.specs.RestingNodes.{IsWhole, LeavesResting, MayLieDown, NoneRests, Undisturbed};
-ghost use Rattle.can_segment.specs.Rests.{
-  AreFew,
-  AreResting,
-  AreSpent,
-  Chooses,
-  ComesToRest,
-  Drives,
-  GoesThrough,
-  IsLess,
-  IsSame,
-  Lulls,
-  RestHolds,
-  RestsThrough,
-  StartsNone,
-  members_at,
-};
+ghost use Rattle.can_segment.specs.Rests.{AreResting, AreSpent, Chooses, ComesToRest, Drives, GoesThrough};
+ghost use Rattle.can_segment.specs.Rests.{IsLess, IsSame, Lulls, RestHolds, RestsThrough, StartsNone, members_at};
 ghost use Rattle.can_station.specs.Places.{AtPlaces};
 
 use crate::awake::{Awake, asks_at_each_bit, nodes_within};
@@ -315,7 +301,18 @@ impl Rest {
     }
 
     /// The node comes to rest before this bit if it may. Whether it has nothing to start is told.
+    #[inline(always)]
     fn lull(&mut self, member: &mut Member, spent: bool, bit: u64)
+        ensures { Lulls bit spent self.old self.new member.old member.new }
+    {
+        if !member.rests {
+            self.lull_awake(member, spent, bit);
+        }
+    }
+
+    /// So one that is awake, or that rests already.
+    #[inline(never)]
+    fn lull_awake(&mut self, member: &mut Member, spent: bool, bit: u64)
         ensures { Lulls bit spent self.old self.new member.old member.new }
     {
         if !self.resting || !member.may_rest(&self.listener, bit) {

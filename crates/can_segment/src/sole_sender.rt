@@ -1,15 +1,18 @@
 //! A bit of which nothing is told: all nodes rest, or all but one that sends, or all go on. Most bits of a bus are
 //! such.
 
-ghost use Rattle.std.specs.Prelude.{◌≡◌, ◌≤◌, ◌+◌, ◌-◌, ◌++◌, true, Bool, List, length, IfSome, IfNone};
+ghost use Rattle.std.specs.Prelude.{◌≡◌, ◌<◌, ◌-◌, true, false, length, IfSome, IfNone};
 ghost use Rattle.std.specs.Prelude.{vec_capacity, vec_len};
 ghost use Rattle.can_station.specs.FaultOrder.{IsFaultless, StandsAt};
 ghost use Rattle.can_station.specs.declared.plan.SegmentPlan.{SegmentPlan};
-ghost use Rattle.can_segment.specs.Rests.{AreFew, Drives, GoQuietlyBy, GoesQuietly};
+ghost use Rattle.can_segment.specs.QuietBits.{GrowsQuietly};
+ghost use Rattle.can_segment.specs.Rests.{AreFew, Drives, GoesQuietly};
 ghost use Rattle.can_segment.specs.Rests.{RestsThrough, SendsAlone, StartsNone};
 ghost use Rattle.can_station.specs.RestingNodes.{AwakeWithin, HasRoom, OneSends};
 
 use crate::awake::asks_at_each_bit;
+use crate::make_bit::keep;
+use crate::record::Record;
 use crate::rest::Rest;
 use can_node::Listener;
 use can_station::{FaultOrder, Member, all_go_on, driven_by_all, go_on};
@@ -129,7 +132,7 @@ fn sends(members: &[Member], place: usize) -> bool {
 /// The level of the line at a bit at which no fault stands, and of which nothing is told: all nodes rest, or all but
 /// one that sends on, or all go on that are awake. `None` where it is no such bit: then nothing is changed.
 #[inline(always)]
-pub(crate) fn quiet_level(
+fn quiet_level(
     talkers: &mut [Member],
     controllers: &mut [Member],
     rest: &mut Rest,
@@ -165,4 +168,37 @@ pub(crate) fn quiet_level(
         }
     }
     level_of_all(talkers, controllers, rest, bit)
+}
+
+/// One bit more at which none starts and all nodes go on, if the next one is such: whether it was made. There is room
+/// for its level. Where that was seen not to be so, it isn't looked again.
+#[inline(always)]
+pub(crate) fn grow_quietly(
+    made: &mut Record,
+    talkers: &mut [Member],
+    controllers: &mut [Member],
+    rest: &mut Rest,
+    faults: &FaultOrder,
+    is_loud: bool,
+) -> bool
+    requires few { rest.old.few ≡ true → AreFew rest.old }
+    requires talkers_within { AwakeWithin rest.old.talkers talkers.old }
+    requires controllers_within { AwakeWithin rest.old.controllers controllers.old }
+    requires talker_room { HasRoom u64.MAX (length made.old.levels.items) talkers.old }
+    requires room { HasRoom u64.MAX (length made.old.levels.items) controllers.old }
+    requires level_room { vec_len made.old.levels < vec_capacity made.old.levels }
+    ensures quiet { result ≡ true → GrowsQuietly faults.now made.old made.new rest.old rest.new
+        talkers.old talkers.new controllers.old controllers.new }
+    ensures none { result ≡ false → (made.new ≡ made.old) × (rest.new ≡ rest.old)
+        × (talkers.new ≡ talkers.old) × (controllers.new ≡ controllers.old) }
+{
+    if is_loud {
+        return false;
+    }
+    let bit = made.levels.len() as u64;
+    let Some(level) = quiet_level(talkers, controllers, rest, bit, faults) else {
+        return false;
+    };
+    keep(&mut made.levels, level);
+    true
 }
