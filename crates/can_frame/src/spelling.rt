@@ -1,6 +1,6 @@
 //! A frame as its sender drives it.
 
-ghost use Rattle.std.specs.Prelude.{◌≡◌, ◌⊎◌, ◌≤◌, ◌<◌, ◌+◌, ◌∷◌, List, Bool, true};
+ghost use Rattle.std.specs.Prelude.{◌≡◌, ◌⊎◌, ◌≤◌, ◌<◌, ◌+◌, ◌-◌, ◌∷◌, List, Bool, true};
 ghost use Rattle.std.specs.Prelude.{false, IfNone, IfSome, length, reverse, min, take};
 ghost use Rattle.can_frame.specs.Sending.{IsSpelling, IsBitAt, SendsOn, StandAhead, level_at, rtr_place, Tallies};
 ghost use Rattle.can_frame.specs.Sending.{SaysBit};
@@ -119,6 +119,7 @@ impl Spelling {
         ensures few { length result.now ≤ most }
         ensures short { place + length result.now ≤ 255 }
         ensures ahead { StandAhead self.now place result.now }
+        ensures all { length result.now ≡ min most (length self.now.levels.items - (place + 9)) }
     {
         let levels = self.levels.as_slice();
         let from = usize::from(place);

@@ -1,7 +1,8 @@
 -- Bits at which a node goes on: nothing begins, nothing is told and nothing counted.
-use Rattle.std.specs.Prelude.{◌≡◌, ℕ, ◌+◌, ◌≤◌, ◌||◌, ◌&&◌, Bool, true, false, None, not, nat_le, List, [], ◌∷◌}
-use Rattle.std.specs.Prelude.{length, if◌then◌else◌}
+use Rattle.std.specs.Prelude.{◌≡◌, ℕ, ◌+◌, ◌-◌, ◌<◌, ◌≤◌, ◌||◌, ◌&&◌, Bool, true, false, None, not, nat_le, List, [], ◌∷◌}
+use Rattle.std.specs.Prelude.{get_or, length, take, if◌then◌else◌}
 use Rattle.can_frame.specs.Reading.{MayReadOn}
+use Rattle.can_frame.specs.declared.spelling.Spelling.{Spelling}
 use Rattle.can_confinement.specs.Confinement.{state_of}
 use Rattle.can_confinement.specs.Counters.{counts_of}
 use Rattle.can_confinement.specs.declared.confinement.Role.{Role}
@@ -91,12 +92,29 @@ abbrev pub out_behind_all : State → List Bool → State
 out_behind_all state [] = state
 out_behind_all state (level ∷ levels) = out_behind_all (out_behind state level) levels
 
+-- it stays so with no more than so many of these levels: the next one ends it, if there is one
+abbrev pub StaysNoLonger : State → List Bool → ℕ → Type 0
+StaysNoLonger state levels count = count < length levels →
+    stays_out (get_or levels count false) (out_behind_all state (take count levels)) ≡ false
+
 -- The node goes on with these levels, one after another: it sends a frame, and they are the next that it drives, before
 -- its ACK slot; or it stays in bus off, or in a passive error flag.
 pub data MayGoOnBy (is_sender : Bool) (levels : List Bool) (node : Node) : Type 0 where
   sends_on : (start place : ℕ) → is_sender ≡ true → node.state ≡ Sending start place →
       StandAhead node.spelling place levels → place + length levels ≤ 255 → MayGoOnBy is_sender levels node
   waits_on : is_sender ≡ false → StaysOut node.state levels → MayGoOnBy is_sender levels node
+
+-- with how many of the levels it stays so at most
+abbrev pub EndsOut : Node → List Bool → ℕ → Type 0
+EndsOut node = StaysNoLonger node.state
+
+-- how many levels a node drives before its ACK slot that sends a frame
+abbrev pub left_to_send : State → Spelling → ℕ
+left_to_send (Sending start place) spelling = length spelling.levels.items - (place + 9)
+left_to_send state spelling = 0
+
+abbrev pub count_ahead : Node → ℕ
+count_ahead node = left_to_send node.state node.spelling
 
 -- Bits with these levels, one after another, with each of which it goes on: it drives them where it sends, and drives
 -- recessive elsewhere.

@@ -1,11 +1,11 @@
 //! A node of one segment.
 
-ghost use Rattle.std.specs.Prelude.{◌≡◌, ℕ, ◌+◌, ◌<◌, ◌≤◌, true, false, Bool, IsSome, IfSome, IfNone, length, take};
+ghost use Rattle.std.specs.Prelude.{◌≡◌, ℕ, ◌+◌, ◌<◌, ◌≤◌, true, false, Bool, IsSome, IfSome, IfNone, length, min, take};
 ghost use Rattle.can_confinement.specs.Counters.{StandsAfter as CountersStandAfter, counts_of};
 ghost use Rattle.can_node.specs.Histories.{Past, no_past, IsHistory};
 ghost use Rattle.can_node.specs.Listener.{SendsTo, StandsWith, caught_up, listener_of, listens_in, taken_up};
 ghost use Rattle.can_confinement.specs.KnownCounts.{Knows, known_of};
-ghost use Rattle.can_node.specs.PlainBits.{GoesOn, GoesOnBy, MayGoOn, MayGoOnBy};
+ghost use Rattle.can_node.specs.PlainBits.{EndsOut, GoesOn, GoesOnBy, MayGoOn, MayGoOnBy, count_ahead};
 ghost use Rattle.can_node.specs.Node.{StandsAfter, IsSample, IsWanting, IsSending, bit_of, counters_in};
 ghost use Rattle.can_node.specs.Node.{driven_by, may_begin, sends_from, with_begin};
 
@@ -249,6 +249,7 @@ impl Node {
     pub fn ahead(&self, most: usize) -> &[bool]
         ensures few { length result.now ≤ most }
         ensures may { 0 < length result.now → MayGoOnBy true result.now self.now }
+        ensures all { length result.now ≡ min most (count_ahead self.now) }
     {
         match self.state {
             State::Sending(_, place) => self.spelling.spelling().ahead(place, most),
@@ -262,6 +263,7 @@ impl Node {
     pub fn stays_out(&self, levels: &[bool]) -> usize
         ensures few { result ≤ length levels.now }
         ensures may { MayGoOnBy false (take result levels.now) self.now }
+        ensures all { EndsOut self.now levels.now result }
     {
         stays_out(self.state, levels)
     }

@@ -5,7 +5,7 @@ ghost use Rattle.std.specs.Prelude.{◌≡◌, ◌≤◌, ℕ, true, false, IfSo
 ghost use Rattle.can_confinement.specs.declared.counters.Counters.{Counters as CountersValue};
 ghost use Rattle.can_node.specs.PlainBits.{LeavesPlainly, StaysOut, is_plain, out_behind, out_behind_all, overlooks};
 ghost use Rattle.can_node.specs.Machine.{is_sending};
-ghost use Rattle.can_node.specs.PlainBits.{stays_out};
+ghost use Rattle.can_node.specs.PlainBits.{StaysNoLonger, stays_out};
 
 use crate::machine::{is_receiver, turn_of};
 use crate::state::State;
@@ -115,6 +115,7 @@ fn out_behind(state: State, level: bool) -> Option<State>
 pub(crate) fn stays_out(state: State, levels: &[bool]) -> usize
     ensures few { result ≤ length levels.now }
     ensures out { StaysOut state (take result levels.now) }
+    ensures all { StaysNoLonger state levels.now result }
 {
     let mut state = state;
     for (place, level) in levels.iter().enumerate() {

@@ -305,14 +305,14 @@ impl Rest {
     fn lull(&mut self, member: &mut Member, spent: bool, bit: u64)
         ensures { Lulls bit spent self.old self.new member.old member.new }
     {
-        if !member.rests {
-            self.lull_awake(member, spent, bit);
+        if self.resting && member.listens_at(bit) {
+            self.lull_listening(member, spent, bit);
         }
     }
 
-    /// So one that is awake, or that rests already.
+    /// So one that listens, for most of those at these places are found not to at once.
     #[inline(never)]
-    fn lull_awake(&mut self, member: &mut Member, spent: bool, bit: u64)
+    fn lull_listening(&mut self, member: &mut Member, spent: bool, bit: u64)
         ensures { Lulls bit spent self.old self.new member.old member.new }
     {
         if !self.resting || !member.may_rest(&self.listener, bit) {

@@ -10,3 +10,4 @@ pub mod Tellings
 pub mod Fresh
 pub mod FaultOrder
 pub mod RestingNodes
+pub mod ManyBits

@@ -61,7 +61,8 @@ impl Deed {
 
     /// Whether nothing is told of it.
     pub(crate) fn is_quiet(&self) -> bool
-        ensures { result ≡ true → IsQuiet self.now }
+        ensures quiet { result ≡ true → IsQuiet self.now }
+        ensures told { IsQuiet self.now → result ≡ true }
     {
         if self.began || self.reaped.is_some() {
             return false;

@@ -1,8 +1,10 @@
 //! Bits of a node of which nothing is told, many at once.
 
-ghost use Rattle.std.specs.Prelude.{◌≡◌, ◌<◌, ◌≤◌, ◌+◌, ℕ, Bool, true, false, length, take};
+ghost use Rattle.std.specs.Prelude.{◌≡◌, ◌<◌, ◌≤◌, ◌+◌, ℕ, Bool, true, false, length, min, take};
 ghost use Rattle.can_node.specs.Node.{bit_of};
+ghost use Rattle.can_node.specs.PlainBits.{EndsOut, count_ahead};
 ghost use Rattle.can_station.specs.RestingNodes.{GoesAsItMay, MayGoBy};
+ghost use Rattle.can_station.specs.ManyBits.{MayMakeMany};
 
 use crate::member::Member;
 
@@ -12,6 +14,7 @@ impl Member {
     pub fn ahead(&self, bit: u64, most: usize) -> &[bool]
         ensures few { length result.now ≤ most }
         ensures may { 0 < length result.now → MayGoBy true bit result.now self.now }
+        ensures all { MayMakeMany bit self.now → length result.now ≡ min most (count_ahead self.now.station.node) }
     {
         if self.rests || bit < self.on {
             return &[];
@@ -27,6 +30,7 @@ impl Member {
     pub(crate) fn stays_out(&self, bit: u64, levels: &[bool]) -> usize
         ensures few { result ≤ length levels.now }
         ensures may { 0 < result → self.now.rests ≡ false → MayGoBy false bit (take result levels.now) self.now }
+        ensures all { MayMakeMany bit self.now → EndsOut self.now.station.node levels.now result }
     {
         if self.rests {
             return levels.len();

@@ -26,3 +26,8 @@ pub returns-clause-out : goal.returns-clause-out
 returns-clause-out c =
     subst (λ n. StaysOut c.args.state (take n c.args.levels.now))
     (omega (arith, c.loop-place-test.false, c.loop-place.auto.place-end)) c.loop-place.invariant.0
+
+pub returns-in_default-clause-all : goal.returns-in_default-clause-all
+returns-in_default-clause-all c within =
+    let level = get_or c.args.levels.now c.loop-place.place false in
+    ap (stays_out level) (sym c.loop-place.invariant.1) ∙ c.in_default.ensures.none

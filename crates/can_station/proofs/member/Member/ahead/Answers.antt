@@ -5,6 +5,6 @@ pub returns-clause-may : goal.returns-clause-may
 returns-clause-may c some = record {
   awake = c.if-self.false;
   is_on = omega (arith, c.if-bit-self.false);
-  quiet = c.is_quiet.ensures c.if-not-is_quiet.false;
+  quiet = c.is_quiet.ensures.quiet c.if-not-is_quiet.false;
   goes = c.ahead.ensures.may some;
 }

@@ -5,6 +5,6 @@ pub returns-then-is_quiet : goal.returns-then-is_quiet
 returns-then-is_quiet c is = record {
   awake = c.if-self.false;
   is_on = omega (arith, c.if-bit-self.false);
-  quiet = c.is_quiet.ensures c.if-is_quiet.true;
+  quiet = c.is_quiet.ensures.quiet c.if-is_quiet.true;
   goes = c.goes_on.ensures.may is;
 }

@@ -5,6 +5,6 @@ pub returns-clause-may : goal.returns-clause-may
 returns-clause-may c some awake = record {
   awake = awake;
   is_on = omega (arith, c.if-bit-self.false);
-  quiet = c.is_quiet.ensures c.if-not-is_quiet.false;
+  quiet = c.is_quiet.ensures.quiet c.if-not-is_quiet.false;
   goes = c.stays_out.ensures.may;
 }
