@@ -1,13 +1,15 @@
 -- What std's `parse` makes of a text is the whole number that it writes, and a short one is read digit by digit.
 use Rattle.std.proofs.Common.{◌≡◌, ◌∙◌, ℕ, ◌<◌, ◌^◌, List, length, Bool, true, false, ◌&&◌, nat_lt, Option, Some, None}
-use Rattle.std.proofs.Common.{MatchOption, option_and_then, ok_or, if◌then◌else◌, pos, refl, subst, sym, ap, arith}
+use Rattle.std.proofs.Common.{MatchOption, option_and_then, get_or, ok_or, if◌then◌else◌, pos, refl}
+use Rattle.std.proofs.Common.{subst, sym, ap, arith}
 use Rattle.std.proofs.lemmas.Bool.{lt-ltb, ltb-true}
 use Rattle.std.proofs.lemmas.Float.Parse.{parse_float-IsNumeral}
 use Rattle.std.specs.Float.{binary64}
 use Rattle.std.specs.Float.Ieee.{of_int}
 use Rattle.std.specs.Float.Parse.{parse_float}
 use Rattle.std.proofs.lemmas.Str.Parse.{IsNumeralModel, numerals_by_value, tells_all_ascii_digits}
-use Rattle.std.proofs.lemmas.Str.Parse.{not_in_digits, without_leading_plus_none}
+use Rattle.std.proofs.lemmas.Str.Parse.{digit_at, not_in_digits, without_leading_plus_none}
+use Rattle.std.specs.Char.{is_ascii_digit}
 use Rattle.std.specs.Str.{all_ascii_digits}
 use Rattle.std.specs.Str.Parse.{AllDigits, IsNumeral, ParsesUnsigned, without_leading_plus, digits_value}
 use Rattle.gw_fields.specs.Fields.{is_numeral, numeral_below, whole_number}
@@ -71,3 +73,11 @@ float_is text n h = parse_float-IsNumeral binary64 text (numeral_of text h.0)
 pub writes_digits : (text : List ℕ) (n : ℕ) → 0 < length text → AllDigits 10 text → n ≡ digits_value 10 text →
     Writes text n
 writes_digits text n some all is = (rw (lt-ltb 0 (length text) some, digits.from text all) refl, is)
+
+-- a numeral has digits alone
+pub digits_within : (text : List ℕ) → is_numeral text ≡ true → (i : ℕ) → i < length text →
+    true ≡ is_ascii_digit (get_or text i 0)
+digits_within text e i within =
+    let h = both (nat_lt 0 (length text)) (all_ascii_digits text) e in
+    let range = digit_at text i (digits.to text h.1) within in
+    grind (arith, range)

@@ -1,11 +1,11 @@
 //! Whole numbers of a JSON text.
 
-ghost use Rattle.std.specs.Prelude.{◌≡◌, IfSome, option_and_then};
+ghost use Rattle.std.specs.Prelude.{◌≡◌, ◌<◌, true, IfNone, IfSome, length, option_and_then};
 ghost use Rattle.std.specs.Float.{binary64};
 ghost use Rattle.std.specs.Float.Parse.{parse_float};
 ghost use Rattle.json.specs.Find.{as_number};
 ghost use Rattle.json.specs.Value.{value_view as view};
-ghost use Rattle.gw_fields.specs.Fields.{whole_number};
+ghost use Rattle.gw_fields.specs.Fields.{is_numeral, whole_number};
 ghost use Rattle.gw_fields.specs.Numbers.{Writes};
 
 use json::Value;
@@ -13,10 +13,11 @@ use json::Value;
 /// How many digits a text has at most that is read as a small number.
 const FEW_DIGITS: usize = 9;
 
-/// The number that a text of one to nine digits writes. Most numbers of a script are such, and reading them so takes a
-/// fraction of the time.
+/// The number that a text of one to nine digits writes; `None` of any other text. Most numbers of a script are such,
+/// and reading them so takes a fraction of the time.
 fn small_number(text: &str) -> Option<u32>
-    ensures { IfSome result (Writes text.now) }
+    ensures some { IfSome result (Writes text.now) }
+    ensures none { IfNone result (is_numeral text.now ≡ true → 9 < length text.now) }
 {
     let digits = text.as_bytes();
     if digits.is_empty() || digits.len() > FEW_DIGITS {

@@ -8,7 +8,8 @@ use Rattle.std.proofs.lemmas.Str.Parse.{IsNumeralModel, digits_value_short, nume
 use Rattle.std.specs.Char.{digit_value, is_ascii_digit}
 use Rattle.std.specs.Int.{IsInRange}
 use Rattle.std.specs.Str.Parse.{AllDigits, digits_value}
-use Rattle.gw_fields.proofs.WholeNumbers.{writes_digits}
+use Rattle.gw_fields.proofs.WholeNumbers.{digits_within, writes_digits}
+use Rattle.gw_fields.specs.Fields.{is_numeral}
 use Rattle.gw_fields.specs.Numbers.{Writes}
 use Rattle.gw_fields.proofs.numbers.small_number.Goals as goal
 
@@ -55,8 +56,8 @@ loop-digit-preserved c =
           ∙ ap (λ n. digits_value 10 (take i ds) * 10 + n) same ∙ sym (digits_value_more 10 ds i within));
     }
 
-pub returns : goal.returns
-returns c =
+pub returns-clause-some : goal.returns-clause-some
+returns-clause-some c =
     let ds = c.as_bytes-digits.result.now in
     let whole : take c.loop-digit.digit-index ds ≡ ds =
     take_all c.loop-digit.digit-index ds (omega (arith, c.loop-digit-test.false)) in
@@ -64,3 +65,11 @@ returns c =
     subst (λ (text : List ℕ). Writes text c.loop-digit.number) c.as_bytes-digits.ensures.value
     (writes_digits ds c.loop-digit.number some (subst (AllDigits 10) whole c.loop-digit.invariant.digits)
     (c.loop-digit.invariant.number ∙ ap (digits_value 10) whole))
+
+pub returns-then-not-is_ascii_digit-clause-none : goal.returns-then-not-is_ascii_digit-clause-none
+returns-then-not-is_ascii_digit-clause-none c numeral =
+    let ds = c.as_bytes-digits.result.now in
+    absurd (let digit = digits_within ds
+    (subst (λ (text : List ℕ). is_numeral text ≡ true) (sym c.as_bytes-digits.ensures.value) numeral)
+    c.loop-digit.digit-index (omega (arith, c.loop-digit-test.true)) in
+    let not = c.if-not-is_ascii_digit.ensures.value in cc (digit, not))
