@@ -301,18 +301,7 @@ impl Rest {
     }
 
     /// The node comes to rest before this bit if it may. Whether it has nothing to start is told.
-    #[inline(always)]
     fn lull(&mut self, member: &mut Member, spent: bool, bit: u64)
-        ensures { Lulls bit spent self.old self.new member.old member.new }
-    {
-        if self.resting && member.listens_at(bit) {
-            self.lull_listening(member, spent, bit);
-        }
-    }
-
-    /// So one that listens, for most of those at these places are found not to at once.
-    #[inline(never)]
-    fn lull_listening(&mut self, member: &mut Member, spent: bool, bit: u64)
         ensures { Lulls bit spent self.old self.new member.old member.new }
     {
         if !self.resting || !member.may_rest(&self.listener, bit) {
