@@ -1,6 +1,6 @@
 -- What a reader holds next.
 use Rattle.std.proofs.Common.{◌≡◌, ℕ, ◌+◌, ◌≤◌, ◌<◌, Bool, true, false, not, List, [], ◌∷◌, ◌++◌, length, reverse, refl}
-use Rattle.std.proofs.Common.{sym, ap, subst, ◌∙◌, arith}
+use Rattle.std.proofs.Common.{sym, ap, subst, ◌∙◌, arith, inl, inr}
 use Rattle.std.proofs.lemmas.List.{append-nil}
 use Rattle.can_frame.specs.Frames.{FrameValue}
 use Rattle.can_frame.specs.Stuffing.{five_equal, newest}
@@ -8,7 +8,7 @@ use Rattle.can_frame.specs.FieldReading.{fields_length, frame_at}
 use Rattle.can_frame.specs.LevelRuns.{EndsIn}
 use Rattle.can_frame.specs.Answers.{Answers, IsLast, IsUndecided}
 use Rattle.can_frame.specs.Reading.{Inside, InRegion, InTail, TailNext, HasEnded, StandsAt, StandsAfter, IsOpen, IsPush}
-use Rattle.can_frame.specs.Reading.{Leaves, Next, Judges, StandsAs}
+use Rattle.can_frame.specs.Reading.{Leaves, MayReadOn, Next, Judges, StandsAs, WantsData, WantsStuffBit}
 use Rattle.can_frame.specs.declared.level_run.LevelRun.{LevelRun}
 use Rattle.can_frame.specs.declared.step.FaultKind.TheVariants.{Stuff, Form}
 use Rattle.can_frame.specs.declared.step.Step.{Step}
@@ -206,6 +206,32 @@ stuff_push old new level here place push items part =
       stands = λ text s. (next text s).stands;
       again = λ given e. absurd (cc (here, e));
     }
+
+-- a reader that wants such a level reads on with it: it ends in this run then
+pub data_read : (reader : Reader) (run : LevelRun) (level : Bool) → WantsData reader →
+    ((text : List Bool) → EndsIn text reader.run → EndsIn (level ∷ text) run) → MayReadOn level reader
+data_read reader run level wants push =
+    let new : Reader = record {
+      run = run;
+      levels = record { items = reader.levels.items ++ level ∷ [] };
+      place = reader.place;
+      told = reader.told;
+    } in (
+      new,
+      inl
+          (plain_push reader new level wants.here wants.here (λ text ends. (wants.is_free text ends, push text ends))
+          wants.some (λ few. refl) wants.unfinished),
+    )
+
+pub stuff_read : (reader : Reader) (run : LevelRun) (level : Bool) → WantsStuffBit level reader →
+    ((text : List Bool) → EndsIn text reader.run → EndsIn (level ∷ text) run) → MayReadOn level reader
+stuff_read reader run level wants push =
+    let new : Reader = record { run = run; levels = reader.levels; place = reader.place; told = reader.told } in (
+      new,
+      inr
+          (stuff_push reader new level wants.here wants.here
+          (λ text ends. let due = wants.is_due text ends in (due.0, due.1, push text ends)) refl wants.unfinished),
+    )
 
 -- behind the region
 pub tail_push : (old new : Reader) (level : Bool) (step : Step) (f : FrameValue) (right : Bool) (seen : ℕ) →

@@ -1,11 +1,11 @@
 -- What a reader holds after a text, and what a push does. Contracts cite `StandsAfter`, `IsReading`,
 -- `HasAnswered` and `IsPush`; the rest is how a reader keeps them.
-use Rattle.std.specs.Prelude.{◌≡◌, ◌⊎◌, ℕ, ◌+◌, ◌≤◌, ◌<◌, Bool, true, false, List}
+use Rattle.std.specs.Prelude.{◌≡◌, ◌⊎◌, ℕ, ◌+◌, ◌≤◌, ◌<◌, Bool, true, false, not, List}
 use Rattle.std.specs.Prelude.{[], ◌∷◌, ◌++◌, length, reverse, take, drop, get_or}
 use Rattle.can_frame.specs.Frames.{FrameValue}
 use Rattle.can_frame.specs.Fields.{Unchecked, fields}
 use Rattle.can_frame.specs.Crc.{IsCrc}
-use Rattle.can_frame.specs.Stuffing.{five_equal, IsStuffed, unstuffed}
+use Rattle.can_frame.specs.Stuffing.{five_equal, newest, IsStuffed, unstuffed}
 use Rattle.can_frame.specs.LevelRuns.{EndsIn}
 use Rattle.can_frame.specs.Fronts.{IsRegion, front_tail}
 use Rattle.can_frame.specs.FieldReading.{fields_length}
@@ -116,6 +116,21 @@ ReadsOnBy old (level ∷ levels) new = (mid : Reader) × ReadsOn old level mid �
 -- with this level the stuffed region goes on: there is a push of it behind which it does
 abbrev pub MayReadOn : Bool → Reader → Type 0
 MayReadOn level reader = (new : Reader) × ReadsOn reader level new
+
+-- The next level is data, whatever it is: no five equal levels stand before it, and the region doesn't end with it. It
+-- is not the first one. Private clauses cite this and what follows.
+pub record WantsData (reader : Reader) : Type 0 where
+  pub here : reader.place ≡ Region
+  pub is_free : (text : List Bool) → EndsIn text reader.run → five_equal text ≡ false
+  pub some : reader.levels.items ≡ [] → ⊥
+  pub unfinished : length reader.levels.items + 1 ≡ fields_length reader.levels.items + 15 → ⊥
+
+-- this level is the stuff bit that comes next: it is behind five of the other one, and the region didn't end before it
+pub record WantsStuffBit (level : Bool) (reader : Reader) : Type 0 where
+  pub here : reader.place ≡ Region
+  pub is_due : (text : List Bool) → EndsIn text reader.run →
+      (five_equal text ≡ true) × (level ≡ not (newest text))
+  pub unfinished : length reader.levels.items ≡ fields_length reader.levels.items + 15 → ⊥
 
 -- the other reader stands after each text after which this one does, and reads on where this one does
 pub record StandsAs (one other : Reader) : Type 0 where

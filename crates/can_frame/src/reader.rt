@@ -16,6 +16,8 @@ ghost use Rattle.can_frame.specs.Reading.{
   StandsAs,
   Next,
   Judges,
+  WantsData,
+  WantsStuffBit,
 };
 
 use crate::frame::Frame;
@@ -85,6 +87,28 @@ impl Reader {
         self.told
     }
 
+    /// Whether the next level is data, whatever it is. It tells so neither of the first level nor of the last ones.
+    #[inline(always)]
+    fn wants_data(&self) -> bool
+        ensures { result ≡ true → WantsData self.now }
+    {
+        if !self.is_in_region() || self.levels.is_empty() {
+            return false;
+        }
+        !self.run.is_full() && !is_complete_next(self.levels.as_slice())
+    }
+
+    /// Whether this level is the stuff bit that comes next, and the region goes on behind it.
+    #[inline(always)]
+    fn wants_stuff_bit(&self, level: bool) -> bool
+        ensures { result ≡ true → WantsStuffBit level self.now }
+    {
+        if !self.is_in_region() || !self.run.is_full() {
+            return false;
+        }
+        level != self.run.level() && !is_complete(self.levels.as_slice())
+    }
+
     /// Pushes a level that is `More`, as most levels of a bus are, and tells whether it did. It leaves some such
     /// levels to `push_any`, and all others.
     #[inline(always)]
@@ -92,16 +116,7 @@ impl Reader {
         ensures more { result ≡ true → IsPush self.old level Step.More self.new }
         ensures other { result ≡ false → self.new ≡ self.old }
     {
-        if !self.is_in_region() {
-            return false;
-        }
-        if self.levels.is_empty() {
-            return false;
-        }
-        if self.run.is_full() {
-            return false;
-        }
-        if is_complete_next(self.levels.as_slice()) {
+        if !self.wants_data() {
             return false;
         }
         self.run.push(level);
@@ -203,11 +218,24 @@ impl Reader {
         ensures other { result ≡ false → (text : List Bool) → IsReading self.now → StandsAfter self.now text
             → MayReadOn level self.now → ⊥ }
     {
+        if self.may_read_on(level) {
+            return true;
+        }
         match self.copy().push(level) {
             Step::More => true,
             Step::StuffBit => true,
             _ => false,
         }
+    }
+
+    /// So, seen without a copy, but for the first level and the last ones.
+    fn may_read_on(&self, level: bool) -> bool
+        ensures { result ≡ true → MayReadOn level self.now }
+    {
+        // how the text would end
+        let mut run = self.run;
+        run.push(level);
+        self.wants_data() || self.wants_stuff_bit(level)
     }
 
     /// Pushes a level with which the stuffed region goes on.
@@ -225,16 +253,7 @@ impl Reader {
         ensures stuff { result ≡ true → IsPush self.old level Step.StuffBit self.new }
         ensures other { result ≡ false → self.new ≡ self.old }
     {
-        if !self.is_in_region() {
-            return false;
-        }
-        if !self.run.is_full() {
-            return false;
-        }
-        if level == self.run.level() {
-            return false;
-        }
-        if is_complete(self.levels.as_slice()) {
+        if !self.wants_stuff_bit(level) {
             return false;
         }
         self.run.push(level);

@@ -108,7 +108,8 @@ pub data MayGoOnBy (is_sender : Bool) (levels : List Bool) (node : Node) : Type 
 abbrev pub EndsOut : Node → List Bool → ℕ → Type 0
 EndsOut node = StaysNoLonger node.state
 
--- how many levels a node drives before its ACK slot that sends a frame
+-- how many levels a node drives before its ACK slot that sends a frame: the slot, its delimiter and the seven bits of EOF
+-- are the last nine of its spelling
 abbrev pub left_to_send : State → Spelling → ℕ
 left_to_send (Sending start place) spelling = length spelling.levels.items - (place + 9)
 left_to_send state spelling = 0

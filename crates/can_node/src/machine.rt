@@ -288,27 +288,7 @@ fn turn_sending(
     make(turn, state, counters)
 }
 
-/// A turn of a node that neither reads nor sends a frame.
-fn turn_elsewhere(
-    state: &mut State,
-    counters: &mut Counters,
-    reader: &mut Reader,
-    now: u64,
-    level: bool,
-) -> Outcome
-    ensures { (spelling : Spelling) → is_taking state.old ≡ false → is_sending state.old ≡ false
-        → Steps state.old counters.old reader.old spelling now level result state.new counters.new reader.new }
-{
-    let errors = counters.state();
-    let turn = turn_of(*state, now, errors, level);
-    if is_taking(turn.state) {
-        *reader = reader_after_sof();
-        return make(turn, state, counters);
-    }
-    make(turn, state, counters)
-}
-
-/// The same, of which most only count on in a flag, a delimiter or the intermission.
+/// A turn of a node that neither reads nor sends a frame. Most only count on in a flag, a delimiter or the intermission.
 #[inline(never)]
 fn turn_outside(
     state: &mut State,
@@ -323,7 +303,13 @@ fn turn_outside(
     if count_on(state, level) {
         return Outcome::Nothing;
     }
-    turn_elsewhere(state, counters, reader, now, level)
+    let errors = counters.state();
+    let turn = turn_of(*state, now, errors, level);
+    if is_taking(turn.state) {
+        *reader = reader_after_sof();
+        return make(turn, state, counters);
+    }
+    make(turn, state, counters)
 }
 
 /// One bit of a node, at which it samples this level: what it brings to an end. If a frame is read, its reader is
