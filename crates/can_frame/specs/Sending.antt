@@ -1,7 +1,7 @@
 -- A frame as its sender drives it, and what a bit of it is. Bosch CAN Specification 2.0, part B, 3.2.1 DATA FRAME,
 -- ARBITRATION FIELD and ACK FIELD.
-use Rattle.std.specs.Prelude.{◌≡◌, ℕ, ◌+◌, ◌≤◌, ◌<◌, min, Bool, true, false, List, [], ◌∷◌, length, reverse, take}
-use Rattle.std.specs.Prelude.{get_or}
+use Rattle.std.specs.Prelude.{◌≡◌, ◌≢◌, ℕ, ◌+◌, ◌-◌, ◌≤◌, ◌<◌, min, Bool, true, false, List, [], ◌∷◌, length, reverse}
+use Rattle.std.specs.Prelude.{get_or, if◌then◌else◌, nat_le, take}
 use Rattle.can_frame.specs.Frames.{FrameValue, IsFrameValue, Identifier, standard, extended}
 use Rattle.can_frame.specs.Fields.{senders_choice}
 use Rattle.can_frame.specs.Stuffing.{five_equal, unstuffed}
@@ -29,11 +29,17 @@ pub record IsSpelling (frame : FrameValue) (spelling : Spelling) : Type 0 where
 abbrev pub level_at : Spelling → ℕ → Bool
 level_at spelling place = get_or spelling.levels.items place true
 
--- these levels stand from this place on, all before the ACK slot
+-- these levels stand from this place on, none of them in the ACK slot, and all before the last bit of EOF
 abbrev pub StandAhead : Spelling → ℕ → List Bool → Type 0
 StandAhead spelling place [] = Unit {0}
-StandAhead spelling place (level ∷ levels) = (place + 9 < length spelling.levels.items)
-    × (level ≡ level_at spelling place) × StandAhead spelling (place + 1) levels
+StandAhead spelling place (level ∷ levels) = (place + 9 ≢ length spelling.levels.items)
+    × (place + 1 < length spelling.levels.items) × (level ≡ level_at spelling place)
+    × StandAhead spelling (place + 1) levels
+
+-- how many do at most: those before the ACK slot, or those behind it but the last bit of EOF
+abbrev pub left_ahead : Spelling → ℕ → ℕ
+left_ahead spelling place = if nat_le (place + 9) (length spelling.levels.items)
+    then length spelling.levels.items - (place + 9) else length spelling.levels.items - (place + 1)
 
 -- The sender goes on where the bit in this place has this level: in the ACK slot a dominant one, elsewhere the one that
 -- it drives, but in the last bit of EOF, behind which the frame is sent.

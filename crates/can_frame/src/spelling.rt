@@ -2,8 +2,8 @@
 
 ghost use Rattle.std.specs.Prelude.{◌≡◌, ◌⊎◌, ◌≤◌, ◌<◌, ◌+◌, ◌-◌, ◌∷◌, List, Bool, true};
 ghost use Rattle.std.specs.Prelude.{false, IfNone, IfSome, length, reverse, min, take};
-ghost use Rattle.can_frame.specs.Sending.{IsSpelling, IsBitAt, SendsOn, StandAhead, level_at, rtr_place, Tallies};
-ghost use Rattle.can_frame.specs.Sending.{SaysBit};
+ghost use Rattle.can_frame.specs.Sending.{IsSpelling, IsBitAt, SendsOn, StandAhead, left_ahead, level_at, rtr_place};
+ghost use Rattle.can_frame.specs.Sending.{SaysBit, Tallies};
 
 use crate::frame::Frame;
 use crate::identifier::Id;
@@ -114,20 +114,25 @@ impl Spelling {
         Some(self.level(place))
     }
 
-    /// Those levels from this place on that stand before the ACK slot, `most` at most.
+    /// Those levels from this place on that stand before the ACK slot, or behind it but for the last bit of EOF, `most`
+    /// at most.
     pub fn ahead(&self, place: u8, most: usize) -> &[bool]
         ensures few { length result.now ≤ most }
         ensures short { place + length result.now ≤ 255 }
         ensures ahead { StandAhead self.now place result.now }
-        ensures all { length result.now ≡ min most (length self.now.levels.items - (place + 9)) }
+        ensures all { length result.now ≡ min most (left_ahead self.now place) }
     {
         let levels = self.levels.as_slice();
         let from = usize::from(place);
-        let slot = levels.len().saturating_sub(9);
-        if slot <= from {
+        let end = if from + 9 <= levels.len() {
+            levels.len() - 9
+        } else {
+            levels.len().saturating_sub(1)
+        };
+        if end <= from {
             return &[];
         }
-        &levels[from..slot.min(from.saturating_add(most))]
+        &levels[from..end.min(from.saturating_add(most))]
     }
 
     /// Whether the sender goes on where the bit in this place has this level: in the ACK slot with a dominant one,

@@ -24,7 +24,8 @@ ahead_taken : (spelling : Spelling) (place n : ℕ) (levels : List Bool) → Sta
     StandAhead spelling place (take n levels)
 ahead_taken spelling place zero levels h = tt
 ahead_taken spelling place (suc n) [] h = tt
-ahead_taken spelling place (suc n) (level ∷ levels) h = (h.0, h.1, ahead_taken spelling (place + 1) n levels h.2)
+ahead_taken spelling place (suc n) (level ∷ levels) h =
+    (h.0, h.1, h.2, ahead_taken spelling (place + 1) n levels h.3)
 
 out_taken : (state : State) (n : ℕ) (levels : List Bool) → StaysOut state levels → StaysOut state (take n levels)
 out_taken state zero levels h = tt
@@ -80,10 +81,10 @@ sends_by node start place (level ∷ levels) here ahead short =
     let later : node.clock + suc n ≡ node.clock + 1 + n = omega arith in (
       mid,
       goes_sending node start place (place + 1) level here
-          (echoed (λ e. omega (arith, e, ahead.0)) (λ e. omega (arith, e, ahead.0)) ahead.1)
+          (echoed ahead.0 (λ e. let short = ahead.1 in omega (arith, e, short)) ahead.2)
           (omega (arith, short)),
-      ap (λ state. level_in state node.spelling) here ∙ sym ahead.1,
-      rw (further, later) (sends_by mid start (place + 1) levels refl ahead.2 (omega (arith, short))),
+      ap (λ state. level_in state node.spelling) here ∙ sym ahead.2,
+      rw (further, later) (sends_by mid start (place + 1) levels refl ahead.3 (omega (arith, short))),
     )
 
 -- one that stays in bus off or in a flag

@@ -2,7 +2,9 @@
 use Rattle.std.specs.Prelude.{◌≡◌, ◌⊎◌, ℕ, ◌+◌, Bool, true, false, None, Some, List, [], ◌∷◌}
 use Rattle.can_confinement.specs.declared.confinement.ErrorEvent.TheVariants.{Received}
 use Rattle.can_node.specs.declared.outcome.Outcome.TheVariants.{Nothing, Took}
-use Rattle.can_node.specs.declared.state.State.TheVariants.{Closing}
+use Rattle.can_node.specs.declared.state.State.{State}
+use Rattle.can_node.specs.declared.state.State.TheVariants.{Closing, Taking}
+use Rattle.can_node.specs.declared.state.Stage.TheVariants.{AfterSlot}
 use Rattle.can_node.specs.declared.taken_frame.TakenFrame.{TakenFrame}
 use Rattle.can_node.specs.declared.state.Turn.{Turn}
 use Rattle.can_node.specs.declared.node.Node.{Node}
@@ -21,6 +23,11 @@ IsListening listener = is_sending listener.state ≡ false
 -- it reads within the stuffed region of a frame, and may not begin to send instead
 abbrev pub is_reading : Listener → Bool
 is_reading listener = is_in_region listener.state
+
+-- it reads behind the ACK slot of a frame, and may not begin to send instead
+abbrev pub is_past_slot : State → Bool
+is_past_slot (Taking start false AfterSlot) = true
+is_past_slot state = false
 
 -- it has come as far as this node
 abbrev pub listener_of : Node → Listener

@@ -16,7 +16,7 @@ use Rattle.can_node.specs.declared.state.Turn.{Turn}
 use Rattle.can_node.specs.Histories.{Past, IsHistory}
 use Rattle.can_node.specs.Machine.{Goes, is_in_region, is_receiver, is_taking, quiet}
 use Rattle.can_node.specs.Node.{StandsAfter, IsSample, bit_of, counters_in, driven_by, may_begin}
-use Rattle.can_frame.specs.Sending.{SendsOn, StandAhead}
+use Rattle.can_frame.specs.Sending.{SendsOn, StandAhead, left_ahead}
 
 -- a dominant sample behind a flag counts nothing: it is not the first behind a receiver's, nor the last of a counted
 -- run
@@ -97,8 +97,8 @@ abbrev pub StaysNoLonger : State → List Bool → ℕ → Type 0
 StaysNoLonger state levels count = count < length levels →
     stays_out (get_or levels count false) (out_behind_all state (take count levels)) ≡ false
 
--- The node goes on with these levels, one after another: it sends a frame, and they are the next that it drives, before
--- its ACK slot; or it stays in bus off, or in a passive error flag.
+-- The node goes on with these levels, one after another: it sends a frame, and they are the next that it drives, none in
+-- its ACK slot or its last bit; or it stays in bus off, or in a passive error flag.
 pub data MayGoOnBy (is_sender : Bool) (levels : List Bool) (node : Node) : Type 0 where
   sends_on : (start place : ℕ) → is_sender ≡ true → node.state ≡ Sending start place →
       StandAhead node.spelling place levels → place + length levels ≤ 255 → MayGoOnBy is_sender levels node
@@ -108,10 +108,10 @@ pub data MayGoOnBy (is_sender : Bool) (levels : List Bool) (node : Node) : Type 
 abbrev pub EndsOut : Node → List Bool → ℕ → Type 0
 EndsOut node = StaysNoLonger node.state
 
--- how many levels a node drives before its ACK slot that sends a frame: the slot, its delimiter and the seven bits of EOF
--- are the last nine of its spelling
+-- how many levels a node that sends a frame drives one after another: before its ACK slot, or behind that but for the
+-- last bit of EOF
 abbrev pub left_to_send : State → Spelling → ℕ
-left_to_send (Sending start place) spelling = length spelling.levels.items - (place + 9)
+left_to_send (Sending start place) spelling = left_ahead spelling place
 left_to_send state spelling = 0
 
 abbrev pub count_ahead : Node → ℕ

@@ -5,7 +5,7 @@ ghost use Rattle.can_node.specs.declared.node.Node.{Node};
 ghost use Rattle.can_node.specs.Machine.{GoesReading, is_sending, is_taking};
 ghost use Rattle.can_node.specs.Node.{driven_by, may_begin};
 ghost use Rattle.can_node.specs.Listener.{AllTake, IsListening, IsUnseen, Follows, ReadsAlong, ReadsAlongBy};
-ghost use Rattle.can_node.specs.Listener.{caught_up, is_reading};
+ghost use Rattle.can_node.specs.Listener.{caught_up, is_past_slot, is_reading};
 ghost use Rattle.can_confinement.specs.declared.known_counts.KnownCounts.{KnownCounts as KnownCountsValue};
 ghost use Rattle.can_confinement.specs.declared.confinement.ErrorState.{ErrorState as ErrorStateValue};
 
@@ -55,6 +55,14 @@ impl Listener {
         is_in_region(self.state)
     }
 
+    /// Whether they read behind the ACK slot of a frame, and need not choose any more between reading and sending.
+    #[inline]
+    pub fn is_past_slot(&self) -> bool
+        ensures { result ≡ is_past_slot self.now.state }
+    {
+        matches!(self.state, State::Taking(_, false, Stage::AfterSlot))
+    }
+
     /// Follows the line through a bit at which all of them sample this level, and tells whether it did: then each
     /// has told nothing and counted nothing that changes a count. Of their counts so much is `known`: where all are 0
     /// it follows a frame that is acknowledged too. Else it is as it was, and the nodes have to sample that level
@@ -90,18 +98,31 @@ impl Listener {
         self.reads_end(level)
     }
 
-    /// Follows bits of the stuffed region of a frame, at which all of them drive recessive, none may begin to send, and
-    /// each samples the first of these levels, one after another, and tells how many those are: then each has told
-    /// nothing and counted nothing.
+    /// Follows bits of a frame, at which all of them drive recessive, none may begin to send, and each samples the first
+    /// of these levels, one after another, and tells how many those are: then each has told nothing and counted nothing.
+    /// They are all in the stuffed region, or all behind it.
     #[inline(always)]
     pub fn reads_along_by(&mut self, levels: &[bool]) -> usize
         ensures few { result ≤ length levels.now }
         ensures along { ReadsAlongBy self.old (take result levels.now) self.new }
     {
-        if !is_in_region(self.state) {
-            return 0;
+        if is_in_region(self.state) {
+            return self.reader.reads_on_by(levels);
         }
-        self.reader.reads_on_by(levels)
+        self.reads_end_by(levels)
+    }
+
+    /// So behind the stuffed region.
+    fn reads_end_by(&mut self, levels: &[bool]) -> usize
+        ensures few { result ≤ length levels.now }
+        ensures along { ReadsAlongBy self.old (take result levels.now) self.new }
+    {
+        for (place, level) in levels.iter().enumerate() {
+            if !self.reads_end(*level) {
+                return place;
+            }
+        }
+        levels.len()
     }
 
     /// The frame that each of them takes if it samples this level at the next bit, the last but one of EOF: then it has

@@ -244,8 +244,8 @@ impl Node {
         Some(level)
     }
 
-    /// The levels that the node drives next in a frame that it sends, up to the ACK slot and `most` at most: it goes on
-    /// with them one after another. None where it sends no frame.
+    /// The levels that the node drives next in a frame that it sends, up to the ACK slot or behind it up to the last bit
+    /// of EOF, and `most` at most: it goes on with them one after another. None where it sends no frame.
     pub fn ahead(&self, most: usize) -> &[bool]
         ensures few { length result.now ≤ most }
         ensures may { 0 < length result.now → MayGoOnBy true result.now self.now }

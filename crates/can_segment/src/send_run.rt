@@ -1,5 +1,5 @@
-//! Bits of the stuffed region of a frame, many at once: one node sends, and all others rest, are in bus off or are in
-//! passive error flags.
+//! Bits of the stuffed region of a frame or of its end, many at once: one node sends, and all others rest, are in bus
+//! off or are in passive error flags.
 
 ghost use Rattle.std.specs.Prelude.{◌≡◌, ◌≤◌, ◌<◌, ◌+◌, ◌-◌, ◌++◌, true, Bool, List, Some, IfSome, length, slice_get};
 ghost use Rattle.std.specs.Prelude.{vec_capacity, vec_len};
@@ -50,9 +50,9 @@ fn ahead_beside<'a>(
     &ahead[..beside]
 }
 
-/// As many of the next bits as the one of these nodes at this place sends in the stuffed region of its frame while the
-/// listener follows for those that rest, and all others stay in bus off or in passive error flags: `most` at most.
-/// Their levels are kept behind those of `levels`, which has room for them.
+/// As many of the next bits as the one of these nodes at this place sends in the stuffed region of its frame or behind
+/// the ACK slot while the listener follows for those that rest, and all others stay in bus off or in passive error flags:
+/// `most` at most. Their levels are kept behind those of `levels`, which has room for them.
 fn send_beside(
     levels: &mut Vec<bool>,
     senders: &mut [Member],
@@ -92,9 +92,9 @@ fn send_beside(
     go_on_by(others, sent, awake_others);
 }
 
-/// As many of the next bits as one node sends in the stuffed region of its frame while all others rest or stay in bus
-/// off or in passive error flags: `most` at most, and none where that is not so. Their levels are kept behind those of
-/// `levels`, which has room for them.
+/// As many of the next bits as one node sends in the stuffed region of its frame or behind the ACK slot while all others
+/// rest or stay in bus off or in passive error flags: `most` at most, and none where that is not so. Their levels are
+/// kept behind those of `levels`, which has room for them.
 pub(crate) fn send_run(
     levels: &mut Vec<bool>,
     talkers: &mut [Member],
