@@ -11,11 +11,14 @@ use Rattle.can_node.specs.declared.node.Node.{Node}
 use Rattle.can_node.specs.declared.state.State.{State}
 use Rattle.can_confinement.specs.Confinement.{state_of}
 use Rattle.can_confinement.specs.Counters.{counts_of}
-use Rattle.can_node.specs.declared.state.State.TheVariants.{PassiveFlagging, Recovering, Sending}
-use Rattle.can_node.specs.Machine.{level_in}
+use Rattle.can_node.specs.declared.state.State.TheVariants.{Delimiting, PassiveFlagging, Recovering}
+use Rattle.can_node.specs.declared.state.State.TheVariants.{Resting, Sending, Suspending}
+use Rattle.can_node.specs.Machine.{is_sending, level_in, may_start}
 use Rattle.can_node.specs.PlainBits.{GoesOnBy, LeavesPlainly, MayGoOnBy, StaysOut, is_plain, out_behind, out_behind_all}
 use Rattle.can_node.specs.PlainBits.{stays_out}
 use Rattle.can_node.specs.PlainBits.MayGoOnBy.{sends_on, waits_on}
+use Rattle.can_node.proofs.ErrorMoves.{delimit_on}
+use Rattle.can_node.proofs.Moves.{rest_on, suspend_on}
 use Rattle.can_node.proofs.PassiveMoves.{passive_dominant, passive_recessive}
 use Rattle.can_node.proofs.PlainBits.{behind, goes_plainly, goes_sending, off_broken_plain, off_longer_plain}
 
@@ -87,25 +90,34 @@ sends_by node start place (level ∷ levels) here ahead short =
       rw (further, later) (sends_by mid start (place + 1) levels refl ahead.3 (omega (arith, short))),
     )
 
--- one that stays in bus off or in a flag
+-- one that stays in bus off or in a flag, or waits on
 pub record IsOut (state : State) (level : Bool) : Type 0 where
   pub plain : is_plain level state ≡ true
   pub leaves : (counters : Counters) (now : ℕ) → LeavesPlainly state counters now level (out_behind state level)
   pub drives : (spelling : Spelling) → level_in state spelling ≡ true
+  pub begins : may_start state ≡ false
+  pub sends : is_sending state ≡ false
+  pub sends_then : is_sending (out_behind state level) ≡ false
 
 few_of : (n most : ℕ) → nat_le n most ≡ true → n ≤ most
 few_of n most h = elim (leb_tells n most) [ inl is ↦ is.1 | inr not ↦ absurd (let no = not.0 in cc (no, h)) ]
 
-is_out : (state : State) (level : Bool) → stays_out level state ≡ true → IsOut state level
+pub is_out : (state : State) (level : Bool) → stays_out level state ≡ true → IsOut state level
 is_out (Recovering runs ones) true h = record {
   plain = h;
   leaves = λ counters now. off_longer_plain runs ones counters now (let few = few_of ones 9 h in omega (arith, few));
   drives = λ spelling. refl;
+  begins = refl;
+  sends = refl;
+  sends_then = refl;
 }
 is_out (Recovering runs ones) false h = record {
   plain = h;
   leaves = λ counters now. off_broken_plain runs ones counters now;
   drives = λ spelling. refl;
+  begins = refl;
+  sends = refl;
+  sends_then = refl;
 }
 is_out (PassiveFlagging role owes ones zeros) true h = record {
   plain = refl;
@@ -115,6 +127,9 @@ is_out (PassiveFlagging role owes ones zeros) true h = record {
     reads_none = refl;
   };
   drives = λ spelling. refl;
+  begins = refl;
+  sends = refl;
+  sends_then = refl;
 }
 is_out (PassiveFlagging role true ones zeros) false h = absurd (cc h)
 is_out (PassiveFlagging role false ones zeros) false h = record {
@@ -125,6 +140,42 @@ is_out (PassiveFlagging role false ones zeros) false h = record {
     reads_none = refl;
   };
   drives = λ spelling. refl;
+  begins = refl;
+  sends = refl;
+  sends_then = refl;
+}
+is_out (Delimiting role ones) true h = record {
+  plain = refl;
+  leaves = λ counters now. record {
+    goes = delimit_on role ones now (state_of (counts_of counters)) (let few = few_of ones 6 h in omega (arith, few));
+    reads_none = refl;
+  };
+  drives = λ spelling. refl;
+  begins = refl;
+  sends = refl;
+  sends_then = refl;
+}
+is_out (Resting role ones) true h = record {
+  plain = refl;
+  leaves = λ counters now. record {
+    goes = rest_on role ones now (state_of (counts_of counters)) (let few = few_of ones 1 h in omega (arith, few));
+    reads_none = refl;
+  };
+  drives = λ spelling. refl;
+  begins = refl;
+  sends = refl;
+  sends_then = refl;
+}
+is_out (Suspending ones) true h = record {
+  plain = refl;
+  leaves = λ counters now. record {
+    goes = suspend_on ones now (state_of (counts_of counters)) (let few = few_of ones 6 h in omega (arith, few));
+    reads_none = refl;
+  };
+  drives = λ spelling. refl;
+  begins = refl;
+  sends = refl;
+  sends_then = refl;
 }
 is_out state level h = absurd (cc h)
 

@@ -1,5 +1,5 @@
 -- One that follows a line in place of nodes that listen to it and have come equally far.
-use Rattle.std.specs.Prelude.{◌≡◌, ◌⊎◌, ℕ, ◌+◌, Bool, true, false, None, Some, List, [], ◌∷◌}
+use Rattle.std.specs.Prelude.{◌≡◌, ◌⊎◌, ℕ, ◌+◌, ◌||◌, Bool, true, false, None, Some, List, [], ◌∷◌}
 use Rattle.can_confinement.specs.declared.confinement.ErrorEvent.TheVariants.{Received}
 use Rattle.can_node.specs.declared.outcome.Outcome.TheVariants.{Nothing, Took}
 use Rattle.can_node.specs.declared.state.State.{State}
@@ -15,6 +15,7 @@ use Rattle.can_confinement.specs.declared.known_counts.KnownCounts.TheVariants.{
 use Rattle.can_node.specs.Histories.{Past, IsHistory}
 use Rattle.can_node.specs.Machine.{is_in_region, is_sending, listens}
 use Rattle.can_node.specs.Node.{StandsAfter, IsSample, bit_of, counters_in, driven_by, may_begin}
+use Rattle.can_node.specs.PlainBits.{stays_out}
 
 -- it sends no frame
 abbrev pub IsListening : Listener → Type 0
@@ -24,10 +25,11 @@ IsListening listener = is_sending listener.state ≡ false
 abbrev pub is_reading : Listener → Bool
 is_reading listener = is_in_region listener.state
 
--- it reads behind the ACK slot of a frame, and may not begin to send instead
-abbrev pub is_past_slot : State → Bool
-is_past_slot (Taking start false AfterSlot) = true
-is_past_slot state = false
+-- it reads within the stuffed region of a frame or behind the ACK slot, and may not begin to send instead, or waits on
+-- with a recessive level
+abbrev pub may_follow_by : State → Bool
+may_follow_by (Taking start false AfterSlot) = true
+may_follow_by state = is_in_region state || stays_out true state
 
 -- it has come as far as this node
 abbrev pub listener_of : Node → Listener
@@ -69,8 +71,8 @@ pub record IsUnseen (known : KnownCounts) (turn : Turn) : Type 0 where
   pub counts_none : (turn.event ≡ None) ⊎ ((known ≡ Zero) × (turn.event ≡ Some Received))
   pub sends_none : is_sending turn.state ≡ false
 
--- One bit of a frame that all read for whom a listener stands, at which each drives recessive and none may begin to
--- send: each samples this level, tells nothing and counts nothing.
+-- One bit at which each for whom a listener stands drives recessive and none may begin to send, as most are of a frame
+-- that all read, of a delimiter and of the intermission: each samples this level, tells nothing and counts nothing.
 pub record ReadsAlong (before : Listener) (level : Bool) (after : Listener) : Type 0 where
   pub drives : (node : Node) (bit : ℕ) → driven_by (caught_up node before bit) ≡ true
   pub begins : (node : Node) (bit : ℕ) → may_begin (caught_up node before bit) ≡ false

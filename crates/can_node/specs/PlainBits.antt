@@ -67,12 +67,16 @@ pub record GoesOn (old : Node) (level : Bool) (new : Node) : Type 0 where
   pub counts_none : counters_in new ≡ counters_in old
 
 -- A node stays in bus off with this level, for no run of eleven recessive bits ends with it, or in a passive error
--- flag, for that doesn't end with it and counts nothing. This and what follows up to `MayGoOnBy` are conditions: what
--- is promised under them is `GoesOnBy`, by the samples of the node's histories.
+-- flag, for that doesn't end with it and counts nothing; or it waits on with a recessive level in a delimiter, the
+-- intermission or suspend transmission, for that doesn't end with it. This and what follows up to `MayGoOnBy` are
+-- conditions: what is promised under them is `GoesOnBy`, by the samples of the node's histories.
 abbrev pub stays_out : Bool → State → Bool
 stays_out level (Recovering runs ones) = nat_le ones 9
 stays_out true (PassiveFlagging role owes ones zeros) = nat_le ones 4
 stays_out false (PassiveFlagging role owes ones zeros) = not owes && nat_le zeros 4
+stays_out true (Delimiting role ones) = nat_le ones 6
+stays_out true (Resting role ones) = nat_le ones 1
+stays_out true (Suspending ones) = nat_le ones 6
 stays_out level state = false
 
 -- where it is then
@@ -81,6 +85,9 @@ out_behind (Recovering runs ones) true = Recovering runs (ones + 1)
 out_behind (Recovering runs ones) false = Recovering runs 0
 out_behind (PassiveFlagging role owes ones zeros) true = PassiveFlagging role owes (ones + 1) 0
 out_behind (PassiveFlagging role owes ones zeros) false = PassiveFlagging role owes 0 (zeros + 1)
+out_behind (Delimiting role ones) true = Delimiting role (ones + 1)
+out_behind (Resting role ones) true = Resting role (ones + 1)
+out_behind (Suspending ones) true = Suspending (ones + 1)
 out_behind state level = state
 
 -- so with these levels, one after another
@@ -98,7 +105,7 @@ StaysNoLonger state levels count = count < length levels →
     stays_out (get_or levels count false) (out_behind_all state (take count levels)) ≡ false
 
 -- The node goes on with these levels, one after another: it sends a frame, and they are the next that it drives, none in
--- its ACK slot or its last bit; or it stays in bus off, or in a passive error flag.
+-- its ACK slot or its last bit; or it stays in what it waits for, as said above.
 pub data MayGoOnBy (is_sender : Bool) (levels : List Bool) (node : Node) : Type 0 where
   sends_on : (start place : ℕ) → is_sender ≡ true → node.state ≡ Sending start place →
       StandAhead node.spelling place levels → place + length levels ≤ 255 → MayGoOnBy is_sender levels node

@@ -5,7 +5,7 @@ ghost use Rattle.can_node.specs.declared.node.Node.{Node};
 ghost use Rattle.can_node.specs.Machine.{GoesReading, is_sending, is_taking};
 ghost use Rattle.can_node.specs.Node.{driven_by, may_begin};
 ghost use Rattle.can_node.specs.Listener.{AllTake, IsListening, IsUnseen, Follows, ReadsAlong, ReadsAlongBy};
-ghost use Rattle.can_node.specs.Listener.{caught_up, is_past_slot, is_reading};
+ghost use Rattle.can_node.specs.Listener.{caught_up, is_reading, may_follow_by};
 ghost use Rattle.can_confinement.specs.declared.known_counts.KnownCounts.{KnownCounts as KnownCountsValue};
 ghost use Rattle.can_confinement.specs.declared.confinement.ErrorState.{ErrorState as ErrorStateValue};
 
@@ -14,7 +14,7 @@ use crate::machine::{
     turns_alike,
 };
 use crate::outcome::Outcome;
-use crate::plain_bits::count_on;
+use crate::plain_bits::{count_on, out_behind, out_behind_all, stays_out};
 use crate::state::{Stage, State, Turn};
 use crate::taken_frame::TakenFrame;
 use crate::takes::after_taking;
@@ -55,12 +55,19 @@ impl Listener {
         is_in_region(self.state)
     }
 
-    /// Whether they read behind the ACK slot of a frame, and need not choose any more between reading and sending.
-    #[inline]
-    pub fn is_past_slot(&self) -> bool
-        ensures { result ≡ is_past_slot self.now.state }
+    /// Whether `reads_along_by` may follow many bits: they read within the stuffed region of a frame or behind the ACK
+    /// slot, and need not choose any more between reading and sending, or wait on with a recessive level in a delimiter,
+    /// the intermission or a passive error flag.
+    #[inline(always)]
+    pub fn may_follow_by(&self) -> bool
+        ensures { result ≡ may_follow_by self.now.state }
     {
-        matches!(self.state, State::Taking(_, false, Stage::AfterSlot))
+        match self.state {
+            State::Taking(_, may_begin, stage) => {
+                !may_begin && (stage == Stage::Region || stage == Stage::AfterSlot)
+            }
+            state => out_behind(state, true).is_some(),
+        }
     }
 
     /// Follows the line through a bit at which all of them sample this level, and tells whether it did: then each
@@ -98,9 +105,9 @@ impl Listener {
         self.reads_end(level)
     }
 
-    /// Follows bits of a frame, at which all of them drive recessive, none may begin to send, and each samples the first
-    /// of these levels, one after another, and tells how many those are: then each has told nothing and counted nothing.
-    /// They are all in the stuffed region, or all behind it.
+    /// Follows bits at which all of them drive recessive, none may begin to send, and each samples the first of these
+    /// levels, one after another, and tells how many those are: then each has told nothing and counted nothing. They are
+    /// all in the stuffed region of a frame, all behind it, or all in what they wait for.
     #[inline(always)]
     pub fn reads_along_by(&mut self, levels: &[bool]) -> usize
         ensures few { result ≤ length levels.now }
@@ -109,7 +116,20 @@ impl Listener {
         if is_in_region(self.state) {
             return self.reader.reads_on_by(levels);
         }
-        self.reads_end_by(levels)
+        if is_taking(self.state) {
+            return self.reads_end_by(levels);
+        }
+        self.waits_by(levels)
+    }
+
+    /// So where they wait on.
+    fn waits_by(&mut self, levels: &[bool]) -> usize
+        ensures few { result ≤ length levels.now }
+        ensures along { ReadsAlongBy self.old (take result levels.now) self.new }
+    {
+        let count = stays_out(self.state, levels);
+        self.state = out_behind_all(self.state, &levels[..count]);
+        count
     }
 
     /// So behind the stuffed region.

@@ -91,9 +91,10 @@ pub(crate) fn count_on(state: &mut State, level: bool) -> bool
 }
 
 /// Where a node in this state is behind a bit with this level, if it is in bus off or in a passive error flag and stays
-/// there: no run of eleven recessive bits ends, nor the flag, and nothing is counted. `None` elsewhere.
+/// there: no run of eleven recessive bits ends, nor the flag, and nothing is counted; or if it waits on in a delimiter,
+/// the intermission or suspend transmission. `None` elsewhere.
 #[inline(always)]
-fn out_behind(state: State, level: bool) -> Option<State>
+pub(crate) fn out_behind(state: State, level: bool) -> Option<State>
     ensures stays { IfSome result (λ next. (stays_out level state ≡ true) × (next ≡ out_behind state level)) }
     ensures none { IfNone result (stays_out level state ≡ false) }
 {
@@ -107,6 +108,11 @@ fn out_behind(state: State, level: bool) -> Option<State>
         State::PassiveFlagging(role, false, _, zeros) if !level && zeros <= 4 => {
             Some(State::PassiveFlagging(role, false, 0, zeros + 1))
         }
+        State::Delimiting(role, ones) if level && ones <= 6 => {
+            Some(State::Delimiting(role, ones + 1))
+        }
+        State::Resting(role, ones) if level && ones <= 1 => Some(State::Resting(role, ones + 1)),
+        State::Suspending(ones) if level && ones <= 6 => Some(State::Suspending(ones + 1)),
         _ => None,
     }
 }

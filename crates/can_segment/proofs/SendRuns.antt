@@ -17,7 +17,7 @@ use Rattle.can_station.proofs.GoingBy.{by_taken}
 use Rattle.can_station.proofs.Places.{same_some, some_there}
 use Rattle.can_station.proofs.Spans.{all_pass}
 use Rattle.can_segment.specs.declared.rest.Rest.{Rest}
-use Rattle.can_segment.specs.Rests.{GoQuietlyBy, GoesQuietly, driven_beside}
+use Rattle.can_segment.specs.Rests.{AreRecessive, GoQuietlyBy, GoesQuietly, driven_beside}
 use Rattle.can_segment.proofs.SoleSender.{and_true, one_passes, rests_through, with_listener}
 use Rattle.can_segment.proofs.Woken.{same_list}
 
@@ -216,6 +216,12 @@ all_run place bit sent old new sender others h = record {
   size = h.size;
 }
 
+-- none stands at a place behind the last
+not_behind : (past : ℕ) (members : List Member) (m : Member) → length members ≤ past →
+    slice_get members past ≡ Some m → ⊥
+not_behind past members m none e =
+    let within = slice_get_within members past m e in omega (arith, within, none)
+
 pub sent_beside : (place past bit : ℕ) (sent : List Bool) (rest : Rest) (after : Listener)
     (s0 s1 o0 o1 : List Member) (m : Member) → slice_get s0 place ≡ Some m → length o0 ≤ past →
     MayGoBy true bit sent m → OthersStayOut place bit sent s0 → OthersStayOut past bit sent o0 →
@@ -225,8 +231,60 @@ sent_beside place past bit sent rest after s0 s1 o0 o1 m there beyond may stay s
     run_beside place past bit sent rest after s0 s1 o0 o1 m there may.awake beyond
     (all_run place bit sent s0 s1 (λ x e. subst (MayGoBy true bit sent) (same_some m x (sym there ∙ e)) may) stay go)
     (all_run past bit sent o0 o1
-    (λ x e. absurd (let within = slice_get_within o0 past x e in omega (arith, within, beyond))) stay_too go_too)
-    along
+    (λ x e. absurd (not_behind past o0 x beyond e)) stay_too go_too) along
+
+-- recessive levels that all wait with
+waited_bit : (past beyond bit : ℕ) (rest : Rest) (after : Listener) (s0 s1 o0 o1 : List Member) → length s0 ≤ past →
+    length o0 ≤ beyond → AtPlaces (λ k. StepsAt (nat_eq k past) bit true) s0 s1 →
+    AtPlaces (λ k. StepsAt (nat_eq k beyond) bit true) o0 o1 → ReadsAlong rest.listener true after →
+    GoesQuietly bit true rest (with_listener rest after) s0 s1 o0 o1
+waited_bit past beyond bit rest after s0 s1 o0 o1 none none_too senders others along = record {
+  starts_none = inr along.begins;
+  through = rests_through rest bit after true (along.follows rest.known bit) along.listens;
+  resting = true;
+  drives = λ listening node at. sym (along.drives node at);
+  talkers = steps_go past bit true s0 s1 senders;
+  controllers = steps_go beyond bit true o0 o1 others;
+  level_is = sym (ap (λ b. b && driven_beside bit true o0) (none_drives past bit true s0 s1 senders none)
+      ∙ none_drives beyond bit true o0 o1 others none_too);
+}
+
+wait_beside : (past beyond bit : ℕ) (sent : List Bool) (rest : Rest) (after : Listener) (s0 s1 o0 o1 : List Member) →
+    AreRecessive sent → length s0 ≤ past → length o0 ≤ beyond → AllRun past bit sent s0 s1 →
+    AllRun beyond bit sent o0 o1 → ReadsAlongBy rest.listener sent after →
+    GoQuietlyBy bit sent rest (with_listener rest after) s0 s1 o0 o1
+wait_beside past beyond bit [] rest after s0 s1 o0 o1 recessive none none_too senders others along =
+    (ap (with_listener rest) along, none_runs past bit s0 s1 senders, none_runs beyond bit o0 o1 others)
+wait_beside past beyond bit (level ∷ sent) rest after s0 s1 o0 o1 recessive none none_too senders others along =
+    let s = all_first past bit level sent s0 s1 senders in
+    let o = all_first beyond bit level sent o0 o1 others in
+    let is = recessive.0 in (
+      with_listener rest along.0,
+      s.0,
+      o.0,
+      subst (λ l. GoesQuietly bit l rest (with_listener rest along.0) s0 s.0 o0 o.0) (sym is)
+          (waited_bit past beyond bit rest along.0 s0 s.0 o0 o.0 none none_too
+          (subst (λ l. AtPlaces (λ k. StepsAt (nat_eq k past) bit l) s0 s.0) is s.1)
+          (subst (λ l. AtPlaces (λ k. StepsAt (nat_eq k beyond) bit l) o0 o.0) is o.1)
+          (subst (λ l. ReadsAlong rest.listener l along.0) is along.1)),
+      wait_beside past beyond (bit + 1) sent (with_listener rest along.0) after s.0 s1 o.0 o1 recessive.1
+          (omega (arith, none, s.1.size)) (omega (arith, none_too, o.1.size)) s.2 o.2 along.2,
+    )
+
+pub waited_beside : (past beyond bit : ℕ) (sent : List Bool) (rest : Rest) (after : Listener)
+    (s0 s1 o0 o1 : List Member) → AreRecessive sent → length s0 ≤ past → length o0 ≤ beyond →
+    OthersStayOut past bit sent s0 → OthersStayOut beyond bit sent o0 →
+    AtPlaces (λ k. IfAwake (GoesAsItMay sent)) s0 s1 → AtPlaces (λ k. IfAwake (GoesAsItMay sent)) o0 o1 →
+    ReadsAlongBy rest.listener sent after → GoQuietlyBy bit sent rest (with_listener rest after) s0 s1 o0 o1
+waited_beside past beyond bit sent rest after s0 s1 o0 o1 recessive none none_too stay stay_too go go_too along =
+    wait_beside past beyond bit sent rest after s0 s1 o0 o1 recessive none none_too
+    (all_run past bit sent s0 s1 (λ m e. absurd (not_behind past s0 m none e)) stay go)
+    (all_run beyond bit sent o0 o1 (λ m e. absurd (not_behind beyond o0 m none_too e)) stay_too go_too) along
+
+pub recessive_taken : (n : ℕ) (levels : List Bool) → AreRecessive levels → AreRecessive (take n levels)
+recessive_taken zero levels h = tt
+recessive_taken (suc n) [] h = tt
+recessive_taken (suc n) (level ∷ levels) h = (h.0, recessive_taken n levels h.1)
 
 -- so with the first of the levels
 pub out_taken : (place bit n : ℕ) (levels : List Bool) (members : List Member) →
@@ -259,8 +317,7 @@ each_on place bit ahead members sender others k m e awake = elim (eqb_tells k pl
 -- none stands behind the last
 pub none_at : (members : List Member) (bit : ℕ) (ahead : List Bool) (sender : Member) →
     slice_get members (length members) ≡ Some sender → MayGoBy true bit ahead sender
-none_at members bit ahead sender e =
-    absurd (let within = slice_get_within members (length members) sender e in omega (arith, within))
+none_at members bit ahead sender e = absurd (not_behind (length members) members sender (omega arith) e)
 
 -- the newest levels of a list that was added to
 pub newest : (made sent : List Bool) →

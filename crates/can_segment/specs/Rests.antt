@@ -152,3 +152,8 @@ abbrev pub GoQuietlyBy : ℕ → List Bool → Rest → Rest → List Member →
 GoQuietlyBy bit [] old new t0 t1 c0 c1 = (new ≡ old) × (t1 ≡ t0) × (c1 ≡ c0)
 GoQuietlyBy bit (level ∷ levels) old new t0 t1 c0 c1 = (mid : Rest) × (t : List Member) × (c : List Member)
     × GoesQuietly bit level old mid t0 t c0 c × GoQuietlyBy (bit + 1) levels mid new t t1 c c1
+
+-- each of these levels is recessive
+abbrev pub AreRecessive : List Bool → Type 0
+AreRecessive [] = Unit {0}
+AreRecessive (level ∷ levels) = (level ≡ true) × AreRecessive levels

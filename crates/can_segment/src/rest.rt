@@ -83,12 +83,6 @@ impl Rest {
         self.listener.is_reading() || !self.listener.drive()
     }
 
-    /// Whether those that rest read within the stuffed region of a frame or behind its ACK slot, where they may read many
-    /// bits at once.
-    pub(crate) fn may_read_by(&self) -> bool {
-        self.listener.is_reading() || self.listener.is_past_slot()
-    }
-
     /// Nodes at any place may be awake.
     pub(crate) fn look_everywhere(&mut self, talkers: &[Member], controllers: &[Member])
         ensures same { IsSame self.old self.new }

@@ -1,31 +1,53 @@
-//! Bits of the stuffed region of a frame or of its end, many at once: one node sends, and all others rest, are in bus
-//! off or are in passive error flags.
+//! Bits of the stuffed region of a frame or of its end, or behind it, many at once: one node sends or none, and all
+//! others rest or stay out of frames.
 
 ghost use Rattle.std.specs.Prelude.{◌≡◌, ◌≤◌, ◌<◌, ◌+◌, ◌-◌, ◌++◌, true, Bool, List, Some, IfSome, length, slice_get};
 ghost use Rattle.std.specs.Prelude.{vec_capacity, vec_len};
-ghost use Rattle.can_segment.specs.Rests.{GoQuietlyBy};
+ghost use Rattle.can_segment.specs.Rests.{AreRecessive, GoQuietlyBy};
 ghost use Rattle.can_station.specs.RestingNodes.{AwakeWithin, HasRoom, MayGoBy, OthersStayOut};
 ghost use Rattle.can_station.specs.declared.member.Member.{Member};
 
 use crate::rest::Rest;
 use can_station::{Member, Span, all_stay_out, go_on_by};
 
-/// The first of the places of this span whose node is awake and sends a frame.
-fn first_sender(members: &[Member], awake: Span) -> Option<usize>
+/// The first of the places of this span whose node is awake and sends a frame; the one behind the last where there is
+/// none.
+fn first_sender(members: &[Member], awake: Span) -> usize
     requires { AwakeWithin awake members.now }
-    ensures { IfSome result (λ place. place < length members.now) }
 {
     for place in awake.from..awake.to {
         let member = &members[place];
         if !member.rests && member.station.node.sends_from().is_some() {
-            return Some(place);
+            return place;
         }
     }
-    None
+    members.len()
 }
 
-/// The levels that the node at this place drives next in a frame that it sends, `most` at most, as far as all other
-/// nodes that are awake stay in bus off or in passive error flags with them.
+/// So many recessive levels, and eight at most, as many as the longest wait has.
+fn recessive<'a>(most: usize) -> &'a [bool]
+    ensures few { length result.now ≤ most }
+    ensures recessive { AreRecessive result.now }
+{
+    const RECESSIVE: &[bool] = &[true; 8];
+    &RECESSIVE[..most.min(RECESSIVE.len())]
+}
+
+/// The levels that the node at this place drives next in a frame that it sends, or recessive ones where no node is there:
+/// `most` at most.
+fn next_levels<'a>(senders: &'a [Member], place: usize, bit: u64, most: usize) -> &'a [bool]
+    ensures few { length result.now ≤ most }
+    ensures may { 0 < length result.now → (sender : Member) → slice_get senders.now place ≡ Some sender
+        → MayGoBy true bit result.now sender }
+    ensures recessive { length senders.now ≤ place → AreRecessive result.now }
+{
+    match senders.get(place) {
+        Some(sender) => sender.ahead(bit, most),
+        None => recessive(most),
+    }
+}
+
+/// So, as far as all other nodes that are awake stay out of frames with them.
 fn ahead_beside<'a>(
     senders: &'a [Member],
     place: usize,
@@ -35,24 +57,24 @@ fn ahead_beside<'a>(
     bit: u64,
     most: usize,
 ) -> &'a [bool]
-    requires place { place < length senders.now }
     requires senders_within { AwakeWithin awake senders.now }
     requires others_within { AwakeWithin awake_others others.now }
     ensures few { length result.now ≤ most }
     ensures may { 0 < length result.now → (sender : Member) → slice_get senders.now place ≡ Some sender
         → MayGoBy true bit result.now sender }
+    ensures recessive { length senders.now ≤ place → AreRecessive result.now }
     ensures off { 0 < length result.now → OthersStayOut place bit result.now senders.now }
     ensures off_too { 0 < length result.now → OthersStayOut (length others.now) bit result.now others.now }
 {
-    let ahead = senders[place].ahead(bit, most);
+    let ahead = next_levels(senders, place, bit, most);
     let beside = all_stay_out(senders, bit, ahead, awake, place);
     let beside = all_stay_out(others, bit, &ahead[..beside], awake_others, others.len());
     &ahead[..beside]
 }
 
 /// As many of the next bits as the one of these nodes at this place sends in the stuffed region of its frame or behind
-/// the ACK slot while the listener follows for those that rest, and all others stay in bus off or in passive error flags:
-/// `most` at most. Their levels are kept behind those of `levels`, which has room for them.
+/// the ACK slot, or as are recessive where no node is there, while the listener follows for those that rest, and all
+/// others stay out of frames: `most` at most. Their levels are kept behind those of `levels`, which has room for them.
 fn send_beside(
     levels: &mut Vec<bool>,
     senders: &mut [Member],
@@ -63,7 +85,6 @@ fn send_beside(
     rest: &mut Rest,
     most: usize,
 )
-    requires place { place < length senders.old }
     requires senders_within { AwakeWithin awake senders.old }
     requires others_within { AwakeWithin awake_others others.old }
     requires sender_room { HasRoom (u64.MAX + 1 - most) (length levels.old.items) senders.old }
@@ -93,8 +114,9 @@ fn send_beside(
 }
 
 /// As many of the next bits as one node sends in the stuffed region of its frame or behind the ACK slot while all others
-/// rest or stay in bus off or in passive error flags: `most` at most, and none where that is not so. Their levels are
-/// kept behind those of `levels`, which has room for them.
+/// rest or stay out of frames, in bus off, in passive error flags or in what they wait for behind a frame; or as all do
+/// so: `most` at most, and none where that is not so. Their levels are kept behind those of `levels`, which has room for
+/// them.
 pub(crate) fn send_run(
     levels: &mut Vec<bool>,
     talkers: &mut [Member],
@@ -113,11 +135,12 @@ pub(crate) fn send_run(
 {
     let awake = rest.talkers;
     let awake_too = rest.controllers;
-    if let Some(place) = first_sender(talkers, awake) {
+    let talker = first_sender(talkers, awake);
+    if talker < talkers.len() {
         send_beside(
             levels,
             talkers,
-            place,
+            talker,
             awake,
             controllers,
             awake_too,
@@ -126,16 +149,16 @@ pub(crate) fn send_run(
         );
         return;
     }
-    if let Some(place) = first_sender(controllers, awake_too) {
-        send_beside(
-            levels,
-            controllers,
-            place,
-            awake_too,
-            talkers,
-            awake,
-            rest,
-            most,
-        );
-    }
+    // there it is, or nowhere
+    let controller = first_sender(controllers, awake_too);
+    send_beside(
+        levels,
+        controllers,
+        controller,
+        awake_too,
+        talkers,
+        awake,
+        rest,
+        most,
+    );
 }

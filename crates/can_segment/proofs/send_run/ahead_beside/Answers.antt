@@ -1,26 +1,24 @@
-use Rattle.std.proofs.Common.{◌≡◌, false, true, take, slice_get, Some, ap, arith, sym, subst, ◌∙◌}
+use Rattle.std.proofs.Common.{true, false, take, arith}
 use Rattle.std.proofs.lemmas.List.{length-take}
-use Rattle.std.proofs.lemmas.Option.{slice_get-get_or}
-use Rattle.can_station.specs.RestingNodes.{MayGoBy}
 use Rattle.can_station.proofs.GoingBy.{by_taken}
-use Rattle.can_station.proofs.Places.{same_some}
-use Rattle.can_segment.proofs.SendRuns.{out_of_fewer}
+use Rattle.can_segment.proofs.SendRuns.{out_of_fewer, recessive_taken}
 use Rattle.can_segment.proofs.send_run.ahead_beside.Goals as goal
 
 pub returns-clause-may : goal.returns-clause-may
 returns-clause-may c some sender there =
-    let ahead = c.ahead-ahead.result.now in
-    let member = c.index-senders-place.result in
-    let here : slice_get c.args.senders.now c.args.place ≡ Some member =
-    slice_get-get_or c.args.senders.now c.args.place member c.requires.place
-    ∙ ap (λ m. Some m) (sym c.index-senders-place.is) in
+    let ahead = c.next_levels-ahead.result.now in
     let n = c.all_stay_out-beside-2.result in
-    subst (MayGoBy true c.args.bit (take n ahead)) (same_some member sender (sym here ∙ there))
-    (by_taken true c.args.bit n ahead member (c.ahead-ahead.ensures.may (omega (arith, some, length-take n ahead))))
+    by_taken true c.args.bit n ahead sender
+    (c.next_levels-ahead.ensures.may (omega (arith, some, length-take n ahead)) sender there)
+
+pub returns-clause-recessive : goal.returns-clause-recessive
+returns-clause-recessive c none =
+    recessive_taken c.all_stay_out-beside-2.result c.next_levels-ahead.result.now
+    (c.next_levels-ahead.ensures.recessive none)
 
 pub returns-clause-off : goal.returns-clause-off
 returns-clause-off c some k m e not awake =
-    let ahead = c.ahead-ahead.result.now in
+    let ahead = c.next_levels-ahead.result.now in
     let first = c.all_stay_out-beside.result in
     let n = c.all_stay_out-beside-2.result in
     let few = c.all_stay_out-beside-2.ensures.few in
@@ -31,7 +29,7 @@ returns-clause-off c some k m e not awake =
 
 pub returns-clause-off_too : goal.returns-clause-off_too
 returns-clause-off_too c some k m e not awake =
-    let ahead = c.ahead-ahead.result.now in
+    let ahead = c.next_levels-ahead.result.now in
     let n = c.all_stay_out-beside-2.result in
     out_of_fewer c.args.bit c.all_stay_out-beside.result n ahead m c.all_stay_out-beside-2.ensures.few
     (c.all_stay_out-beside-2.ensures.off (omega (arith, some, length-take n ahead)) k m e not awake)

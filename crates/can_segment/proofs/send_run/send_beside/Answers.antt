@@ -1,11 +1,13 @@
 use Rattle.std.proofs.Common.{rules, ◌≡◌, ◌≤◌, true, is_ok, take, length}
-use Rattle.std.proofs.Common.{arith, subst}
+use Rattle.std.proofs.Common.{arith, subst, inl, inr}
+use Rattle.std.proofs.lemmas.Bool.Decides.{leb_tells}
 use Rattle.std.proofs.lemmas.List.{length-take}
 use Rattle.can_station.specs.Places.{AtPlaces}
 use Rattle.can_station.specs.RestingNodes.{GoesAsItMay, IfAwake, MayGoBy, OthersStayOut}
 use Rattle.can_station.proofs.GoingBy.{by_taken}
 use Rattle.can_station.proofs.Places.{some_there}
-use Rattle.can_segment.proofs.SendRuns.{each_may, each_on, kept, none_at, out_taken, sent_beside}
+use Rattle.can_segment.proofs.SendRuns.{each_may, each_on, kept, none_at, out_taken, recessive_taken, sent_beside}
+use Rattle.can_segment.proofs.SendRuns.{waited_beside}
 use Rattle.can_segment.proofs.send_run.send_beside.Goals as goal
 
 pub go_on_by-requires-clause-goes : goal.go_on_by-requires-clause-goes
@@ -73,23 +75,33 @@ returns c =
     (rw fine at c.extend_from_slice.ensures.items) (search rules) in
     let sent = take count ahead in
     let at = run.at_is in
+    let place = c.args.place in
     let senders = c.args.senders.now in
     let others = c.args.others.now in
-    let sender = some_there senders c.args.place c.requires.place in
+    let after = c.reads_along_by-count.new.self in
     let go = subst (λ ls. AtPlaces (λ k. IfAwake (GoesAsItMay ls)) senders c.go_on_by.new.members) run.newest_is
     c.go_on_by.ensures in
     let go_too = subst (λ ls. AtPlaces (λ k. IfAwake (GoesAsItMay ls)) others c.go_on_by-2.new.members) run.newest_is
     c.go_on_by-2.ensures in
-    let may = by_taken true (length made) count ahead sender.0
-    (subst (λ n. MayGoBy true n ahead sender.0) at (c.ahead_beside-ahead.ensures.may run.some sender.0 sender.1)) in
-    let off = out_taken c.args.place (length made) count ahead senders
-    (subst (λ n. OthersStayOut c.args.place n ahead senders) at (c.ahead_beside-ahead.ensures.off run.some)) in
+    let off = out_taken place (length made) count ahead senders
+    (subst (λ n. OthersStayOut place n ahead senders) at (c.ahead_beside-ahead.ensures.off run.some)) in
     let off_too = out_taken (length others) (length made) count ahead others
     (subst (λ n. OthersStayOut (length others) n ahead others) at (c.ahead_beside-ahead.ensures.off_too run.some)) in (
       sent,
       omega (arith, length-take count ahead, c.ahead_beside-ahead.ensures.few),
       rw fine at c.extend_from_slice.ensures.items,
-      sent_beside c.args.place (length others) (length made) sent c.args.rest.now
-          c.reads_along_by-count.new.self senders c.go_on_by.new.members others c.go_on_by-2.new.members sender.0
-          sender.1 (omega arith) may off off_too go go_too c.reads_along_by-count.ensures.along,
+      elim (leb_tells (length senders) place) [
+        | inl none ↦ waited_beside place (length others) (length made) sent c.args.rest.now after senders
+            c.go_on_by.new.members others c.go_on_by-2.new.members
+            (recessive_taken count ahead (c.ahead_beside-ahead.ensures.recessive none.1)) none.1 (omega arith) off
+            off_too go go_too c.reads_along_by-count.ensures.along
+        | inr there ↦
+            let sender = some_there senders place (let within = there.1 in omega (arith, within)) in
+            let may = by_taken true (length made) count ahead sender.0
+            (subst (λ n. MayGoBy true n ahead sender.0) at
+            (c.ahead_beside-ahead.ensures.may run.some sender.0 sender.1)) in
+            sent_beside place (length others) (length made) sent c.args.rest.now after senders
+            c.go_on_by.new.members others c.go_on_by-2.new.members sender.0 sender.1 (omega arith) may off off_too go
+            go_too c.reads_along_by-count.ensures.along
+      ],
     )

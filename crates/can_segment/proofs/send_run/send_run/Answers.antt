@@ -2,9 +2,9 @@ use Rattle.std.proofs.Common.{length}
 use Rattle.can_segment.proofs.SendRuns.{swapped}
 use Rattle.can_segment.proofs.send_run.send_run.Goals as goal
 
-pub returns-in-Some-first_sender : goal.returns-in-Some-first_sender
-returns-in-Some-first_sender c =
-    let made = c.send_beside-in-Some-first_sender in
+pub returns : goal.returns
+returns c =
+    let made = c.send_beside-2 in
     let sent = made.ensures in (
       sent.0,
       sent.1,

@@ -8,8 +8,8 @@ use Rattle.can_segment.proofs.Shown.{put_back}
 use Rattle.can_segment.proofs.Woken.{found_awake}
 use Rattle.can_segment.proofs.segment.Segment.send_run.Goals as goal
 
-pub returns-then-not-may_read_by-clause-bits : goal.returns-then-not-may_read_by-clause-bits
-returns-then-not-may_read_by-clause-bits c = no_bit
+pub returns-then-not-may_follow_by-clause-bits : goal.returns-then-not-may_follow_by-clause-bits
+returns-then-not-may_follow_by-clause-bits c = no_bit
 
 pub send_run-requires-clause-talker_room : goal.send_run-requires-clause-talker_room
 send_run-requires-clause-talker_room c k m e awake on =
