@@ -1,5 +1,5 @@
 -- Levels of a spelling of which none stands in the ACK slot.
-use Rattle.std.proofs.Common.{◌≡◌, ◌≢◌, ◌⊎◌, inl, inr, ℕ, zero, suc, ◌+◌, ◌<◌, ◌≤◌, true, length, take, refl, sym}
+use Rattle.std.proofs.Common.{◌≢◌, ◌⊎◌, inl, inr, ℕ, zero, suc, ◌+◌, ◌<◌, ◌≤◌, true, length, take, refl, sym}
 use Rattle.std.proofs.Common.{arith, drop, subst}
 use Rattle.std.proofs.lemmas.List.{drop_more}
 use Rattle.can_frame.specs.declared.spelling.Spelling.{Spelling}

@@ -8,7 +8,7 @@ use Rattle.can_frame.specs.FieldReading.{fields_length, frame_at}
 use Rattle.can_frame.specs.LevelRuns.{EndsIn}
 use Rattle.can_frame.specs.Answers.{Answers, IsLast, IsUndecided}
 use Rattle.can_frame.specs.Reading.{Inside, InRegion, InTail, TailNext, HasEnded, StandsAt, StandsAfter, IsOpen, IsPush}
-use Rattle.can_frame.specs.Reading.{Leaves, MayReadOn, Next, Judges, StandsAs, WantsData, WantsStuffBit}
+use Rattle.can_frame.specs.Reading.{Leaves, MayReadOn, MayTake, Next, Judges, StandsAs, WantsData, WantsStuffBit}
 use Rattle.can_frame.specs.declared.level_run.LevelRun.{LevelRun}
 use Rattle.can_frame.specs.declared.step.FaultKind.TheVariants.{Stuff, Form}
 use Rattle.can_frame.specs.declared.step.Step.{Step}
@@ -247,6 +247,29 @@ tail_push old new level step f right seen here place is goes =
       stands = λ text s. (next text s).stands;
       again = λ given e. absurd (cc (here, e));
     }
+
+pub taken_push : (reader : Reader) (level : Bool) (step : Step) (taken f : FrameValue) (right : Bool) (seen : ℕ) →
+    reader.place ≡ AfterBody f right seen → step ≡ Taken taken →
+    ((text : List Bool) → InTail f right seen text → TailNext step f right seen text level) →
+    MayTake level taken reader
+taken_push reader level step taken f right seen here is goes =
+    let new : Reader = record {
+      run = reader.run;
+      levels = reader.levels;
+      place = Ended (Taken taken);
+      told = Taken taken;
+    } in
+    let next : (text : List Bool) → StandsAfter reader text → Next (Taken taken) new text level = λ text s.
+    let h : InTail f right seen text = subst (λ p. StandsAt p reader.run reader.levels.items text) here s in
+    tail_ends (Taken taken) f right seen text level new (λ e. absurd (cc e)) refl h
+    (subst (λ t. TailNext t f right seen text level) is (goes text h)) in (
+      new,
+      record {
+        next = λ text r s. next text s;
+        stands = λ text s. (next text s).stands;
+        again = λ given e. absurd (cc (here, e));
+      },
+    )
 
 -- two readers within the stuffed region that hold the same
 pub stands_as : (one other : Reader) → one.place ≡ Region → other.place ≡ Region → one.run ≡ other.run →

@@ -117,6 +117,10 @@ ReadsOnBy old (level ∷ levels) new = (mid : Reader) × ReadsOn old level mid �
 abbrev pub MayReadOn : Bool → Reader → Type 0
 MayReadOn level reader = (new : Reader) × ReadsOn reader level new
 
+-- it takes this frame with this level: there is a push of it that is answered so
+abbrev pub MayTake : Bool → FrameValue → Reader → Type 0
+MayTake level frame reader = (new : Reader) × IsPush reader level (Taken frame) new
+
 -- The next level is data, whatever it is: no five equal levels stand before it, and the region doesn't end with it. It
 -- is not the first one. Private clauses cite this and what follows.
 pub record WantsData (reader : Reader) : Type 0 where

@@ -1,7 +1,7 @@
 //! A receiver's reading of a frame, from SOF on.
 
 ghost use Rattle.std.specs.Prelude.{◌≡◌, ◌<◌, ◌≤◌, ◌+◌, ◌∷◌, ◌++◌, [], Bool, true, false, List};
-ghost use Rattle.std.specs.Prelude.{length, reverse, take};
+ghost use Rattle.std.specs.Prelude.{IfSome, length, reverse, take};
 ghost use Rattle.can_frame.specs.Stuffing.{five_equal};
 ghost use Rattle.can_frame.specs.FieldReading.{fields_length, frame_at};
 ghost use Rattle.can_frame.specs.Reading.{
@@ -11,6 +11,7 @@ ghost use Rattle.can_frame.specs.Reading.{
   IsReading,
   IsPush,
   MayReadOn,
+  MayTake,
   ReadsOn,
   ReadsOnBy,
   StandsAs,
@@ -19,6 +20,8 @@ ghost use Rattle.can_frame.specs.Reading.{
   WantsData,
   WantsStuffBit,
 };
+
+mod outlook;
 
 use crate::frame::Frame;
 use crate::level_run::LevelRun;
@@ -209,33 +212,6 @@ impl Reader {
             }
         }
         levels.len()
-    }
-
-    /// Whether the stuffed region goes on with this level: `push` would answer `More` or `StuffBit`.
-    #[inline(never)]
-    pub fn would_read_on(&self, level: bool) -> bool
-        ensures on { result ≡ true → MayReadOn level self.now }
-        ensures other { result ≡ false → (text : List Bool) → IsReading self.now → StandsAfter self.now text
-            → MayReadOn level self.now → ⊥ }
-    {
-        if self.may_read_on(level) {
-            return true;
-        }
-        match self.copy().push(level) {
-            Step::More => true,
-            Step::StuffBit => true,
-            _ => false,
-        }
-    }
-
-    /// So, seen without a copy, but for the first level and the last ones.
-    fn may_read_on(&self, level: bool) -> bool
-        ensures { result ≡ true → MayReadOn level self.now }
-    {
-        // how the text would end
-        let mut run = self.run;
-        run.push(level);
-        self.wants_data() || self.wants_stuff_bit(level)
     }
 
     /// Pushes a level with which the stuffed region goes on.

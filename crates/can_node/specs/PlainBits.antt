@@ -1,5 +1,5 @@
 -- Bits at which a node goes on: nothing begins, nothing is told and nothing counted.
-use Rattle.std.specs.Prelude.{◌≡◌, ℕ, ◌+◌, ◌-◌, ◌<◌, ◌≤◌, ◌||◌, ◌&&◌, Bool, true, false, None, not, nat_le, List, [], ◌∷◌}
+use Rattle.std.specs.Prelude.{◌≡◌, ℕ, ◌+◌, ◌<◌, ◌≤◌, ◌||◌, ◌&&◌, Bool, true, false, None, not, nat_le, List, [], ◌∷◌}
 use Rattle.std.specs.Prelude.{get_or, length, take, if◌then◌else◌}
 use Rattle.can_frame.specs.Reading.{MayReadOn}
 use Rattle.can_frame.specs.declared.spelling.Spelling.{Spelling}

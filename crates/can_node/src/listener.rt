@@ -154,10 +154,8 @@ impl Listener {
         let State::Taking(start, _, Stage::AfterSlot) = self.state else {
             return None;
         };
-        match self.reader.copy().push(level) {
-            Step::Taken(frame) => Some(TakenFrame { start, frame }),
-            _ => None,
-        }
+        let frame = self.reader.takes(level)?;
+        Some(TakenFrame { start, frame })
     }
 
     /// So behind the stuffed region.

@@ -187,17 +187,16 @@ pub(crate) fn reader_after_sof() -> Reader
     reader
 }
 
-/// A reader of the frame of which these levels were sampled, SOF first, and then this one.
+/// The reader is that of the frame of which these levels were sampled, SOF first, and then this one.
 #[inline(never)]
-fn reader_behind(text: &[bool], level: bool) -> Reader
-    ensures { StandsAfter result (text.now ++ level ∷ []) }
+fn read_behind(reader: &mut Reader, text: &[bool], level: bool)
+    ensures { StandsAfter reader.new (text.now ++ level ∷ []) }
 {
-    let mut reader = Reader::new();
+    *reader = Reader::new();
     for sampled in text {
         let _step = reader.push(*sampled);
     }
     let _step = reader.push(level);
-    reader
 }
 
 /// Whether a receiver goes on in the stuffed region as before, which is what most bits of a bus are.
@@ -282,7 +281,7 @@ fn turn_sending(
     let errors = counters.state();
     let turn = after_sending(start, place, spelling, errors, level);
     if is_taking(turn.state) {
-        *reader = reader_behind(spelling.before(place), level);
+        read_behind(reader, spelling.before(place), level);
         return make(turn, state, counters);
     }
     make(turn, state, counters)

@@ -257,9 +257,9 @@ impl Node {
         }
     }
 
-    /// With how many of these levels, one after another, the node goes on in bus off or in a passive error flag: it
-    /// stays there, up to the end of a run of eleven recessive levels or of the flag, or a level that it counts. 0
-    /// where it is in neither.
+    /// With how many of these levels, one after another, the node stays out of frames: in bus off or in a passive error
+    /// flag, up to the end of a run of eleven recessive levels or of the flag, or a level that it counts; in a delimiter,
+    /// the intermission or suspend transmission with recessive ones, up to the last bit. 0 where it is in none of these.
     pub fn stays_out(&self, levels: &[bool]) -> usize
         ensures few { result ≤ length levels.now }
         ensures may { MayGoOnBy false (take result levels.now) self.now }
@@ -268,8 +268,8 @@ impl Node {
         stays_out(self.state, levels)
     }
 
-    /// Bits with which the node goes on, one after another, in a frame that it sends, in bus off or in a passive error
-    /// flag: what `go_on` does with each of these levels.
+    /// Bits with which the node goes on, one after another, in a frame that it sends or where it stays out of frames
+    /// (`stays_out`): what `go_on` does with each of these levels.
     pub fn go_on_by(&mut self, levels: &[bool])
         requires goes { (is_sender : Bool) × MayGoOnBy is_sender levels.now self.old }
         requires room { bit_of self.old + length levels.now ≤ u64.MAX }

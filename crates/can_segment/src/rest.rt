@@ -264,11 +264,14 @@ impl Rest {
 
     /// Whether none that is awake can have come as far as the listener at the last bit, as far as that is seen at once.
     fn stays_so(&self, talkers: &[Member], controllers: &[Member], bit: u64, told: bool) -> bool {
-        // where one has woken it is looked once more at which places they are awake
-        if self.steady && self.settled && !told {
+        // where one has woken, or something was told, it is looked once more at which places they are awake
+        if told || !self.settled {
+            return false;
+        }
+        if self.steady {
             return true;
         }
-        if !self.resting || !self.settled {
+        if !self.resting {
             return false;
         }
         let mut votes = Votes::none();
