@@ -1,11 +1,12 @@
 -- Bits with which a node goes on, one after another.
 use Rattle.std.proofs.Common.{◌≡◌, ℕ, zero, suc, ◌+◌, ◌<◌, ◌≤◌, ◌++◌, min, nat_le, Bool, true, false, List, [], ◌∷◌}
-use Rattle.std.proofs.Common.{length, take, get_or, inl, inr, refl, sym, ap, arith, ◌∙◌}
+use Rattle.std.proofs.Common.{length, take, get_or, inl, inr, refl, sym, ap, arith, cond, not, subst, ◌∙◌}
 use Rattle.std.proofs.lemmas.Bool.Decides.{leb_tells}
-use Rattle.std.proofs.lemmas.List.{length-take}
+use Rattle.std.proofs.lemmas.List.{length-take, take_all, take_more}
 use Rattle.can_frame.specs.Sending.{StandAhead}
 use Rattle.can_frame.specs.Sending.SendsOn.{echoed}
 use Rattle.can_frame.specs.declared.spelling.Spelling.{Spelling}
+use Rattle.can_confinement.specs.declared.confinement.Role.{Role}
 use Rattle.can_confinement.specs.declared.counters.Counters.{Counters}
 use Rattle.can_node.specs.declared.node.Node.{Node}
 use Rattle.can_node.specs.declared.state.State.{State}
@@ -15,7 +16,7 @@ use Rattle.can_node.specs.declared.state.State.TheVariants.{Delimiting, PassiveF
 use Rattle.can_node.specs.declared.state.State.TheVariants.{Resting, Sending, Suspending}
 use Rattle.can_node.specs.Machine.{is_sending, level_in, may_start}
 use Rattle.can_node.specs.PlainBits.{GoesOnBy, LeavesPlainly, MayGoOnBy, StaysOut, is_plain, out_behind, out_behind_all}
-use Rattle.can_node.specs.PlainBits.{stays_out}
+use Rattle.can_node.specs.PlainBits.{StaysBy, StaysNoLonger, stays_out}
 use Rattle.can_node.specs.PlainBits.MayGoOnBy.{sends_on, waits_on}
 use Rattle.can_node.proofs.ErrorMoves.{delimit_on}
 use Rattle.can_node.proofs.Moves.{rest_on, suspend_on}
@@ -58,6 +59,84 @@ pub stays_at : (state : State) (i : ℕ) (levels : List Bool) → StaysOut state
 stays_at state i [] h within = absurd (omega (arith, within))
 stays_at state zero (x ∷ xs) h within = h.0
 stays_at state (suc i) (x ∷ xs) h within = stays_at (out_behind state x) i xs h.1 (omega (arith, within))
+
+-- as many levels as were gone through, and one more
+pub stays_none : (state : State) (levels : List Bool) → StaysBy state levels 0 state
+stays_none state levels = record { few = omega arith; stays = tt; next_is = refl }
+
+pub stays_more : (state here next : State) (levels : List Bool) (i : ℕ) → i < length levels →
+    StaysBy state levels i here → stays_out (get_or levels i false) here ≡ true →
+    next ≡ out_behind here (get_or levels i false) → StaysBy state levels (i + 1) next
+stays_more state here next levels i within by stays is =
+    let level = get_or levels i false in
+    let so_far = take i levels in
+    record {
+      few = omega (arith, within);
+      stays = rw (take_more levels i false within)
+          (out_more state so_far level by.stays (ap (stays_out level) (sym by.next_is) ∙ stays));
+      next_is = rw (take_more levels i false within)
+          (is ∙ ap (λ s. out_behind s level) by.next_is ∙ sym (behind_more state so_far level));
+    }
+
+pub stays_end : (state here : State) (levels : List Bool) (i : ℕ) → StaysBy state levels i here →
+    stays_out (get_or levels i false) here ≡ false → StaysNoLonger state levels i
+stays_end state here levels i by ends within = ap (stays_out (get_or levels i false)) (sym by.next_is) ∙ ends
+
+-- with all of them
+pub stays_all : (state here : State) (levels : List Bool) (i : ℕ) → length levels ≤ i → StaysBy state levels i here →
+    StaysBy state levels (length levels) here
+stays_all state here levels i past by =
+    let all : i ≡ length levels = let few = by.few in omega (arith, past, few) in
+    subst (λ n. StaysBy state levels n here) all by
+
+pub whole_stay : (state next : State) (levels : List Bool) (count : ℕ) → StaysBy state levels count next →
+    StaysNoLonger state levels count → StaysOut state levels → next ≡ out_behind_all state levels
+whole_stay state next levels count by ends out = elim (leb_tells (length levels) count) [
+  | inl all ↦ by.next_is ∙ ap (out_behind_all state) (take_all count levels all.1)
+  | inr more ↦
+      let within : count < length levels = let less = more.1 in omega (arith, less) in
+      absurd (let not = ends within in let stays = stays_at state count levels out within in cc (not, stays))
+]
+
+-- a level more in bus off
+off_stays : (runs ones : ℕ) (level : Bool) → ones ≤ 9 → stays_out level (Recovering runs ones) ≡ true
+off_stays runs ones level few =
+    elim (leb_tells ones 9) [ inl is ↦ is.0 | inr not ↦ absurd (let more = not.1 in omega (arith, few, more)) ]
+
+off_next : (runs ones more : ℕ) (level : Bool) → more ≡ cond level (ones + 1) 0 →
+    Recovering runs more ≡ out_behind (Recovering runs ones) level
+off_next runs ones more true is = ap (Recovering runs) is
+off_next runs ones more false is = ap (Recovering runs) is
+
+pub off_more : (runs first ones more : ℕ) (levels : List Bool) (i : ℕ) → i < length levels →
+    StaysBy (Recovering runs first) levels i (Recovering runs ones) → ones ≤ 9 →
+    more ≡ cond (get_or levels i false) (ones + 1) 0 →
+    StaysBy (Recovering runs first) levels (i + 1) (Recovering runs more)
+off_more runs first ones more levels i within by few is =
+    let level = get_or levels i false in
+    stays_more (Recovering runs first) (Recovering runs ones) (Recovering runs more) levels i within by
+    (off_stays runs ones level few) (off_next runs ones more level is)
+
+pub is_not : (b : Bool) → not b ≡ false → b ≡ true
+is_not true h = refl
+is_not false h = absurd (cc h)
+
+-- or in a passive error flag
+flag_next : (role : Role) (owes : Bool) (ones dominant more none : ℕ) (level : Bool) →
+    more ≡ cond level (ones + 1) 0 → none ≡ cond (not level) (dominant + 1) 0 →
+    PassiveFlagging role owes more none ≡ out_behind (PassiveFlagging role owes ones dominant) level
+flag_next role owes ones dominant more none true is too = rw (is, too) refl
+flag_next role owes ones dominant more none false is too = rw (is, too) refl
+
+pub flag_more : (role : Role) (owes : Bool) (o z ones zeros more none : ℕ) (levels : List Bool) (i : ℕ) →
+    i < length levels → StaysBy (PassiveFlagging role owes o z) levels i (PassiveFlagging role owes ones zeros) →
+    stays_out (get_or levels i false) (PassiveFlagging role owes ones zeros) ≡ true →
+    more ≡ cond (get_or levels i false) (ones + 1) 0 → none ≡ cond (not (get_or levels i false)) (zeros + 1) 0 →
+    StaysBy (PassiveFlagging role owes o z) levels (i + 1) (PassiveFlagging role owes more none)
+flag_more role owes o z ones zeros more none levels i within by stays is too =
+    stays_more (PassiveFlagging role owes o z) (PassiveFlagging role owes ones zeros)
+    (PassiveFlagging role owes more none) levels i within by stays
+    (flag_next role owes ones zeros more none (get_or levels i false) is too)
 
 -- the node behind so many bits at which nothing but its state changes
 abbrev behind_by : Node → State → ℕ → Node

@@ -104,6 +104,12 @@ abbrev pub StaysNoLonger : State → List Bool → ℕ → Type 0
 StaysNoLonger state levels count = count < length levels →
     stays_out (get_or levels count false) (out_behind_all state (take count levels)) ≡ false
 
+-- it stays so with so many of these levels, and is there then
+pub record StaysBy (state : State) (levels : List Bool) (count : ℕ) (next : State) : Type 0 where
+  pub few : count ≤ length levels
+  pub stays : StaysOut state (take count levels)
+  pub next_is : next ≡ out_behind_all state (take count levels)
+
 -- The node goes on with these levels, one after another: it sends a frame, and they are the next that it drives, none in
 -- its ACK slot or its last bit; or it stays in what it waits for, as said above.
 pub data MayGoOnBy (is_sender : Bool) (levels : List Bool) (node : Node) : Type 0 where

@@ -14,8 +14,9 @@ use crate::machine::{
     turns_alike,
 };
 use crate::outcome::Outcome;
-use crate::plain_bits::{count_on, out_behind, out_behind_all, stays_out};
+use crate::plain_bits::{count_on, out_behind};
 use crate::state::{Stage, State, Turn};
+use crate::stays::stay_out;
 use crate::taken_frame::TakenFrame;
 use crate::takes::after_taking;
 use can_confinement::{ErrorEvent, ErrorState, KnownCounts};
@@ -127,9 +128,9 @@ impl Listener {
         ensures few { result ≤ length levels.now }
         ensures along { ReadsAlongBy self.old (take result levels.now) self.new }
     {
-        let count = stays_out(self.state, levels);
-        self.state = out_behind_all(self.state, &levels[..count]);
-        count
+        let stay = stay_out(self.state, levels);
+        self.state = stay.state;
+        stay.count
     }
 
     /// So behind the stuffed region.

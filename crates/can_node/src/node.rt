@@ -12,8 +12,9 @@ ghost use Rattle.can_node.specs.Node.{driven_by, may_begin, sends_from, with_beg
 use crate::listener::Listener;
 use crate::machine::{advance, begin, is_in_region, level_in, listens, may_start, sof_of};
 use crate::outcome::Outcome;
-use crate::plain_bits::{go_plainly, is_plain, out_behind_all, stays_out};
+use crate::plain_bits::{go_plainly, is_plain};
 use crate::state::State;
+use crate::stays::{out_behind_all, stay_out};
 use can_confinement::{Counters, KnownCounts};
 use can_frame::{Frame, Reader, Spelled};
 
@@ -265,7 +266,7 @@ impl Node {
         ensures may { MayGoOnBy false (take result levels.now) self.now }
         ensures all { EndsOut self.now levels.now result }
     {
-        stays_out(self.state, levels)
+        stay_out(self.state, levels).count
     }
 
     /// Bits with which the node goes on, one after another, in a frame that it sends or where it stays out of frames

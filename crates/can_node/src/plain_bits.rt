@@ -1,11 +1,10 @@
 //! Bits at which a node goes on that neither reads nor sends a frame: nothing begins, nothing is told and nothing
 //! counted.
 
-ghost use Rattle.std.specs.Prelude.{◌≡◌, ◌≤◌, ℕ, true, false, IfSome, IfNone, length, take};
+ghost use Rattle.std.specs.Prelude.{◌≡◌, ◌≤◌, ℕ, true, false, IfSome, IfNone};
 ghost use Rattle.can_confinement.specs.declared.counters.Counters.{Counters as CountersValue};
-ghost use Rattle.can_node.specs.PlainBits.{LeavesPlainly, StaysOut, is_plain, out_behind, out_behind_all, overlooks};
+ghost use Rattle.can_node.specs.PlainBits.{LeavesPlainly, is_plain, out_behind, overlooks, stays_out};
 ghost use Rattle.can_node.specs.Machine.{is_sending};
-ghost use Rattle.can_node.specs.PlainBits.{StaysNoLonger, stays_out};
 
 use crate::machine::{is_receiver, turn_of};
 use crate::state::State;
@@ -115,36 +114,6 @@ pub(crate) fn out_behind(state: State, level: bool) -> Option<State>
         State::Suspending(ones) if level && ones <= 6 => Some(State::Suspending(ones + 1)),
         _ => None,
     }
-}
-
-/// With how many of these levels, one after another, a node in this state stays so.
-pub(crate) fn stays_out(state: State, levels: &[bool]) -> usize
-    ensures few { result ≤ length levels.now }
-    ensures out { StaysOut state (take result levels.now) }
-    ensures all { StaysNoLonger state levels.now result }
-{
-    let mut state = state;
-    for (place, level) in levels.iter().enumerate() {
-        let Some(next) = out_behind(state, *level) else {
-            return place;
-        };
-        state = next;
-    }
-    levels.len()
-}
-
-/// Where it is behind these levels, with which it stays so.
-pub(crate) fn out_behind_all(state: State, levels: &[bool]) -> State
-    ensures { StaysOut state levels.now → result ≡ out_behind_all state levels.now }
-{
-    let mut state = state;
-    for level in levels {
-        let Some(next) = out_behind(state, *level) else {
-            return state;
-        };
-        state = next;
-    }
-    state
 }
 
 /// One bit of a node in such a state, at which it samples this level.

@@ -4,6 +4,6 @@ use Rattle.can_node.proofs.listener.Listener.waits_by.Goals as goal
 
 pub returns-clause-along : goal.returns-clause-along
 returns-clause-along c =
-    let out = c.stays_out-count.ensures.out in
-    rw (c.out_behind_all-self.ensures out)
-    (along_waiting c.args.self.now (take c.stays_out-count.result c.args.levels.now) out)
+    let by = c.stay_out-stay.ensures.by in
+    rw by.next_is
+    (along_waiting c.args.self.now (take c.stay_out-stay.result.count c.args.levels.now) by.stays)

@@ -1,0 +1,14 @@
+use Rattle.std.proofs.Common.{◌∙◌, sym}
+use Rattle.can_node.specs.declared.state.State.TheVariants.{PassiveFlagging}
+use Rattle.can_node.proofs.GoingBy.{flag_more, is_not, stays_none}
+use Rattle.can_node.proofs.stays.stay_flagging.Goals as goal
+
+pub loop-place-init : goal.loop-place-init
+loop-place-init c = stays_none (PassiveFlagging c.args.role c.args.owes c.args.ones c.args.zeros) c.args.levels.now
+
+pub loop-place-preserved : goal.loop-place-preserved
+loop-place-preserved c =
+    flag_more c.args.role c.args.owes c.args.ones c.args.zeros c.loop-place.recessive c.loop-place.dominant
+    c.counted-recessive.result c.counted-dominant.result c.args.levels.now c.loop-place.place c.loop-place-test.true
+    c.loop-place.invariant (is_not _ (sym (c.ends_flag.ensures.stays c.args.role) ∙ c.if-ends_flag.false))
+    c.counted-recessive.ensures c.counted-dominant.ensures

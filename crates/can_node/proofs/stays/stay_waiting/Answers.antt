@@ -1,0 +1,11 @@
+use Rattle.can_node.proofs.GoingBy.{stays_more, stays_none}
+use Rattle.can_node.proofs.stays.stay_waiting.Goals as goal
+
+pub loop-place-init : goal.loop-place-init
+loop-place-init c = stays_none c.args.state c.args.levels.now
+
+pub loop-place-preserved : goal.loop-place-preserved
+loop-place-preserved c =
+    let next = c.in-Some.ensures.stays in
+    stays_more c.args.state c.loop-place.state c.in-Some.next c.args.levels.now c.loop-place.place
+    c.loop-place-test.true c.loop-place.invariant next.0 next.1
