@@ -1,15 +1,11 @@
 use Rattle.std.proofs.Common.{rules, ◌≡◌, length, slice_get, ◌++◌, arith, sym, ap, refl, subst, ◌∙◌}
 use Rattle.can_segment.specs.QuietBits.{MakeQuietBits}
-use Rattle.can_segment.specs.QuietBits.MakeQuietBits.{no_bit}
 use Rattle.can_segment.specs.Rests.{members_at}
 use Rattle.can_segment.proofs.Keeps.{controller_clocks, talker_clocks}
 use Rattle.can_segment.proofs.QuietRuns.{ran_quietly, value_of}
 use Rattle.can_segment.proofs.Shown.{put_back}
 use Rattle.can_segment.proofs.Woken.{found_awake}
 use Rattle.can_segment.proofs.segment.Segment.send_run.Goals as goal
-
-pub returns-then-not-may_follow_by-clause-bits : goal.returns-then-not-may_follow_by-clause-bits
-returns-then-not-may_follow_by-clause-bits c = no_bit
 
 pub send_run-requires-clause-talker_room : goal.send_run-requires-clause-talker_room
 send_run-requires-clause-talker_room c k m e awake on =
