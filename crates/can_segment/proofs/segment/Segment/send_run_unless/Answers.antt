@@ -3,9 +3,3 @@ use Rattle.can_segment.proofs.segment.Segment.send_run_unless.Goals as goal
 
 pub returns-then-in_vain-clause-bits : goal.returns-then-in_vain-clause-bits
 returns-then-in_vain-clause-bits c = no_bit
-
-pub returns-then-wants_start-clause-bits : goal.returns-then-wants_start-clause-bits
-returns-then-wants_start-clause-bits c = no_bit
-
-pub returns-then-not-may_follow_by-clause-bits : goal.returns-then-not-may_follow_by-clause-bits
-returns-then-not-may_follow_by-clause-bits c = no_bit
