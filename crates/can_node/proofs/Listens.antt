@@ -29,7 +29,7 @@ use Rattle.can_node.specs.Machine.{Advances, behind_end, Counts, Goes, GoesReadi
 use Rattle.can_node.specs.Machine.{is_sending, is_taking, level_in, may_start, quiet}
 use Rattle.can_frame.specs.Sending.{level_at}
 use Rattle.can_node.specs.Machine.LeadsTo.{stays_on}
-use Rattle.can_node.specs.Listener.{AllTake, Follows, IsUnseen, ReadsAlong, SendsTo, StandsWith, caught_up, taken_up}
+use Rattle.can_node.specs.Listener.{Idles, AllTake, Follows, IsUnseen, ReadsAlong, SendsTo, StandsWith, caught_up, taken_up}
 use Rattle.can_node.proofs.Samples.{counts_none, quiet_steps, samples}
 use Rattle.can_node.specs.PlainBits.{LeavesPlainly}
 use Rattle.can_node.proofs.PlainSteps.{plain_steps}
@@ -77,6 +77,13 @@ idle_follows known state reader bit level is recessive = rw (is, recessive)
     (follows_by known (listening Idling reader) (listening Idling reader) bit true
     (λ node counts. quiet_steps Idling Idling node.counters reader reader node.spelling bit true
     (λ errors. idle_advances reader node.spelling bit errors)))
+
+pub idles : (state : State) (reader : Reader) → state ≡ Idling → Idles (listening state reader)
+idles state reader is = record {
+  drives = λ node bit. ap (λ s. level_in s node.spelling) is;
+  follows = λ known bit. idle_follows known state reader bit true is refl;
+  listens = ap is_sending is;
+}
 
 -- a frame received changes no count that is 0
 counts_received : (counters : Counters) → counts_of counters ≡ no_counts → (events : List ErrorEvent) →

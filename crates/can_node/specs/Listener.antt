@@ -79,7 +79,14 @@ pub record ReadsAlong (before : Listener) (level : Bool) (after : Listener) : Ty
   pub follows : (known : KnownCounts) (bit : ℕ) → Follows known before bit level after
   pub listens : IsListening after
 
--- bits of that kind with these levels, one after another
+-- On an idle bus each for whom a listener stands drives recessive, samples a recessive level at each bit and tells
+-- nothing, and is where it was.
+pub record Idles (listener : Listener) : Type 0 where
+  pub drives : (node : Node) (bit : ℕ) → driven_by (caught_up node listener bit) ≡ true
+  pub follows : (known : KnownCounts) (bit : ℕ) → Follows known listener bit true listener
+  pub listens : IsListening listener
+
+-- bits that are read along with these levels, one after another
 abbrev pub ReadsAlongBy : Listener → List Bool → Listener → Type 0
 ReadsAlongBy before [] after = after ≡ before
 ReadsAlongBy before (level ∷ levels) after =

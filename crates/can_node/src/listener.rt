@@ -5,7 +5,7 @@ ghost use Rattle.can_node.specs.declared.node.Node.{Node};
 ghost use Rattle.can_node.specs.Machine.{GoesReading, is_sending, is_taking};
 ghost use Rattle.can_node.specs.Node.{driven_by, may_begin};
 ghost use Rattle.can_node.specs.Listener.{AllTake, IsListening, IsUnseen, Follows, ReadsAlong, ReadsAlongBy};
-ghost use Rattle.can_node.specs.Listener.{caught_up, is_reading, may_follow_by};
+ghost use Rattle.can_node.specs.Listener.{Idles, caught_up, is_reading, may_follow_by};
 ghost use Rattle.can_confinement.specs.declared.known_counts.KnownCounts.{KnownCounts as KnownCountsValue};
 ghost use Rattle.can_confinement.specs.declared.confinement.ErrorState.{ErrorState as ErrorStateValue};
 
@@ -54,6 +54,13 @@ impl Listener {
         ensures { result ≡ is_reading self.now }
     {
         is_in_region(self.state)
+    }
+
+    /// Whether they are idle: then each recessive bit leaves them so.
+    pub fn is_idle(&self) -> bool
+        ensures { result ≡ true → Idles self.now }
+    {
+        is_idle(self.state)
     }
 
     /// Whether `reads_along_by` may follow many bits: they read within the stuffed region of a frame or behind the ACK

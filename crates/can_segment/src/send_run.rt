@@ -24,12 +24,12 @@ fn first_sender(members: &[Member], awake: Span) -> usize
     members.len()
 }
 
-/// So many recessive levels, and eight at most, as many as the longest wait has.
+/// So many recessive levels, and 32 at most.
 fn recessive<'a>(most: usize) -> &'a [bool]
     ensures few { length result.now ≤ most }
     ensures recessive { AreRecessive result.now }
 {
-    const RECESSIVE: &[bool] = &[true; 8];
+    const RECESSIVE: &[bool] = &[true; 32];
     &RECESSIVE[..most.min(RECESSIVE.len())]
 }
 
@@ -113,10 +113,35 @@ fn send_beside(
     go_on_by(others, sent, awake_others);
 }
 
+/// Bits at which all nodes rest on an idle bus and have nothing to send: `most` at most, and none where that is not so.
+/// Their levels are kept behind those of `levels`, which has room for them.
+fn idle_run(
+    levels: &mut Vec<bool>,
+    talkers: &[Member],
+    controllers: &[Member],
+    rest: &Rest,
+    most: usize,
+)
+    requires talkers_within { AwakeWithin rest.now.talkers talkers.now }
+    requires controllers_within { AwakeWithin rest.now.controllers controllers.now }
+    requires level_room { vec_len levels.old + most ≤ vec_capacity levels.old }
+    ensures { (sent : List Bool) × (length sent ≤ most) × (levels.new.items ≡ levels.old.items ++ sent)
+        × GoQuietlyBy (length levels.old.items) sent rest.now rest.now talkers.now talkers.now
+        controllers.now controllers.now }
+{
+    if !rest.spent || !rest.listener.is_idle() {
+        return;
+    }
+    if !rest.talkers.is_empty() || !rest.controllers.is_empty() {
+        return;
+    }
+    let _ = levels.extend_from_slice(recessive(most));
+}
+
 /// As many of the next bits as one node sends in the stuffed region of its frame or behind the ACK slot while all others
 /// rest or stay out of frames, in bus off, in passive error flags or in what they wait for behind a frame; or as all do
-/// so: `most` at most, and none where that is not so. Their levels are kept behind those of `levels`, which has room for
-/// them.
+/// so, also on an idle bus: `most` at most, and none where that is not so. Their levels are kept behind those of `levels`,
+/// which has room for them.
 pub(crate) fn send_run(
     levels: &mut Vec<bool>,
     talkers: &mut [Member],
@@ -133,6 +158,10 @@ pub(crate) fn send_run(
         × GoQuietlyBy (length levels.old.items) sent rest.old rest.new talkers.old talkers.new
         controllers.old controllers.new }
 {
+    if rest.listener.wants_start() {
+        idle_run(levels, talkers, controllers, rest, most);
+        return;
+    }
     let awake = rest.talkers;
     let awake_too = rest.controllers;
     let talker = first_sender(talkers, awake);

@@ -20,6 +20,13 @@ impl Span {
         Span { from: 0, to: len }
     }
 
+    /// Whether it has no place.
+    pub fn is_empty(self) -> bool
+        ensures { result ≡ true → self.to ≤ self.from }
+    {
+        self.from >= self.to
+    }
+
     /// Whether it has one place at most.
     pub fn is_one_at_most(self) -> bool
         ensures { result ≡ true → self.to ≤ self.from + 1 }

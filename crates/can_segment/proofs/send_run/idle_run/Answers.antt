@@ -1,0 +1,20 @@
+use Rattle.std.proofs.Common.{rules, ◌≡◌, true, is_ok, length}
+use Rattle.can_segment.proofs.SendRuns.{all_asleep, idle_bits}
+use Rattle.can_segment.proofs.send_run.idle_run.Goals as goal
+
+pub returns : goal.returns
+returns c =
+    let rest = c.args.rest.now in
+    let talkers = c.args.talkers.now in
+    let controllers = c.args.controllers.now in
+    let within = c.requires in
+    let fine : is_ok c.extend_from_slice.result ≡ true = search rules in (
+      c.recessive.result.now,
+      c.recessive.ensures.few,
+      rw fine at c.extend_from_slice.ensures.items,
+      idle_bits (length c.args.levels.now.items) c.recessive.result.now rest talkers controllers
+          c.if-not-rest.false (c.is_idle.ensures c.if-not-is_idle.false)
+          (all_asleep rest.talkers talkers within.talkers_within (c.is_empty.ensures c.if-not-is_empty.false))
+          (all_asleep rest.controllers controllers within.controllers_within
+          (c.is_empty-else-not-is_empty.ensures c.if-not-is_empty-2.false)) c.recessive.ensures.recessive,
+    )
