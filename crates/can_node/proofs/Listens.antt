@@ -29,7 +29,8 @@ use Rattle.can_node.specs.Machine.{Advances, behind_end, Counts, Goes, GoesReadi
 use Rattle.can_node.specs.Machine.{is_sending, is_taking, level_in, may_start, quiet}
 use Rattle.can_frame.specs.Sending.{level_at}
 use Rattle.can_node.specs.Machine.LeadsTo.{stays_on}
-use Rattle.can_node.specs.Listener.{Idles, AllTake, Follows, IsUnseen, ReadsAlong, SendsTo, StandsWith, caught_up, taken_up}
+use Rattle.can_node.specs.Listener.{AllTake, Follows, Idles, IsUnseen, ReadsAlong, SendsTo, StandsWith}
+use Rattle.can_node.specs.Listener.{caught_up, taken_up}
 use Rattle.can_node.proofs.Samples.{counts_none, quiet_steps, samples}
 use Rattle.can_node.specs.PlainBits.{LeavesPlainly}
 use Rattle.can_node.proofs.PlainSteps.{plain_steps}

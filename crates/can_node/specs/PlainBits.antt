@@ -110,8 +110,8 @@ pub record StaysBy (state : State) (levels : List Bool) (count : ℕ) (next : St
   pub stays : StaysOut state (take count levels)
   pub next_is : next ≡ out_behind_all state (take count levels)
 
--- The node goes on with these levels, one after another: it sends a frame, and they are the next that it drives, none in
--- its ACK slot or its last bit; or it stays in what it waits for, as said above.
+-- The node goes on with these levels, one after another: it sends a frame, and they are the next that it drives, none
+-- in its ACK slot or its last bit; or it stays in what it waits for, as said above.
 pub data MayGoOnBy (is_sender : Bool) (levels : List Bool) (node : Node) : Type 0 where
   sends_on : (start place : ℕ) → is_sender ≡ true → node.state ≡ Sending start place →
       StandAhead node.spelling place levels → place + length levels ≤ 255 → MayGoOnBy is_sender levels node

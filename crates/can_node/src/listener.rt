@@ -64,8 +64,8 @@ impl Listener {
     }
 
     /// Whether `reads_along_by` may follow many bits: they read within the stuffed region of a frame or behind the ACK
-    /// slot, and need not choose any more between reading and sending, or wait on with a recessive level in a delimiter,
-    /// the intermission or a passive error flag.
+    /// slot, and need not choose any more between reading and sending, or wait on with a recessive level in a
+    /// delimiter, the intermission or a passive error flag.
     #[inline(always)]
     pub fn may_follow_by(&self) -> bool
         ensures { result ≡ may_follow_by self.now.state }
@@ -114,8 +114,8 @@ impl Listener {
     }
 
     /// Follows bits at which all of them drive recessive, none may begin to send, and each samples the first of these
-    /// levels, one after another, and tells how many those are: then each has told nothing and counted nothing. They are
-    /// all in the stuffed region of a frame, all behind it, or all in what they wait for.
+    /// levels, one after another, and tells how many those are: then each has told nothing and counted nothing. They
+    /// are all in the stuffed region of a frame, all behind it, or all in what they wait for.
     #[inline(always)]
     pub fn reads_along_by(&mut self, levels: &[bool]) -> usize
         ensures few { result ≤ length levels.now }

@@ -287,7 +287,8 @@ fn turn_sending(
     make(turn, state, counters)
 }
 
-/// A turn of a node that neither reads nor sends a frame. Most only count on in a flag, a delimiter or the intermission.
+/// A turn of a node that neither reads nor sends a frame. Most only count on in a flag, a delimiter or the
+/// intermission.
 #[inline(never)]
 fn turn_outside(
     state: &mut State,

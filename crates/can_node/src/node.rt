@@ -1,6 +1,7 @@
 //! A node of one segment.
 
-ghost use Rattle.std.specs.Prelude.{◌≡◌, ℕ, ◌+◌, ◌<◌, ◌≤◌, true, false, Bool, IsSome, IfSome, IfNone, length, min, take};
+ghost use Rattle.std.specs.Prelude.{◌≡◌, ℕ, ◌+◌, ◌<◌, ◌≤◌, true, false, Bool, IsSome, IfSome, IfNone};
+ghost use Rattle.std.specs.Prelude.{length, min, take};
 ghost use Rattle.can_confinement.specs.Counters.{StandsAfter as CountersStandAfter, counts_of};
 ghost use Rattle.can_node.specs.Histories.{Past, no_past, IsHistory};
 ghost use Rattle.can_node.specs.Listener.{SendsTo, StandsWith, caught_up, listener_of, listens_in, taken_up};
@@ -245,8 +246,8 @@ impl Node {
         Some(level)
     }
 
-    /// The levels that the node drives next in a frame that it sends, up to the ACK slot or behind it up to the last bit
-    /// of EOF, and `most` at most: it goes on with them one after another. None where it sends no frame.
+    /// The levels that the node drives next in a frame that it sends, up to the ACK slot or behind it up to the last
+    /// bit of EOF, and `most` at most: it goes on with them one after another. None where it sends no frame.
     pub fn ahead(&self, most: usize) -> &[bool]
         ensures few { length result.now ≤ most }
         ensures may { 0 < length result.now → MayGoOnBy true result.now self.now }
@@ -259,8 +260,9 @@ impl Node {
     }
 
     /// With how many of these levels, one after another, the node stays out of frames: in bus off or in a passive error
-    /// flag, up to the end of a run of eleven recessive levels or of the flag, or a level that it counts; in a delimiter,
-    /// the intermission or suspend transmission with recessive ones, up to the last bit. 0 where it is in none of these.
+    /// flag, up to the end of a run of eleven recessive levels or of the flag, or a level that it counts; in a
+    /// delimiter, the intermission or suspend transmission with recessive ones, up to the last bit. 0 where it is in
+    /// none of these.
     pub fn stays_out(&self, levels: &[bool]) -> usize
         ensures few { result ≤ length levels.now }
         ensures may { MayGoOnBy false (take result levels.now) self.now }

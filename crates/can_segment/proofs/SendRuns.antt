@@ -282,6 +282,15 @@ waited_beside past beyond bit sent rest after s0 s1 o0 o1 recessive none none_to
     (all_run past bit sent s0 s1 (λ m e. absurd (not_behind past s0 m none e)) stay go)
     (all_run beyond bit sent o0 o1 (λ m e. absurd (not_behind beyond o0 m none_too e)) stay_too go_too) along
 
+-- so many recessive levels
+abbrev pub all_recessive : ℕ → List Bool
+all_recessive zero = []
+all_recessive (suc n) = true ∷ all_recessive n
+
+pub are_recessive : (n : ℕ) → AreRecessive (all_recessive n)
+are_recessive zero = tt
+are_recessive (suc n) = (refl, are_recessive n)
+
 pub recessive_taken : (n : ℕ) (levels : List Bool) → AreRecessive levels → AreRecessive (take n levels)
 recessive_taken zero levels h = tt
 recessive_taken (suc n) [] h = tt

@@ -33,8 +33,8 @@ fn recessive<'a>(most: usize) -> &'a [bool]
     &RECESSIVE[..most.min(RECESSIVE.len())]
 }
 
-/// The levels that the node at this place drives next in a frame that it sends, or recessive ones where no node is there:
-/// `most` at most.
+/// The levels that the node at this place drives next in a frame that it sends, or recessive ones where no node is
+/// there: `most` at most.
 fn next_levels<'a>(senders: &'a [Member], place: usize, bit: u64, most: usize) -> &'a [bool]
     ensures few { length result.now ≤ most }
     ensures may { 0 < length result.now → (sender : Member) → slice_get senders.now place ≡ Some sender
@@ -138,10 +138,10 @@ fn idle_run(
     let _ = levels.extend_from_slice(recessive(most));
 }
 
-/// As many of the next bits as one node sends in the stuffed region of its frame or behind the ACK slot while all others
-/// rest or stay out of frames, in bus off, in passive error flags or in what they wait for behind a frame; or as all do
-/// so, also on an idle bus: `most` at most, and none where that is not so. Their levels are kept behind those of `levels`,
-/// which has room for them.
+/// As many of the next bits as one node sends in the stuffed region of its frame or behind the ACK slot while all
+/// others rest or stay out of frames, in bus off, in passive error flags or in what they wait for behind a frame; or as
+/// all do so, also on an idle bus: `most` at most, and none where that is not so. Their levels are kept behind those of
+/// `levels`, which has room for them.
 pub(crate) fn send_run(
     levels: &mut Vec<bool>,
     talkers: &mut [Member],
