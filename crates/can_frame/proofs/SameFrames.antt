@@ -2,11 +2,10 @@
 use Rattle.std.proofs.Common.{◌≡◌, length, take, sym, ap, ◌∙◌}
 use Rattle.std.proofs.Math.Seq.{take-append_seam}
 use Rattle.can_frame.specs.Frames.{Identifier, standard, extended, Content, data_bytes, remote_code, FrameValue}
+use Rattle.can_frame.specs.Frames.{is_extended_id, number_of}
 use Rattle.can_frame.specs.FrameParts.{padded, cells_of, dlc_of, remote_of}
-use Rattle.can_frame.specs.IdParts.{id_parts}
 
-pub same_identifier : (a b : Identifier) → (id_parts a).number ≡ (id_parts b).number →
-    (id_parts a).is_extended ≡ (id_parts b).is_extended → a ≡ b
+pub same_identifier : (a b : Identifier) → number_of a ≡ number_of b → is_extended_id a ≡ is_extended_id b → a ≡ b
 same_identifier (standard m) (standard n) number format = ap standard number
 same_identifier (standard m) (extended n) number format = absurd (cc format)
 same_identifier (extended m) (standard n) number format = absurd (cc format)

@@ -17,6 +17,11 @@ pub record FrameValue : Type 0 where
   pub id : Identifier
   pub content : Content
 
+-- the identifier of this number in the extended format (true) or in the standard one
+abbrev pub identifier_of : Bool → ℕ → Identifier
+identifier_of true n = extended n
+identifier_of false n = standard n
+
 -- 11 bits in the standard format, 29 in the extended one
 abbrev pub IsIdentifier : Identifier → Type 0
 IsIdentifier (standard n) = n < 2 ^ 11

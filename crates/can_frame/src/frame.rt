@@ -14,7 +14,9 @@ use std::marker::Model;
 /// identifier 0 and no bytes.
 #[derive(Clone, Copy, Debug, Default, PartialEq, Eq)]
 pub struct Frame {
-    id: Id,
+    // the identifier's number and format stand here themselves, so that a frame has 16 bytes and not 20
+    number: u32,
+    is_extended: bool,
     is_remote: bool,
     dlc: u8,
     // cells behind the frame's bytes are 0, so that equal frames are equal field by field
@@ -60,7 +62,8 @@ impl Frame {
         let mut cells = [0u8; 8];
         cells[..bytes.len()].copy_from_slice(bytes);
         Ok(Frame {
-            id,
+            number: id.number(),
+            is_extended: id.is_extended(),
             is_remote: false,
             dlc: bytes.len() as u8,
             bytes: cells,
@@ -79,7 +82,8 @@ impl Frame {
             return Err(FrameError::Dlc);
         }
         Ok(Frame {
-            id,
+            number: id.number(),
+            is_extended: id.is_extended(),
             is_remote: true,
             dlc,
             bytes: [0; 8],
@@ -91,7 +95,7 @@ impl Frame {
     pub fn facts(&self)
         ensures { IsFrameValue self.now }
     {
-        self.id.facts();
+        self.id().facts();
         are_bytes(self.bytes());
         let _dlc = self.dlc();
     }
@@ -108,14 +112,18 @@ impl Frame {
     pub fn id(&self) -> Id
         ensures { result ≡ self.now.id }
     {
-        self.id
+        Id::with_format(self.number, self.is_extended)
     }
 
     /// The same frame under another identifier: kind, data length code and bytes stay.
     pub fn with_id(&self, id: Id) -> Frame
         ensures { result ≡ record self.now { id = id } }
     {
-        Frame { id, ..*self }
+        Frame {
+            number: id.number(),
+            is_extended: id.is_extended(),
+            ..*self
+        }
     }
 
     /// Whether it is a remote frame, so that RTR is recessive on the bus.

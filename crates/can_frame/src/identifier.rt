@@ -5,6 +5,7 @@ ghost use Rattle.can_frame.specs.Frames.{
   Identifier,
   standard,
   extended,
+  identifier_of,
   IsIdentifier,
   is_extended_id,
   number_of,
@@ -70,6 +71,17 @@ impl Id {
             number,
             is_extended: true,
         })
+    }
+
+    /// That of this number in the extended format, or in the standard one.
+    pub(crate) fn with_format(number: u32, is_extended: bool) -> Id
+        requires { IsIdentifier (identifier_of is_extended number) }
+        ensures { result ≡ identifier_of is_extended number }
+    {
+        Id {
+            number,
+            is_extended,
+        }
     }
 
     /// What every identifier is: its number fits its format. Does nothing; a proof that has an `Id`

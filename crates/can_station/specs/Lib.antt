@@ -1,5 +1,8 @@
 pub mod Faults
 pub mod Outcomes
+pub mod ToldParts
+pub mod EventValues
+pub mod EventParts
 pub mod Lines
 pub mod Stations
 pub mod Ports

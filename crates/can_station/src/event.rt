@@ -1,7 +1,13 @@
 //! What is told of a node at a bit.
 
+ghost use Rattle.std.specs.Prelude.{◌≡◌};
+ghost use Rattle.can_station.specs.ToldParts.{parts_in};
+
+use crate::kind::Kind;
 use can_frame::Frame;
 use can_node::ErrorKind;
+use std::marker::Model;
+use std::mem::size_of;
 
 /// A request of a route.
 #[derive(Clone, Copy, Debug, PartialEq, Eq)]
@@ -57,10 +63,137 @@ pub enum Told {
 /// A line of a record.
 #[derive(Clone, Copy, Debug, PartialEq, Eq)]
 pub struct Event {
+    bit: u64,
+    // what is told lies here flat, a part that nothing is told by being 0, so that a line has 40 bytes and not 64: lines
+    // are most of what a run keeps
+    start: u64,
+    frame: Frame,
+    number: u32,
+    node: u16,
+    route: u8,
+    kind: Kind,
+}
+
+const _: () = prove!(size_of::<Event>() == 40);
+
+impl Model for Event {
+    ghost use Rattle.can_station.specs.EventValues.{EventValue};
+
+    ghost Value = { EventValue };
+
+    ghost use Rattle.can_station.specs.EventParts.{event_view, event_parts, IsEvent};
+
+    ghost view = { event_view };
+
+    ghost invariant = { IsEvent };
+
+    ghost inverse = { event_parts };
+
+    ghost inverse_ok = { λ a is. is };
+}
+
+impl Event {
+    /// The line that tells this of the node at this place in the order of nodes, at the bit of this number.
+    pub fn new(bit: u64, node: u16, told: Told) -> Event
+        ensures { result ≡ record { bit = bit; node = node; told = told } }
+    {
+        let (kind, start, frame, label) = parts_of(told);
+        Event {
+            bit,
+            start,
+            frame,
+            number: label.number,
+            node,
+            route: label.route,
+            kind,
+        }
+    }
+
     /// The number of the bit.
-    pub bit: u64,
+    pub fn bit(&self) -> u64
+        ensures { result ≡ self.now.bit }
+    {
+        self.bit
+    }
+
     /// The node's place in the order of nodes.
-    pub node: u32,
+    pub fn node(&self) -> u32
+        ensures { result ≡ self.now.node }
+    {
+        u32::from(self.node)
+    }
+
     /// What happened there.
-    pub told: Told,
+    pub fn told(&self) -> Told
+        ensures { result ≡ self.now.told }
+    {
+        let start = self.start;
+        let frame = self.frame;
+        let label = Label {
+            route: self.route,
+            number: self.number,
+        };
+        match self.kind {
+            Kind::Started => Told::Started { frame, label: None },
+            Kind::StartedRequest => Told::Started {
+                frame,
+                label: Some(label),
+            },
+            Kind::Took => Told::Took { start, frame },
+            Kind::Completed => Told::Completed {
+                start,
+                frame,
+                label: None,
+            },
+            Kind::CompletedRequest => Told::Completed {
+                start,
+                frame,
+                label: Some(label),
+            },
+            Kind::Lost => Told::Lost { start },
+            Kind::BitError => Told::Error(ErrorKind::Bit),
+            Kind::StuffError => Told::Error(ErrorKind::Stuff),
+            Kind::FormError => Told::Error(ErrorKind::Form),
+            Kind::AckError => Told::Error(ErrorKind::Ack),
+            Kind::CrcError => Told::Error(ErrorKind::Crc),
+            Kind::Off => Told::Off,
+            Kind::Back => Told::Back,
+            Kind::Reaped => Told::Reaped(label),
+        }
+    }
+}
+
+/// The label of what names no request.
+const NO_LABEL: Label = Label {
+    route: 0,
+    number: 0,
+};
+
+/// Which thing this is, its start, its frame and its request.
+fn parts_of(told: Told) -> (Kind, u64, Frame, Label)
+    ensures { result ≡ parts_in told }
+{
+    match told {
+        Told::Started { frame, label: None } => (Kind::Started, 0, frame, NO_LABEL),
+        Told::Started {
+            frame,
+            label: Some(label),
+        } => (Kind::StartedRequest, 0, frame, label),
+        Told::Took { start, frame } => (Kind::Took, start, frame, NO_LABEL),
+        Told::Completed {
+            start,
+            frame,
+            label: None,
+        } => (Kind::Completed, start, frame, NO_LABEL),
+        Told::Completed {
+            start,
+            frame,
+            label: Some(label),
+        } => (Kind::CompletedRequest, start, frame, label),
+        Told::Lost { start } => (Kind::Lost, start, Frame::default(), NO_LABEL),
+        Told::Error(error) => (Kind::of_error(error), 0, Frame::default(), NO_LABEL),
+        Told::Off => (Kind::Off, 0, Frame::default(), NO_LABEL),
+        Told::Back => (Kind::Back, 0, Frame::default(), NO_LABEL),
+        Told::Reaped(label) => (Kind::Reaped, 0, Frame::default(), label),
+    }
 }

@@ -6,6 +6,7 @@ mod event;
 mod fault_order;
 mod faults;
 mod going;
+mod kind;
 mod member;
 mod members;
 mod plan;

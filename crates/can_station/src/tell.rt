@@ -10,17 +10,17 @@ use crate::transmission::Transmission;
 use can_node::Outcome;
 
 /// One line more, for which there is room.
-fn push(events: &mut Vec<Event>, bit: u64, node: u32, told: Told)
+fn push(events: &mut Vec<Event>, bit: u64, node: u16, told: Told)
     requires { vec_len events.old < vec_capacity events.old }
     ensures value { events.new.items ≡ events.old.items ++ lines bit node (told ∷ []) }
     ensures len { vec_len events.new ≡ vec_len events.old + 1 }
     ensures capacity { vec_capacity events.old ≤ vec_capacity events.new }
 {
-    let _ = events.push(Event { bit, node, told });
+    let _ = events.push(Event::new(bit, node, told));
 }
 
 /// What is told of the beginning of a frame.
-fn tell_start(events: &mut Vec<Event>, bit: u64, node: u32, deed: &Deed)
+fn tell_start(events: &mut Vec<Event>, bit: u64, node: u16, deed: &Deed)
     requires { vec_len events.old < vec_capacity events.old }
     ensures value { events.new.items ≡ events.old.items ++ lines bit node (start_of deed.now) }
     ensures len { vec_len events.new ≤ vec_len events.old + 1 }
@@ -45,7 +45,7 @@ fn tell_start(events: &mut Vec<Event>, bit: u64, node: u32, deed: &Deed)
 fn tell_outcome(
     events: &mut Vec<Event>,
     bit: u64,
-    node: u32,
+    node: u16,
     sent: &Option<Transmission>,
     outcome: &Outcome,
 )
@@ -91,7 +91,7 @@ fn tell_outcome(
 }
 
 /// What is told of a request that was reaped.
-fn tell_reaped(events: &mut Vec<Event>, bit: u64, node: u32, reaped: Option<Label>)
+fn tell_reaped(events: &mut Vec<Event>, bit: u64, node: u16, reaped: Option<Label>)
     requires { vec_len events.old < vec_capacity events.old }
     ensures value { events.new.items ≡ events.old.items ++ lines bit node (told_reaped reaped) }
     ensures len { vec_len events.new ≤ vec_len events.old + 1 }
@@ -103,7 +103,7 @@ fn tell_reaped(events: &mut Vec<Event>, bit: u64, node: u32, reaped: Option<Labe
 }
 
 /// What is told besides.
-fn tell_rest(events: &mut Vec<Event>, bit: u64, node: u32, deed: &Deed)
+fn tell_rest(events: &mut Vec<Event>, bit: u64, node: u16, deed: &Deed)
     requires { vec_len events.old + 2 ≤ vec_capacity events.old }
     ensures value { events.new.items ≡ events.old.items ++ lines bit node (rest_by deed.now) }
     ensures len { vec_len events.new ≤ vec_len events.old + 2 }
@@ -123,7 +123,7 @@ pub fn tell_starts(events: &mut Vec<Event>, bit: u64, first: u32, members: &[Mem
     ensures capacity { vec_capacity events.old ≤ vec_capacity events.new }
 {
     for place in 0..members.len() {
-        tell_start(events, bit, first + place as u32, &members[place].deed);
+        tell_start(events, bit, (first + place as u32) as u16, &members[place].deed);
     }
 }
 
@@ -137,6 +137,6 @@ pub fn tell_rests(events: &mut Vec<Event>, bit: u64, first: u32, members: &[Memb
     ensures capacity { vec_capacity events.old ≤ vec_capacity events.new }
 {
     for place in 0..members.len() {
-        tell_rest(events, bit, first + place as u32, &members[place].deed);
+        tell_rest(events, bit, (first + place as u32) as u16, &members[place].deed);
     }
 }

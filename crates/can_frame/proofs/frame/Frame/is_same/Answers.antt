@@ -10,8 +10,8 @@ returns-clause-same c is =
     let a = c.args.self.now in
     let b = c.args.other.now in
     let fields = (Decides-at c.eq.result _ c.eq.ensures
-    (Decides-and _ _ (Decides-and _ _ (unsigned_Decides _ _) (booleans_Decides _ _))
+    (Decides-and _ _ (unsigned_Decides _ _) (Decides-and _ _ (booleans_Decides _ _)
     (Decides-and _ _ (booleans_Decides _ _)
-    (Decides-and _ _ (unsigned_Decides _ _) (slice_eq-Decides unsigned_Decides _ _ _ refl))))).0 is in
-    same_frame a b (same_identifier a.id b.id fields.0.0 fields.0.1)
-    (same_content a.content b.content fields.1.0 fields.1.1.0 fields.1.1.1)
+    (Decides-and _ _ (unsigned_Decides _ _) (slice_eq-Decides unsigned_Decides _ _ _ refl)))))).0 is in
+    same_frame a b (same_identifier a.id b.id fields.0 fields.1.0)
+    (same_content a.content b.content fields.1.1.0 fields.1.1.1.0 fields.1.1.1.1)
