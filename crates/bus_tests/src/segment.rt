@@ -214,40 +214,28 @@ fn record_of(alloc: Global, plan: SegmentPlan) -> Result<Record, Fail> {
     }
 }
 
-fn started(bit: u64, node: u32, frame: Frame) -> Event {
+fn started(bit: u64, node: u16, frame: Frame) -> Event {
     let label = None;
-    Event {
-        bit,
-        node,
-        told: Told::Started { frame, label },
-    }
+    Event::new(bit, node, Told::Started { frame, label })
 }
 
-fn took(bit: u64, node: u32, start: u64, frame: Frame) -> Event {
-    Event {
-        bit,
-        node,
-        told: Told::Took { start, frame },
-    }
+fn took(bit: u64, node: u16, start: u64, frame: Frame) -> Event {
+    Event::new(bit, node, Told::Took { start, frame })
 }
 
-fn completed(bit: u64, node: u32, start: u64, frame: Frame) -> Event {
+fn completed(bit: u64, node: u16, start: u64, frame: Frame) -> Event {
     let label = None;
-    Event {
+    Event::new(
         bit,
         node,
-        told: Told::Completed {
+        Told::Completed {
             start,
             frame,
             label,
         },
-    }
+    )
 }
 
-fn errored(bit: u64, node: u32, kind: ErrorKind) -> Event {
-    Event {
-        bit,
-        node,
-        told: Told::Error(kind),
-    }
+fn errored(bit: u64, node: u16, kind: ErrorKind) -> Event {
+    Event::new(bit, node, Told::Error(kind))
 }

@@ -1,5 +1,6 @@
 pub mod Places
 pub mod Tellings
+pub mod Events
 pub mod Settles
 pub mod FaultsInOrder
 pub mod Wakes

@@ -97,7 +97,7 @@ impl Event {
     pub fn new(bit: u64, node: u16, told: Told) -> Event
         ensures { result ≡ record { bit = bit; node = node; told = told } }
     {
-        let (kind, start, frame, label) = parts_of(told);
+        let (kind, start, frame, label) = parts_of(&told);
         Event {
             bit,
             start,
@@ -170,30 +170,30 @@ const NO_LABEL: Label = Label {
 };
 
 /// Which thing this is, its start, its frame and its request.
-fn parts_of(told: Told) -> (Kind, u64, Frame, Label)
-    ensures { result ≡ parts_in told }
+fn parts_of(told: &Told) -> (Kind, u64, Frame, Label)
+    ensures { result ≡ parts_in told.now }
 {
     match told {
-        Told::Started { frame, label: None } => (Kind::Started, 0, frame, NO_LABEL),
+        Told::Started { frame, label: None } => (Kind::Started, 0, *frame, NO_LABEL),
         Told::Started {
             frame,
             label: Some(label),
-        } => (Kind::StartedRequest, 0, frame, label),
-        Told::Took { start, frame } => (Kind::Took, start, frame, NO_LABEL),
+        } => (Kind::StartedRequest, 0, *frame, *label),
+        Told::Took { start, frame } => (Kind::Took, *start, *frame, NO_LABEL),
         Told::Completed {
             start,
             frame,
             label: None,
-        } => (Kind::Completed, start, frame, NO_LABEL),
+        } => (Kind::Completed, *start, *frame, NO_LABEL),
         Told::Completed {
             start,
             frame,
             label: Some(label),
-        } => (Kind::CompletedRequest, start, frame, label),
-        Told::Lost { start } => (Kind::Lost, start, Frame::default(), NO_LABEL),
-        Told::Error(error) => (Kind::of_error(error), 0, Frame::default(), NO_LABEL),
+        } => (Kind::CompletedRequest, *start, *frame, *label),
+        Told::Lost { start } => (Kind::Lost, *start, Frame::default(), NO_LABEL),
+        Told::Error(error) => (Kind::of_error(*error), 0, Frame::default(), NO_LABEL),
         Told::Off => (Kind::Off, 0, Frame::default(), NO_LABEL),
         Told::Back => (Kind::Back, 0, Frame::default(), NO_LABEL),
-        Told::Reaped(label) => (Kind::Reaped, 0, Frame::default(), label),
+        Told::Reaped(label) => (Kind::Reaped, 0, Frame::default(), *label),
     }
 }

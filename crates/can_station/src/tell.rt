@@ -123,7 +123,8 @@ pub fn tell_starts(events: &mut Vec<Event>, bit: u64, first: u32, members: &[Mem
     ensures capacity { vec_capacity events.old ≤ vec_capacity events.new }
 {
     for place in 0..members.len() {
-        tell_start(events, bit, (first + place as u32) as u16, &members[place].deed);
+        let node = (first + place as u32) as u16;
+        tell_start(events, bit, node, &members[place].deed);
     }
 }
 
@@ -137,6 +138,7 @@ pub fn tell_rests(events: &mut Vec<Event>, bit: u64, first: u32, members: &[Memb
     ensures capacity { vec_capacity events.old ≤ vec_capacity events.new }
 {
     for place in 0..members.len() {
-        tell_rest(events, bit, (first + place as u32) as u16, &members[place].deed);
+        let node = (first + place as u32) as u16;
+        tell_rest(events, bit, node, &members[place].deed);
     }
 }

@@ -15,10 +15,10 @@ use std::alloc::{AllocError, Global};
 fn sent_in(event: &Event, node: u32, route: u8) -> Option<Entry>
     ensures { option_to_list result ≡ entries_of route (all_in sent_in (told_of node (event.now ∷ []))) }
 {
-    if event.node != node {
+    if event.node() != node {
         return None;
     }
-    match event.told {
+    match event.told() {
         Told::Completed {
             start: _,
             frame,

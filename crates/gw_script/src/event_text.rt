@@ -122,9 +122,15 @@ fn push_rest(
     ensures { OnOk result
         (text.new.items ≡ text.old.items ++ rest_text script.now segment event.now) }
 {
-    push_told(text, &event.told)?;
-    let label = label_of(&event.told);
-    push_label(text, script, segment, event.node as usize, label)?;
+    let told = event.told();
+    push_told(text, &told)?;
+    push_label(
+        text,
+        script,
+        segment,
+        event.node() as usize,
+        label_of(&told),
+    )?;
     text.extend_from_slice(b"\n")
 }
 
@@ -150,11 +156,12 @@ fn push_event(
     ensures text { OnOk result
         (text.new.items ≡ text.old.items ++ event_line script.now segment event.now) }
 {
-    front.push(text, name, event.bit)?;
-    let node = event.node as usize;
+    front.push(text, name, event.bit())?;
+    let node = event.node() as usize;
     text.extend_from_slice(name_at(names, node).as_bytes())?;
-    match label_of(&event.told) {
-        None => ends.push(text, node, &event.told),
+    let told = event.told();
+    match label_of(&told) {
+        None => ends.push(text, node, &told),
         Some(_) => push_rest(text, script, segment, event),
     }
 }

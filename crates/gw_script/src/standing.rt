@@ -22,11 +22,11 @@ fn request_stands(script: &Script, segment: usize, node: usize, label: Label) ->
 fn event_stands(script: &Script, segment: usize, event: &Event) -> bool
     ensures { IsTrue result ↔ NamesEvent script.now segment event.now }
 {
-    let node = event.node as usize;
+    let node = event.node() as usize;
     if node >= script.node_count(segment) {
         return false;
     }
-    match label_of(&event.told) {
+    match label_of(&event.told()) {
         Some(label) => request_stands(script, segment, node, label),
         None => true,
     }

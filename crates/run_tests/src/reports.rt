@@ -20,16 +20,16 @@ const THREE_FRAMES: &str =
 const THREE_ROUTES: &str =
     r#"{"version":1,"bits":300,"segments":[{"name":"x","talkers":[{"name":"t","on":0,"frames":[]}]}],"controllers":[{"name":"c","segment":"x","on":0,"banks":[]},{"name":"d","segment":"x","on":0,"banks":[]}],"routes":[{"name":"p","from":"c","fifo":0,"to":"d"},{"name":"q","from":"d","fifo":0,"to":"c"},{"name":"s","from":"c","fifo":1,"to":"d"}]}"#;
 
-fn event(bit: u64, node: u32, told: Told) -> Event {
-    Event { bit, node, told }
+fn event(bit: u64, node: u16, told: Told) -> Event {
+    Event::new(bit, node, told)
 }
 
-fn started(bit: u64, node: u32, label: Option<Label>) -> Event {
+fn started(bit: u64, node: u16, label: Option<Label>) -> Event {
     let frame = Frame::default();
     event(bit, node, Told::Started { frame, label })
 }
 
-fn took(bit: u64, node: u32, start: u64) -> Event {
+fn took(bit: u64, node: u16, start: u64) -> Event {
     let frame = Frame::default();
     event(bit, node, Told::Took { start, frame })
 }
@@ -38,7 +38,7 @@ fn entry(number: u32, frame: Frame) -> Entry {
     Entry { number, frame }
 }
 
-fn completed(bit: u64, node: u32, start: u64, label: Option<Label>) -> Event {
+fn completed(bit: u64, node: u16, start: u64, label: Option<Label>) -> Event {
     let frame = Frame::default();
     event(
         bit,

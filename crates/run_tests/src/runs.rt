@@ -65,7 +65,7 @@ fn three_frames_go_over_a_route(rt: HostRuntime) -> Result<(), Fail> {
         let told = segments.next();
         assert!(rt; told.map(|record| record.levels.len()) == Some(300));
         assert!(rt;
-            told.map(|record| record.events.iter().map(|event| event.bit).eq(bits)) == Some(true)
+            told.map(|record| record.events.iter().map(|event| event.bit()).eq(bits)) == Some(true)
         );
     }
     assert!(rt; segments.next().is_none());

@@ -56,18 +56,20 @@ fn record_with(alloc: Global, turned: Option<Turned>, level: bool) -> Result<Rec
 /// The receiver took this frame of this start at this bit.
 fn is_taken(events: &[Event], bit: u64, start: u64, frame: Frame) -> bool {
     let took = Told::Took { start, frame };
-    events.iter().any(|event| event.node == RECEIVER && event.bit == bit && event.told == took)
+    events.iter().any(|event| event.node() == RECEIVER
+        && event.bit() == bit
+        && event.told() == took)
 }
 
 /// The sender, which is error active throughout, met an error: an attempt that began at the first of these bits ended
 /// at the other. A receiver that is not falsified behind it took nothing of the attempt any more.
 fn look_behind_an_error(rt: &impl Abort, events: &[Event], turned: Turned, first: u64, end: u64) {
     for event in events {
-        if event.node == RECEIVER && event.bit > end {
-            if let Told::Took { start, .. } = event.told {
+        if event.node() == RECEIVER && event.bit() > end {
+            if let Told::Took { start, .. } = event.told() {
                 // the start is the first bit that the sender drives, or the bit before, where it joined
                 if start == first || start.saturating_add(1) == first {
-                    assert!(rt; turned.touches_receiver(end, event.bit), "{turned:?}");
+                    assert!(rt; turned.touches_receiver(end, event.bit()), "{turned:?}");
                 }
             }
         }
@@ -78,22 +80,25 @@ fn look_behind_an_error(rt: &impl Abort, events: &[Event], turned: Turned, first
 fn look_through(rt: &impl Abort, events: &[Event], turned: Turned) -> u64 {
     let mut begun: Option<u64> = None;
     let mut sent: u64 = 0;
-    for event in events.iter().filter(|event| event.node == SENDER) {
-        match event.told {
+    for event in events.iter().filter(|event| event.node() == SENDER) {
+        match event.told() {
             Told::Started { .. } => {
                 // what was completed is not begun again
                 assert!(rt; sent == 0, "{turned:?}");
-                begun = Some(event.bit);
+                begun = Some(event.bit());
             }
             Told::Error(_) => {
                 if let Some(first) = begun {
-                    look_behind_an_error(rt, events, turned, first, event.bit);
+                    look_behind_an_error(rt, events, turned, first, event.bit());
                 }
                 begun = None;
             }
             Told::Completed { start, frame, .. } => {
-                let taken = is_taken(events, event.bit.saturating_sub(1), start, frame);
-                assert!(rt; taken || turned.touches_any(start, event.bit), "{turned:?}");
+                let taken = is_taken(events, event.bit().saturating_sub(1), start, frame);
+                assert!(rt;
+                    taken || turned.touches_any(start, event.bit()),
+                    "{turned:?}"
+                );
                 begun = None;
                 sent = sent.saturating_add(1);
             }

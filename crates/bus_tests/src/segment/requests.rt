@@ -67,26 +67,18 @@ fn a_request_is_sent_and_a_frame_is_taken(rt: HostRuntime) -> Result<(), Fail> {
         record.events.as_slice()
             == [
                 started(11, 0, second),
-                Event {
-                    bit: 11,
-                    node: 1,
-                    told: Told::Started { frame, label }
-                },
-                Event {
-                    bit: 24,
-                    node: 0,
-                    told: Told::Lost { start: 11 }
-                },
+                Event::new(11, 1, Told::Started { frame, label }),
+                Event::new(24, 0, Told::Lost { start: 11 }),
                 took(59, 0, 11, frame),
-                Event {
-                    bit: 60,
-                    node: 1,
-                    told: Told::Completed {
+                Event::new(
+                    60,
+                    1,
+                    Told::Completed {
                         start: 11,
                         frame,
                         label
                     }
-                },
+                ),
                 started(64, 0, second),
                 took(109, 1, 64, second),
                 completed(110, 0, 64, second),
@@ -127,21 +119,17 @@ fn sends_in_spite(alloc: Global, frame: Frame) -> Option<bool> {
         number: 1,
     });
     let lines = [
-        Event {
-            bit: 11,
-            node: 1,
-            told: Told::Started { frame, label },
-        },
+        Event::new(11, 1, Told::Started { frame, label }),
         took(59, 0, 11, frame),
-        Event {
-            bit: 60,
-            node: 1,
-            told: Told::Completed {
+        Event::new(
+            60,
+            1,
+            Told::Completed {
                 start: 11,
                 frame,
                 label,
             },
-        },
+        ),
     ];
     let same = segment.record().events.as_slice() == lines.as_slice();
     Some(same && segment.record().levels.len() == 64 && ports[0].taken == 0)

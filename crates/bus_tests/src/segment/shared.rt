@@ -66,13 +66,9 @@ fn expected(frame: Frame, second: Frame) -> [Event; 8] {
         route: 0,
         number: 1,
     });
-    let by_controller = |bit, told| Event { bit, node: 1, told };
+    let by_controller = |bit, told| Event::new(bit, 1, told);
     let start = 11;
-    let lost = Event {
-        bit: 24,
-        node: 0,
-        told: Told::Lost { start },
-    };
+    let lost = Event::new(24, 0, Told::Lost { start });
     let sent = Told::Completed {
         start,
         frame,
