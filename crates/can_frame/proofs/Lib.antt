@@ -14,6 +14,7 @@ pub mod Undecided
 pub mod Steps
 pub mod Nexts
 pub mod ReaderLaws
+pub mod ReadingOn
 pub mod Spellings
 pub mod Runs
 pub mod SameFrames

@@ -10,6 +10,7 @@ use Rattle.can_frame.specs.Answers.{Answers, IsLast, IsUndecided}
 use Rattle.can_frame.specs.Reading.{Inside, InRegion, InTail, TailNext, HasEnded, StandsAt, StandsAfter, IsOpen, IsPush}
 use Rattle.can_frame.specs.Reading.{Leaves, MayReadOn, MayTake, Next, Judges, StandsAs, WantsData, WantsStuffBit}
 use Rattle.can_frame.specs.declared.level_run.LevelRun.{LevelRun}
+use Rattle.can_frame.proofs.LevelRuns.{full_is}
 use Rattle.can_frame.specs.declared.step.FaultKind.TheVariants.{Stuff, Form}
 use Rattle.can_frame.specs.declared.step.Step.{Step}
 use Rattle.can_frame.specs.declared.step.Step.TheVariants.{More, StuffBit, Body, Tail, Taken, Fault}
@@ -207,7 +208,24 @@ stuff_push old new level here place push items part =
       again = λ given e. absurd (cc (here, e));
     }
 
--- a reader that wants such a level reads on with it: it ends in this run then
+-- a reader that wants such a level does so by the text that it stands after
+pub wants_data_push : (reader new : Reader) (level : Bool) → WantsData reader → new.place ≡ reader.place →
+    ((text : List Bool) → EndsIn text reader.run → EndsIn (level ∷ text) new.run) →
+    (length reader.levels.items < 118 → new.levels.items ≡ reader.levels.items ++ level ∷ []) →
+    IsPush reader level More new
+wants_data_push reader new level wants place push keeps =
+    plain_push reader new level wants.here (place ∙ wants.here)
+    (λ text ends. (sym (full_is text reader.run ends) ∙ wants.is_free, push text ends)) wants.some keeps wants.unfinished
+
+pub wants_stuff_push : (reader new : Reader) (level : Bool) → WantsStuffBit level reader → new.place ≡ reader.place →
+    ((text : List Bool) → EndsIn text reader.run → EndsIn (level ∷ text) new.run) →
+    new.levels.items ≡ reader.levels.items → IsPush reader level StuffBit new
+wants_stuff_push reader new level wants place push items =
+    stuff_push reader new level wants.here (place ∙ wants.here)
+    (λ text ends. (sym (full_is text reader.run ends) ∙ wants.is_due, wants.is_other ∙ ap not ends.level_is,
+    push text ends)) items wants.unfinished
+
+-- it reads on with it: it ends in this run then
 pub data_read : (reader : Reader) (run : LevelRun) (level : Bool) → WantsData reader →
     ((text : List Bool) → EndsIn text reader.run → EndsIn (level ∷ text) run) → MayReadOn level reader
 data_read reader run level wants push =
@@ -218,9 +236,7 @@ data_read reader run level wants push =
       told = reader.told;
     } in (
       new,
-      inl
-          (plain_push reader new level wants.here wants.here (λ text ends. (wants.is_free text ends, push text ends))
-          wants.some (λ few. refl) wants.unfinished),
+      inl (wants_data_push reader new level wants refl push (λ few. refl)),
     )
 
 pub stuff_read : (reader : Reader) (run : LevelRun) (level : Bool) → WantsStuffBit level reader →
@@ -228,9 +244,7 @@ pub stuff_read : (reader : Reader) (run : LevelRun) (level : Bool) → WantsStuf
 stuff_read reader run level wants push =
     let new : Reader = record { run = run; levels = reader.levels; place = reader.place; told = reader.told } in (
       new,
-      inr
-          (stuff_push reader new level wants.here wants.here
-          (λ text ends. let due = wants.is_due text ends in (due.0, due.1, push text ends)) refl wants.unfinished),
+      inr (wants_stuff_push reader new level wants refl push refl),
     )
 
 -- behind the region

@@ -1,12 +1,12 @@
 -- What a reader holds after a text, and what a push does. Contracts cite `StandsAfter`, `IsReading`,
 -- `HasAnswered` and `IsPush`; the rest is how a reader keeps them.
-use Rattle.std.specs.Prelude.{◌≡◌, ◌⊎◌, ℕ, ◌+◌, ◌≤◌, ◌<◌, Bool, true, false, not, List}
+use Rattle.std.specs.Prelude.{◌≡◌, ◌⊎◌, ℕ, ◌+◌, ◌≤◌, ◌<◌, nat_lt, if◌then◌else◌, Bool, true, false, not, List}
 use Rattle.std.specs.Prelude.{[], ◌∷◌, ◌++◌, length, reverse, take, drop, get_or}
 use Rattle.can_frame.specs.Frames.{FrameValue}
 use Rattle.can_frame.specs.Fields.{Unchecked, fields}
 use Rattle.can_frame.specs.Crc.{IsCrc}
-use Rattle.can_frame.specs.Stuffing.{five_equal, newest, IsStuffed, unstuffed}
-use Rattle.can_frame.specs.LevelRuns.{EndsIn}
+use Rattle.can_frame.specs.Stuffing.{five_equal, IsStuffed, unstuffed}
+use Rattle.can_frame.specs.LevelRuns.{EndsIn, is_full, level_of, run_behind}
 use Rattle.can_frame.specs.Fronts.{IsRegion, front_tail}
 use Rattle.can_frame.specs.FieldReading.{fields_length}
 use Rattle.can_frame.specs.Answers.{Answers, IsLast, IsUndecided}
@@ -122,19 +122,49 @@ abbrev pub MayTake : Bool → FrameValue → Reader → Type 0
 MayTake level frame reader = (new : Reader) × IsPush reader level (Taken frame) new
 
 -- The next level is data, whatever it is: no five equal levels stand before it, and the region doesn't end with it. It
--- is not the first one. Private clauses cite this and what follows.
+-- is not the first one. This and what follows is told by what the reader holds alone, whatever text it stands after.
 pub record WantsData (reader : Reader) : Type 0 where
   pub here : reader.place ≡ Region
-  pub is_free : (text : List Bool) → EndsIn text reader.run → five_equal text ≡ false
+  pub is_free : is_full reader.run ≡ false
   pub some : reader.levels.items ≡ [] → ⊥
   pub unfinished : length reader.levels.items + 1 ≡ fields_length reader.levels.items + 15 → ⊥
 
 -- this level is the stuff bit that comes next: it is behind five of the other one, and the region didn't end before it
 pub record WantsStuffBit (level : Bool) (reader : Reader) : Type 0 where
   pub here : reader.place ≡ Region
-  pub is_due : (text : List Bool) → EndsIn text reader.run →
-      (five_equal text ≡ true) × (level ≡ not (newest text))
+  pub is_due : is_full reader.run ≡ true
+  pub is_other : level ≡ not (level_of reader.run)
   pub unfinished : length reader.levels.items ≡ fields_length reader.levels.items + 15 → ⊥
+
+-- With this level it goes on in the region, and what it holds behind it. There is room for the level in each text that a
+-- reader stands after. That `push` answers so is promised apart (`ReadsOn`).
+abbrev pub GoesOnWith : Bool → Reader → Type 0
+GoesOnWith level reader = WantsData reader ⊎ WantsStuffBit level reader
+
+abbrev pub kept : List Bool → Bool → List Bool
+kept levels level = if nat_lt (length levels) 118 then levels ++ level ∷ [] else levels
+
+abbrev pub read_behind : Reader → Bool → Reader
+read_behind reader level = record {
+  run = run_behind reader.run level;
+  levels = if is_full reader.run then reader.levels else record { items = kept reader.levels.items level };
+  place = reader.place;
+  told = reader.told;
+}
+
+-- so with these levels, one after another
+abbrev pub GoesOnWithAll : Reader → List Bool → Type 0
+GoesOnWithAll reader [] = Unit {0}
+GoesOnWithAll reader (level ∷ levels) = GoesOnWith level reader × GoesOnWithAll (read_behind reader level) levels
+
+abbrev pub read_behind_all : Reader → List Bool → Reader
+read_behind_all reader [] = reader
+read_behind_all reader (level ∷ levels) = read_behind_all (read_behind reader level) levels
+
+-- it goes on with no more than so many of these levels: the next one ends that, if there is one
+abbrev pub GoesOnNoLonger : Reader → List Bool → ℕ → Type 0
+GoesOnNoLonger reader levels count = count < length levels →
+    GoesOnWith (get_or levels count false) (read_behind_all reader (take count levels)) → ⊥
 
 -- the other reader stands after each text after which this one does, and reads on where this one does
 pub record StandsAs (one other : Reader) : Type 0 where

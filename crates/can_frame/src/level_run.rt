@@ -2,7 +2,7 @@
 
 ghost use Rattle.std.specs.Prelude.{◌≡◌, ◌∷◌, [], Bool, List};
 ghost use Rattle.can_frame.specs.Stuffing.{five_equal, newest};
-ghost use Rattle.can_frame.specs.LevelRuns.{EndsIn};
+ghost use Rattle.can_frame.specs.LevelRuns.{EndsIn, is_full, level_of, run_behind};
 
 /// In how many equal levels a text ends, five at most, and in which. It keeps no text: each contract speaks
 /// of every text that may end so, given with its newest level first.
@@ -27,7 +27,8 @@ impl LevelRun {
     /// Whether the text ends in five equal levels: then no data follows, but their opposite as a stuff bit, or a fault.
     #[inline]
     pub fn is_full(&self) -> bool
-        ensures { (text : List Bool) → EndsIn text self.now → result ≡ five_equal text }
+        ensures five { (text : List Bool) → EndsIn text self.now → result ≡ five_equal text }
+        ensures value { result ≡ is_full self.now }
     {
         self.count >= 5
     }
@@ -35,7 +36,8 @@ impl LevelRun {
     /// The newest level.
     #[inline]
     pub fn level(&self) -> bool
-        ensures { (text : List Bool) → EndsIn text self.now → result ≡ newest text }
+        ensures newest { (text : List Bool) → EndsIn text self.now → result ≡ newest text }
+        ensures value { result ≡ level_of self.now }
     {
         self.level
     }
@@ -43,7 +45,8 @@ impl LevelRun {
     /// The next level of the text.
     #[inline]
     pub fn push(&mut self, level: bool)
-        ensures { (text : List Bool) → EndsIn text self.old → EndsIn (level ∷ text) self.new }
+        ensures ends { (text : List Bool) → EndsIn text self.old → EndsIn (level ∷ text) self.new }
+        ensures value { self.new ≡ run_behind self.old level }
     {
         // both are there to be chosen from: a branch here would be mispredicted at half of all levels
         let longer = self.count.min(4) + 1;

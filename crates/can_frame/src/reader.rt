@@ -10,6 +10,9 @@ ghost use Rattle.can_frame.specs.Reading.{
   StandsAfter,
   IsReading,
   IsPush,
+  GoesOnNoLonger,
+  GoesOnWith,
+  GoesOnWithAll,
   MayReadOn,
   MayTake,
   ReadsOn,
@@ -19,6 +22,8 @@ ghost use Rattle.can_frame.specs.Reading.{
   Judges,
   WantsData,
   WantsStuffBit,
+  kept,
+  read_behind,
 };
 
 mod outlook;
@@ -93,7 +98,8 @@ impl Reader {
     /// Whether the next level is data, whatever it is. It tells so neither of the first level nor of the last ones.
     #[inline(always)]
     fn wants_data(&self) -> bool
-        ensures { result ≡ true → WantsData self.now }
+        ensures wants { result ≡ true → WantsData self.now }
+        ensures other { result ≡ false → WantsData self.now → ⊥ }
     {
         if !self.is_in_region() || self.levels.is_empty() {
             return false;
@@ -104,7 +110,8 @@ impl Reader {
     /// Whether this level is the stuff bit that comes next, and the region goes on behind it.
     #[inline(always)]
     fn wants_stuff_bit(&self, level: bool) -> bool
-        ensures { result ≡ true → WantsStuffBit level self.now }
+        ensures wants { result ≡ true → WantsStuffBit level self.now }
+        ensures other { result ≡ false → WantsStuffBit level self.now → ⊥ }
     {
         if !self.is_in_region() || !self.run.is_full() {
             return false;
@@ -117,6 +124,8 @@ impl Reader {
     #[inline(always)]
     fn push_more(&mut self, level: bool) -> bool
         ensures more { result ≡ true → IsPush self.old level Step.More self.new }
+        ensures wants { result ≡ true → WantsData self.old × (self.new ≡ read_behind self.old level) }
+        ensures unwanted { result ≡ false → WantsData self.old → ⊥ }
         ensures other { result ≡ false → self.new ≡ self.old }
     {
         if !self.wants_data() {
@@ -192,6 +201,8 @@ impl Reader {
     #[inline(always)]
     pub fn reads_on(&mut self, level: bool) -> bool
         ensures on { result ≡ true → ReadsOn self.old level self.new }
+        ensures goes { result ≡ true → GoesOnWith level self.old × (self.new ≡ read_behind self.old level) }
+        ensures ends { result ≡ false → GoesOnWith level self.old → ⊥ }
         ensures other { result ≡ false → self.new ≡ self.old }
     {
         if self.push_more(level) {
@@ -205,6 +216,8 @@ impl Reader {
     pub fn reads_on_by(&mut self, levels: &[bool]) -> usize
         ensures few { result ≤ length levels.now }
         ensures on { ReadsOnBy self.old (take result levels.now) self.new }
+        ensures goes { GoesOnWithAll self.old (take result levels.now) }
+        ensures ends { GoesOnNoLonger self.old levels.now result }
     {
         for (place, level) in levels.iter().enumerate() {
             if !self.reads_on(*level) {
@@ -227,6 +240,8 @@ impl Reader {
     #[inline(never)]
     fn push_stuff(&mut self, level: bool) -> bool
         ensures stuff { result ≡ true → IsPush self.old level Step.StuffBit self.new }
+        ensures wants { result ≡ true → WantsStuffBit level self.old × (self.new ≡ read_behind self.old level) }
+        ensures unwanted { result ≡ false → WantsStuffBit level self.old → ⊥ }
         ensures other { result ≡ false → self.new ≡ self.old }
     {
         if !self.wants_stuff_bit(level) {
@@ -261,7 +276,8 @@ impl Reader {
 
     /// Whether the next level is one of the stuffed region.
     fn is_in_region(&self) -> bool
-        ensures { result ≡ true → self.now.place ≡ Place.Region }
+        ensures region { result ≡ true → self.now.place ≡ Place.Region }
+        ensures other { result ≡ false → self.now.place ≡ Place.Region → ⊥ }
     {
         matches!(self.place, Place::Region)
     }
@@ -366,7 +382,8 @@ fn body(text: &[bool], place: &mut Place) -> Step
 
 /// Keeps a level while there is room, which there is in every text that a reader stands after.
 fn keep(levels: &mut ArrayVec<bool, 118>, level: bool)
-    ensures { length levels.old.items < 118 → levels.new.items ≡ levels.old.items ++ level ∷ [] }
+    ensures grows { length levels.old.items < 118 → levels.new.items ≡ levels.old.items ++ level ∷ [] }
+    ensures value { levels.new.items ≡ kept levels.old.items level }
 {
     if levels.len() < 118 {
         levels.push(level);

@@ -191,7 +191,8 @@ pub fn is_complete(text: &[bool]) -> bool
 
 /// Whether they stand there with one more level.
 pub fn is_complete_next(text: &[bool]) -> bool
-    ensures { result ≡ false → length text.now + 1 ≡ fields_length text.now + 15 → ⊥ }
+    ensures whole { result ≡ true → length text.now + 1 ≡ fields_length text.now + 15 }
+    ensures part { result ≡ false → length text.now + 1 ≡ fields_length text.now + 15 → ⊥ }
 {
     if text.len() < 33 {
         return false;

@@ -14,10 +14,11 @@ use Rattle.can_confinement.specs.Confinement.{state_of}
 use Rattle.can_confinement.specs.Counters.{counts_of}
 use Rattle.can_node.specs.declared.state.State.TheVariants.{Delimiting, PassiveFlagging, Recovering}
 use Rattle.can_node.specs.declared.state.State.TheVariants.{Resting, Sending, Suspending}
-use Rattle.can_node.specs.Machine.{is_sending, level_in, may_start}
+use Rattle.can_frame.proofs.ReadingOn.{goes_on-take}
+use Rattle.can_node.specs.Machine.{is_in_region, is_sending, level_in, may_start}
 use Rattle.can_node.specs.PlainBits.{GoesOnBy, LeavesPlainly, MayGoOnBy, StaysOut, is_plain, out_behind, out_behind_all}
 use Rattle.can_node.specs.PlainBits.{StaysBy, StaysNoLonger, stays_out}
-use Rattle.can_node.specs.PlainBits.MayGoOnBy.{sends_on, waits_on}
+use Rattle.can_node.specs.PlainBits.MayGoOnBy.{reads_on, sends_on, waits_on}
 use Rattle.can_node.proofs.ErrorMoves.{delimit_on}
 use Rattle.can_node.proofs.Moves.{rest_on, suspend_on}
 use Rattle.can_node.proofs.PassiveMoves.{passive_dominant, passive_recessive}
@@ -42,6 +43,8 @@ may_taken is_sender n levels node (sends_on start place is here ahead short) =
     sends_on start place is here (ahead_taken node.spelling place n levels ahead)
     (omega (arith, short, length-take n levels))
 may_taken is_sender n levels node (waits_on is out) = waits_on is (out_taken node.state n levels out)
+may_taken is_sender n levels node (reads_on is here goes) =
+    reads_on is here (goes_on-take node.reader n levels goes)
 
 -- one level more in bus off or in a flag
 pub out_more : (state : State) (levels : List Bool) (level : Bool) → StaysOut state levels →
@@ -294,14 +297,19 @@ sending_by node start place next n [] is_sender here size next_is fits (waits_on
 sending_by node start place next n (level ∷ levels) is_sender here size next_is fits (waits_on is out) =
     absurd (let not : stays_out level node.state ≡ false = ap (stays_out level) here in
     let stays = out.0 in cc (not, stays))
+sending_by node start place next n levels is_sender here size next_is fits (reads_on is there goes) =
+    absurd (let elsewhere : is_in_region node.state ≡ false = ap is_in_region here in cc (elsewhere, there))
 
 pub waiting_by : (node : Node) (next : State) (n : ℕ) (levels : List Bool) (is_sender : Bool) →
-    ((start place : ℕ) → node.state ≡ Sending start place → ⊥) → n ≡ length levels →
-    (StaysOut node.state levels → next ≡ out_behind_all node.state levels) → MayGoOnBy is_sender levels node →
+    ((start place : ℕ) → node.state ≡ Sending start place → ⊥) → is_in_region node.state ≡ false →
+    n ≡ length levels → (StaysOut node.state levels → next ≡ out_behind_all node.state levels) → MayGoOnBy is_sender levels node →
     GoesOnBy is_sender node levels (behind_by node next n)
-waiting_by node next n levels is_sender not size next_is (sends_on s p is there ahead short) = absurd (not s p there)
-waiting_by node next n levels is_sender not size next_is (waits_on is out) =
+waiting_by node next n levels is_sender not elsewhere size next_is (sends_on s p is there ahead short) =
+    absurd (not s p there)
+waiting_by node next n levels is_sender not elsewhere size next_is (waits_on is out) =
     rw (is, next_is out, size) (out_by node levels out)
+waiting_by node next n levels is_sender not elsewhere size next_is (reads_on is here goes) =
+    absurd (cc (elsewhere, here))
 
 -- no more levels than it has places
 pub short_by : (node : Node) (start place : ℕ) (levels : List Bool) (is_sender : Bool) →
@@ -311,3 +319,5 @@ short_by node start place [] is_sender here (waits_on is out) = omega arith
 short_by node start place (level ∷ levels) is_sender here (waits_on is out) =
     absurd (let not : stays_out level node.state ≡ false = ap (stays_out level) here in
     let stays = out.0 in cc (not, stays))
+short_by node start place levels is_sender here (reads_on is there goes) =
+    absurd (let elsewhere : is_in_region node.state ≡ false = ap is_in_region here in cc (elsewhere, there))

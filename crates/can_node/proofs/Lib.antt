@@ -40,3 +40,4 @@ pub mod OneCuttingPlaces
 pub mod PlainBits
 pub mod SendRuns
 pub mod GoingBy
+pub mod ReadingBy

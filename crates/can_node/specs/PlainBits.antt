@@ -1,7 +1,7 @@
 -- Bits at which a node goes on: nothing begins, nothing is told and nothing counted.
 use Rattle.std.specs.Prelude.{◌≡◌, ℕ, ◌+◌, ◌<◌, ◌≤◌, ◌||◌, ◌&&◌, Bool, true, false, None, not, nat_le, List, [], ◌∷◌}
 use Rattle.std.specs.Prelude.{get_or, length, take, if◌then◌else◌}
-use Rattle.can_frame.specs.Reading.{MayReadOn}
+use Rattle.can_frame.specs.Reading.{GoesOnNoLonger, GoesOnWithAll, MayReadOn}
 use Rattle.can_frame.specs.declared.spelling.Spelling.{Spelling}
 use Rattle.can_confinement.specs.Confinement.{state_of}
 use Rattle.can_confinement.specs.Counters.{counts_of}
@@ -111,15 +111,19 @@ pub record StaysBy (state : State) (levels : List Bool) (count : ℕ) (next : St
   pub next_is : next ≡ out_behind_all state (take count levels)
 
 -- The node goes on with these levels, one after another: it sends a frame, and they are the next that it drives, none
--- in its ACK slot or its last bit; or it stays in what it waits for, as said above.
+-- in its ACK slot or its last bit; or it stays in what it waits for, as said above; or it reads a frame by itself, whose
+-- stuffed region goes on with them.
 pub data MayGoOnBy (is_sender : Bool) (levels : List Bool) (node : Node) : Type 0 where
   sends_on : (start place : ℕ) → is_sender ≡ true → node.state ≡ Sending start place →
       StandAhead node.spelling place levels → place + length levels ≤ 255 → MayGoOnBy is_sender levels node
   waits_on : is_sender ≡ false → StaysOut node.state levels → MayGoOnBy is_sender levels node
+  reads_on : is_sender ≡ false → is_in_region node.state ≡ true → GoesOnWithAll node.reader levels →
+      MayGoOnBy is_sender levels node
 
--- with how many of the levels it stays so at most
-abbrev pub EndsOut : Node → List Bool → ℕ → Type 0
-EndsOut node = StaysNoLonger node.state
+-- with no more than so many of the levels it waits on or reads on
+pub record EndsOut (node : Node) (levels : List Bool) (count : ℕ) : Type 0 where
+  pub waits : is_in_region node.state ≡ false → StaysNoLonger node.state levels count
+  pub reads : is_in_region node.state ≡ true → GoesOnNoLonger node.reader levels count
 
 -- how many levels a node that sends a frame drives one after another: before its ACK slot, or behind that but for the
 -- last bit of EOF

@@ -259,20 +259,23 @@ impl Node {
         }
     }
 
-    /// With how many of these levels, one after another, the node stays out of frames: in bus off or in a passive error
-    /// flag, up to the end of a run of eleven recessive levels or of the flag, or a level that it counts; in a
-    /// delimiter, the intermission or suspend transmission with recessive ones, up to the last bit. 0 where it is in
-    /// none of these.
+    /// With how many of these levels, one after another, the node goes on without sending: in bus off or in a passive
+    /// error flag, up to the end of a run of eleven recessive levels or of the flag, or a level that it counts; in a
+    /// delimiter, the intermission or suspend transmission with recessive ones, up to the last bit; in the stuffed
+    /// region of a frame that it reads, up to the last level or a wrong stuff bit. 0 where it is in none of these.
     pub fn stays_out(&self, levels: &[bool]) -> usize
         ensures few { result ≤ length levels.now }
         ensures may { MayGoOnBy false (take result levels.now) self.now }
         ensures all { EndsOut self.now levels.now result }
     {
+        if is_in_region(self.state) {
+            return self.reader.would_read_on_by(levels);
+        }
         stay_out(self.state, levels).count
     }
 
-    /// Bits with which the node goes on, one after another, in a frame that it sends or where it stays out of frames
-    /// (`stays_out`): what `go_on` does with each of these levels.
+    /// Bits with which the node goes on, one after another, in a frame that it sends or without sending (`stays_out`):
+    /// what `go_on` does with each of these levels.
     pub fn go_on_by(&mut self, levels: &[bool])
         requires goes { (is_sender : Bool) × MayGoOnBy is_sender levels.now self.old }
         requires room { bit_of self.old + length levels.now ≤ u64.MAX }
@@ -282,6 +285,10 @@ impl Node {
         self.clock += levels.len() as u64;
         if let State::Sending(_start, place) = &mut self.state {
             *place = place.saturating_add(levels.len() as u8);
+            return;
+        }
+        if is_in_region(self.state) {
+            let _ = self.reader.reads_on_by(levels);
             return;
         }
         self.state = out_behind_all(self.state, levels);

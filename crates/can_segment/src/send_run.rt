@@ -1,5 +1,5 @@
 //! Bits of the stuffed region of a frame or of its end, or behind it, many at once: one node sends or none, and all
-//! others rest or stay out of frames.
+//! others rest or go on without sending.
 
 ghost use Rattle.std.specs.Prelude.{◌≡◌, ◌≤◌, ◌<◌, ◌+◌, ◌-◌, ◌++◌, true, Bool, List, Some, IfSome, length, slice_get};
 ghost use Rattle.std.specs.Prelude.{vec_capacity, vec_len};
@@ -47,7 +47,7 @@ fn next_levels<'a>(senders: &'a [Member], place: usize, bit: u64, most: usize) -
     }
 }
 
-/// So, as far as all other nodes that are awake stay out of frames with them.
+/// So, as far as all other nodes that are awake go on with them without sending.
 fn ahead_beside<'a>(
     senders: &'a [Member],
     place: usize,
@@ -74,7 +74,8 @@ fn ahead_beside<'a>(
 
 /// As many of the next bits as the one of these nodes at this place sends in the stuffed region of its frame or behind
 /// the ACK slot, or as are recessive where no node is there, while the listener follows for those that rest, and all
-/// others stay out of frames: `most` at most. Their levels are kept behind those of `levels`, which has room for them.
+/// others go on without sending: `most` at most. Their levels are kept behind those of `levels`, which has room for
+/// them.
 fn send_beside(
     levels: &mut Vec<bool>,
     senders: &mut [Member],
@@ -139,7 +140,8 @@ fn idle_run(
 }
 
 /// As many of the next bits as one node sends in the stuffed region of its frame or behind the ACK slot while all
-/// others rest or stay out of frames, in bus off, in passive error flags or in what they wait for behind a frame; or as
+/// others rest or go on without sending, in bus off, in passive error flags, in what they wait for behind a frame, or in
+/// the stuffed region of what they read by themselves; or as
 /// all do so, also on an idle bus: `most` at most, and none where that is not so. Their levels are kept behind those of
 /// `levels`, which has room for them.
 pub(crate) fn send_run(

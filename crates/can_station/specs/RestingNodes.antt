@@ -238,7 +238,8 @@ abbrev pub AllGo : ℕ → Bool → List Member → List Member → Type 0
 AllGo bit level = AtPlaces (λ k. IfAwake (MemberGoes bit level))
 
 -- It goes on with these levels, one after another from this bit on, and nothing is told of it: it sends them in a
--- frame, or stays out of frames, in bus off, in a passive error flag or in what it waits for behind a frame.
+-- frame, or goes on without sending, in bus off, in a passive error flag, in what it waits for behind a frame or in the
+-- stuffed region of one that it reads by itself.
 pub record MayGoBy (is_sender : Bool) (bit : ℕ) (levels : List Bool) (member : Member) : Type 0 where
   pub awake : member.rests ≡ false
   pub is_on : member.on ≤ bit

@@ -39,8 +39,8 @@ pub fn go_on(members: &mut [Member], bit: u64, level: bool, awake: Span)
     }
 }
 
-/// With how many of these levels, one after another from this bit on, each of these nodes that is awake stays out of
-/// frames (`Node::stays_out`), but the one at this place. All but those at the places of the span rest.
+/// With how many of these levels, one after another from this bit on, each of these nodes that is awake goes on without
+/// sending (`Node::stays_out`), but the one at this place. All but those at the places of the span rest.
 pub fn all_stay_out(members: &[Member], bit: u64, levels: &[bool], awake: Span, but: usize) -> usize
     requires { AwakeWithin awake members.now }
     ensures few { result ≤ length levels.now }

@@ -25,8 +25,8 @@ impl Member {
         self.station.node.ahead(most)
     }
 
-    /// With how many of these levels, one after another from this bit on, it stays out of frames, and nothing is told
-    /// of it (`Node::stays_out`); with all where it rests.
+    /// With how many of these levels, one after another from this bit on, it goes on without sending, and nothing is
+    /// told of it (`Node::stays_out`); with all where it rests.
     pub(crate) fn stays_out(&self, bit: u64, levels: &[bool]) -> usize
         ensures few { result ≤ length levels.now }
         ensures may { 0 < result → self.now.rests ≡ false → MayGoBy false bit (take result levels.now) self.now }

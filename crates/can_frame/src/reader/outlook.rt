@@ -1,7 +1,7 @@
 //! What a reader would answer, without a push.
 
-ghost use Rattle.std.specs.Prelude.{◌≡◌, Bool, true, false, IfSome, List};
-ghost use Rattle.can_frame.specs.Reading.{IsReading, MayReadOn, MayTake, StandsAfter};
+ghost use Rattle.std.specs.Prelude.{◌≡◌, ◌≤◌, Bool, true, false, IfSome, List, length, take};
+ghost use Rattle.can_frame.specs.Reading.{GoesOnNoLonger, GoesOnWithAll, IsReading, MayReadOn, MayTake, StandsAfter};
 
 use crate::frame::Frame;
 use crate::reader::{Place, Reader};
@@ -34,6 +34,15 @@ impl Reader {
         let mut run = self.run;
         run.push(level);
         self.wants_data() || self.wants_stuff_bit(level)
+    }
+
+    /// With how many of these levels, one after another, the stuffed region goes on: `reads_on_by` would read so many.
+    pub fn would_read_on_by(&self, levels: &[bool]) -> usize
+        ensures few { result ≤ length levels.now }
+        ensures goes { GoesOnWithAll self.now (take result levels.now) }
+        ensures ends { GoesOnNoLonger self.now levels.now result }
+    {
+        self.copy().reads_on_by(levels)
     }
 
     /// The frame that `push` would answer `Taken` with at this level. `None` where it would give another answer.

@@ -3,8 +3,8 @@ use Rattle.can_frame.proofs.LevelRuns.{count_anew, count_longer}
 use Rattle.can_frame.proofs.level_run.LevelRun.push.Goals as goal
 use Rattle.can_frame.proofs.level_run.LevelRun.push.Goals.{then-level-self, else-level-self}
 
-pub returns : goal.returns
-returns c text h =
+pub returns-clause-ends : goal.returns-clause-ends
+returns-clause-ends c text h =
     let run = c.args.self.now in
     let x = c.args.level in
     record {

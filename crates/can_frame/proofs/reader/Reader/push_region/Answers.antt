@@ -25,7 +25,7 @@ returns-then-is_empty c text place h =
 
 pub returns-then-is_full : goal.returns-then-is_full
 returns-then-is_full c text place h =
-    c.push_behind_five.ensures text place (sym (c.is_full.ensures _ h.ends) ∙ c.if-is_full.true) h
+    c.push_behind_five.ensures text place (sym (c.is_full.ensures.five _ h.ends) ∙ c.if-is_full.true) h
 
 pub returns-then-not-wants_stuff_bit : goal.returns-then-not-wants_stuff_bit
 returns-then-not-wants_stuff_bit c text place h =
@@ -42,10 +42,10 @@ returns-then-not-wants_stuff_bit c text place h =
           absurd (not_none u w.is_empty.result w.is_empty.ensures w.if-is_empty.false none)
       | else-level-via-else-level w ↦ w.if-level.false
     ] in
-    let plain : five_equal (reverse text) ≡ false = sym (c.is_full.ensures _ h.ends) ∙ c.if-is_full.false in
+    let plain : five_equal (reverse text) ≡ false = sym (c.is_full.ensures.five _ h.ends) ∙ c.if-is_full.false in
     let short : five_equal (c.args.level ∷ reverse text) ≡ false =
-    sym (c.is_full-wants_stuff_bit.ensures _ (c.push.ensures _ h.ends)) ∙ c.if-not-wants_stuff_bit.true in
-    next_data_body u v text c.args.level _ c.body.result h.inside plain sof c.keep.ensures full short bodies
+    sym (c.is_full-wants_stuff_bit.ensures.five _ (c.push.ensures.ends _ h.ends)) ∙ c.if-not-wants_stuff_bit.true in
+    next_data_body u v text c.args.level _ c.body.result h.inside plain sof c.keep.ensures.grows full short bodies
 
 pub returns : goal.returns
 returns c text place h =
@@ -56,14 +56,14 @@ returns c text place h =
           absurd (not_none u w.is_empty.result w.is_empty.ensures w.if-is_empty.false none)
       | else-level-via-else-level w ↦ w.if-level.false
     ] in
-    let plain : five_equal (reverse text) ≡ false = sym (c.is_full.ensures _ h.ends) ∙ c.if-is_full.false in
-    let ends = c.push.ensures _ h.ends in
+    let plain : five_equal (reverse text) ≡ false = sym (c.is_full.ensures.five _ h.ends) ∙ c.if-is_full.false in
+    let ends = c.push.ensures.ends _ h.ends in
     let part : length v ≡ fields_length v + 15 → five_equal (c.args.level ∷ reverse text) ≡ true =
     λ full. elim c.else-complete.branch [
-      | else-complete-via-then-complete+else-not-wants_stuff_bit w ↦ sym (c.is_full-wants_stuff_bit.ensures _ ends)
+      | else-complete-via-then-complete+else-not-wants_stuff_bit w ↦ sym (c.is_full-wants_stuff_bit.ensures.five _ ends)
           ∙ w.if-not-wants_stuff_bit.false
       | else-complete-via-else-complete w ↦
           absurd (c.is_complete-complete.ensures.part w.if-complete.false
           (subst (λ t. length t ≡ fields_length t + 15) (sym c.as_slice.ensures.value) full))
     ] in
-    next_more u text c.args.level _ h.inside plain sof ends c.keep.ensures part place
+    next_more u text c.args.level _ h.inside plain sof ends c.keep.ensures.grows part place

@@ -1,5 +1,6 @@
-use Rattle.std.proofs.Common.{rules, ◌≤◌, refl, arith}
+use Rattle.std.proofs.Common.{rules, ◌≤◌, refl, sym, ◌∙◌, arith}
 use Rattle.can_node.proofs.GoingBy.{sending_by, short_by, waiting_by}
+use Rattle.can_node.proofs.ReadingBy.{reading_by}
 use Rattle.can_node.proofs.node.Node.go_on_by.Goals as goal
 
 pub overflow_cast-levels : goal.overflow_cast-levels
@@ -16,7 +17,13 @@ returns-in-Sending c is_sender may =
     sending_by c.args.self.now here._start here.place c.saturating_add.result _ c.args.levels.now is_sender here.is
     refl c.saturating_add.ensures fits may
 
+pub returns-then-is_in_region : goal.returns-then-is_in_region
+returns-then-is_in_region c is_sender may =
+    let read = c.reads_on_by.ensures in
+    reading_by c.args.self.now c.reads_on_by.new.self _ c.reads_on_by.result c.args.levels.now is_sender
+    (sym c.is_in_region.ensures ∙ c.if-is_in_region.true) refl read.few read.on read.ends may
+
 pub returns : goal.returns
 returns c is_sender may =
-    waiting_by c.args.self.now c.out_behind_all-self.result _ c.args.levels.now is_sender c.in_default.not-Sending refl
-    c.out_behind_all-self.ensures may
+    waiting_by c.args.self.now c.out_behind_all-self.result _ c.args.levels.now is_sender c.in_default.not-Sending
+    (sym c.is_in_region.ensures ∙ c.if-is_in_region.false) refl c.out_behind_all-self.ensures may
