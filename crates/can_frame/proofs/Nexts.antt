@@ -222,8 +222,11 @@ pub wants_stuff_push : (reader new : Reader) (level : Bool) → WantsStuffBit le
     new.levels.items ≡ reader.levels.items → IsPush reader level StuffBit new
 wants_stuff_push reader new level wants place push items =
     stuff_push reader new level wants.here (place ∙ wants.here)
-    (λ text ends. (sym (full_is text reader.run ends) ∙ wants.is_due, wants.is_other ∙ ap not ends.level_is,
-    push text ends)) items wants.unfinished
+    (λ text ends. (
+      sym (full_is text reader.run ends) ∙ wants.is_due,
+      wants.is_other ∙ ap not ends.level_is,
+      push text ends,
+    )) items wants.unfinished
 
 -- it reads on with it: it ends in this run then
 pub data_read : (reader : Reader) (run : LevelRun) (level : Bool) → WantsData reader →

@@ -45,7 +45,7 @@ fn send_on(node: &mut Node, levels: &[bool]) -> bool {
     false
 }
 
-/// The node goes on in bus off with as many of these levels as it can, if it has the bits left: how many those are.
+/// The node goes on without sending with as many of these levels as it can, if it has the bits left: how many.
 fn stay_out(node: &mut Node, levels: &[bool]) -> usize {
     let count = node.stays_out(levels);
     if count == 0 || count > 100 || node.bit() > 10_000 {
@@ -286,6 +286,11 @@ fn a_sender_makes_many_bits_at_once(rt: HostRuntime) {
     let mut listener = receiver.listener();
     assert_eq!(rt; listener.reads_along_by(&levels), 37);
     assert_eq!(rt; listener.reads_along_by(&levels), 0);
+    // the receiver reads as many by itself, and three more dominant ones before a stuff bit is due
+    assert_eq!(rt; receiver.stays_out(&[false; 8]), 3);
+    assert_eq!(rt; stay_out(&mut receiver, &levels), 37);
+    assert_eq!(rt; receiver.stays_out(&levels[37..]), 0);
+    assert_eq!(rt; receiver.bit(), 50);
     assert!(rt; !send_on(&mut sender, &levels[1..20]));
     assert!(rt; send_on(&mut sender, &levels[..37]));
     assert_eq!(rt; sender.bit(), 50);
