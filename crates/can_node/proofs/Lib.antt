@@ -40,4 +40,5 @@ pub mod OneCuttingPlaces
 pub mod PlainBits
 pub mod SendRuns
 pub mod GoingBy
+pub mod OnesBehind
 pub mod ReadingBy

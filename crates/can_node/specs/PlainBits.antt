@@ -99,6 +99,11 @@ abbrev pub out_behind_all : State → List Bool → State
 out_behind_all state [] = state
 out_behind_all state (level ∷ levels) = out_behind_all (out_behind state level) levels
 
+-- as many recessive levels in a row as there are behind these, behind so many
+abbrev pub ones_behind : ℕ → List Bool → ℕ
+ones_behind ones [] = ones
+ones_behind ones (level ∷ levels) = ones_behind (if level then ones + 1 else 0) levels
+
 -- it stays so with no more than so many of these levels: the next one ends it, if there is one
 abbrev pub StaysNoLonger : State → List Bool → ℕ → Type 0
 StaysNoLonger state levels count = count < length levels →

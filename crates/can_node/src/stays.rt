@@ -2,7 +2,7 @@
 
 ghost use Rattle.std.specs.Prelude.{◌≡◌, ◌<◌, ◌≤◌, ◌+◌, ℕ, true, false, length, not, take, if◌then◌else◌};
 ghost use Rattle.can_confinement.specs.declared.confinement.Role.{Role as RoleValue};
-ghost use Rattle.can_node.specs.PlainBits.{StaysBy, StaysNoLonger, StaysOut, out_behind_all, stays_out};
+ghost use Rattle.can_node.specs.PlainBits.{StaysBy, StaysNoLonger, StaysOut, ones_behind, out_behind_all, stays_out};
 
 use crate::plain_bits::out_behind;
 use crate::state::State;
@@ -24,23 +24,36 @@ fn counted(count: u8, is_such: bool) -> u8
     if is_such { count + 1 } else { 0 }
 }
 
-/// So in bus off, with so many whole runs of eleven recessive levels and so many levels of the next.
+/// How many recessive levels in a row there are behind these levels, behind so many before them: from the last one back,
+/// since a run is short on most buses.
+fn ones_behind(ones: u8, levels: &[bool]) -> usize
+    ensures { result ≡ ones_behind ones levels.now }
+{
+    let mut place = levels.len();
+    while place > 0 {
+        if !levels[place - 1] {
+            return levels.len() - place;
+        }
+        place -= 1;
+    }
+    levels.len() + usize::from(ones)
+}
+
+/// So in bus off, with so many whole runs of eleven recessive levels and so many levels of the next. As many levels as
+/// may end a run are looked at together.
 fn stay_off(runs: u8, ones: u8, levels: &[bool]) -> Stay
     ensures by { StaysBy (State.Recovering runs ones) levels.now result.count result.state }
     ensures ends { StaysNoLonger (State.Recovering runs ones) levels.now result.count }
 {
     let mut run = ones;
-    for (place, level) in levels.iter().enumerate() {
-        if run > 9 {
-            return Stay {
-                count: place,
-                state: State::Recovering(runs, run),
-            };
-        }
-        run = counted(run, *level);
+    let mut place = 0;
+    while run <= 9 && place < levels.len() {
+        let next = levels.len().min(place + usize::from(10 - run));
+        run = ones_behind(run, &levels[place..next]) as u8;
+        place = next;
     }
     Stay {
-        count: levels.len(),
+        count: place,
         state: State::Recovering(runs, run),
     }
 }
@@ -118,5 +131,10 @@ pub(crate) fn stay_out(state: State, levels: &[bool]) -> Stay
 pub(crate) fn out_behind_all(state: State, levels: &[bool]) -> State
     ensures { StaysOut state levels.now → result ≡ out_behind_all state levels.now }
 {
-    stay_out(state, levels).state
+    match state {
+        State::Recovering(runs, ones) => {
+            State::Recovering(runs, ones_behind(ones, levels).min(255) as u8)
+        }
+        _ => stay_out(state, levels).state,
+    }
 }
