@@ -7,7 +7,7 @@ ghost use Rattle.can_segment.specs.Rests.{IsLess, IsSame, Lulls, RestHolds, Rest
 ghost use Rattle.can_station.specs.Places.{AtPlaces};
 
 use crate::awake::{Awake, asks_at_each_bit, nodes_within};
-use crate::leader::{Leader, Votes};
+use crate::leader::{Votes, listener_of_most};
 use can_node::{KnownCounts, Listener, Node};
 use can_station::{
     Member, NodeFault, Span, Talker, fall_silent, wake_all, wake_disturbed, wake_unspent,
@@ -34,8 +34,6 @@ pub(crate) struct Rest {
     asleep: usize,
     // those that rest read on in the stuffed region at the last bit, and before it
     steady: bool,
-    // the place from which on the next listener is looked for
-    leader: usize,
 }
 
 impl Rest {
@@ -57,7 +55,6 @@ impl Rest {
             settled: false,
             asleep: 0,
             steady: false,
-            leader: 0,
         }
     }
 
@@ -284,7 +281,7 @@ impl Rest {
         votes.alike == 0 && votes.listening <= self.asleep
     }
 
-    /// Where none rests, those may come to rest that have come as far as one that listens.
+    /// Where none rests, those may come to rest that have come as far as one that listens, if most have.
     fn choose(&mut self, talkers: &[Member], controllers: &[Member], bit: u64)
         ensures { Chooses self.old self.new }
     {
@@ -292,12 +289,10 @@ impl Rest {
         if self.resting {
             return;
         }
-        let Some(leader) = Leader::from_place(self.leader, talkers, controllers, bit) else {
+        let Some(listener) = listener_of_most(talkers, controllers, bit) else {
             return;
         };
-        self.listener = leader.listener;
-        // where most have come elsewhere they wake at once (`settle`), and the next one leads
-        self.leader = leader.place.saturating_add(1);
+        self.listener = listener;
         self.resting = true;
         self.known = KnownCounts::Zero;
         self.spent = true;
