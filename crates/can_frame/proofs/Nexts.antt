@@ -215,7 +215,8 @@ pub wants_data_push : (reader new : Reader) (level : Bool) → WantsData reader 
     IsPush reader level More new
 wants_data_push reader new level wants place push keeps =
     plain_push reader new level wants.here (place ∙ wants.here)
-    (λ text ends. (sym (full_is text reader.run ends) ∙ wants.is_free, push text ends)) wants.some keeps wants.unfinished
+    (λ text ends. (sym (full_is text reader.run ends) ∙ wants.is_free, push text ends)) wants.some keeps
+    wants.unfinished
 
 pub wants_stuff_push : (reader new : Reader) (level : Bool) → WantsStuffBit level reader → new.place ≡ reader.place →
     ((text : List Bool) → EndsIn text reader.run → EndsIn (level ∷ text) new.run) →

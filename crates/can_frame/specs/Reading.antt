@@ -136,8 +136,8 @@ pub record WantsStuffBit (level : Bool) (reader : Reader) : Type 0 where
   pub is_other : level ≡ not (level_of reader.run)
   pub unfinished : length reader.levels.items ≡ fields_length reader.levels.items + 15 → ⊥
 
--- With this level it goes on in the region, and what it holds behind it. There is room for the level in each text that a
--- reader stands after. That `push` answers so is promised apart (`ReadsOn`).
+-- With this level it goes on in the region, and what it holds behind it. There is room for the level behind each text
+-- that a reader stands after. That `push` answers so is promised apart (`ReadsOn`).
 abbrev pub GoesOnWith : Bool → Reader → Type 0
 GoesOnWith level reader = WantsData reader ⊎ WantsStuffBit level reader
 

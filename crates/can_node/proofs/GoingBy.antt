@@ -302,8 +302,8 @@ sending_by node start place next n levels is_sender here size next_is fits (read
 
 pub waiting_by : (node : Node) (next : State) (n : ℕ) (levels : List Bool) (is_sender : Bool) →
     ((start place : ℕ) → node.state ≡ Sending start place → ⊥) → is_in_region node.state ≡ false →
-    n ≡ length levels → (StaysOut node.state levels → next ≡ out_behind_all node.state levels) → MayGoOnBy is_sender levels node →
-    GoesOnBy is_sender node levels (behind_by node next n)
+    n ≡ length levels → (StaysOut node.state levels → next ≡ out_behind_all node.state levels) →
+    MayGoOnBy is_sender levels node → GoesOnBy is_sender node levels (behind_by node next n)
 waiting_by node next n levels is_sender not elsewhere size next_is (sends_on s p is there ahead short) =
     absurd (not s p there)
 waiting_by node next n levels is_sender not elsewhere size next_is (waits_on is out) =

@@ -123,7 +123,10 @@ stays_few runs n [] fits out = fits
 stays_few runs n (true ∷ xs) fits out = stays_few runs (n + 1) xs (omega (arith, few)) out.1
   where
     few : n ≤ 9
-    few = elim (leb_tells n 9) [ inl is ↦ is.1 | inr not ↦ absurd (let no = not.0 in let stays = out.0 in cc (no, stays)) ]
+    few = elim (leb_tells n 9) [
+      | inl is ↦ is.1
+      | inr not ↦ absurd (let no = not.0 in let stays = out.0 in cc (no, stays))
+    ]
 stays_few runs n (false ∷ xs) fits out = stays_few runs 0 xs (omega arith) out.1
 
 -- no longer behind ten of them, or behind all levels
@@ -133,7 +136,10 @@ off_ends runs first run count levels by ends within =
     ap (stays_out (get_or levels count false)) (sym by.next_is) ∙ no_more (ends within)
   where
     no_more : 9 < run → nat_le run 9 ≡ false
-    no_more many = elim (leb_tells run 9) [ inl is ↦ absurd (let few = is.1 in omega (arith, few, many)) | inr not ↦ not.0 ]
+    no_more many = elim (leb_tells run 9) [
+      | inl is ↦ absurd (let few = is.1 in omega (arith, few, many))
+      | inr not ↦ not.0
+    ]
 
 pub behind_off : (state : State) (runs n ones kept : ℕ) (xs : List Bool) → state ≡ Recovering runs n → n ≤ 255 →
     ones ≡ ones_behind n xs → kept ≡ min ones 255 → StaysOut state xs →

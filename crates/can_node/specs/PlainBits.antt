@@ -116,8 +116,8 @@ pub record StaysBy (state : State) (levels : List Bool) (count : ℕ) (next : St
   pub next_is : next ≡ out_behind_all state (take count levels)
 
 -- The node goes on with these levels, one after another: it sends a frame, and they are the next that it drives, none
--- in its ACK slot or its last bit; or it stays in what it waits for, as said above; or it reads a frame by itself, whose
--- stuffed region goes on with them.
+-- in its ACK slot or its last bit; or it stays in what it waits for, as said above; or it reads a frame by itself, the
+-- stuffed region of which goes on with them.
 pub data MayGoOnBy (is_sender : Bool) (levels : List Bool) (node : Node) : Type 0 where
   sends_on : (start place : ℕ) → is_sender ≡ true → node.state ≡ Sending start place →
       StandAhead node.spelling place levels → place + length levels ≤ 255 → MayGoOnBy is_sender levels node

@@ -24,8 +24,8 @@ fn counted(count: u8, is_such: bool) -> u8
     if is_such { count + 1 } else { 0 }
 }
 
-/// How many recessive levels in a row there are behind these levels, behind so many before them: from the last one back,
-/// since a run is short on most buses.
+/// How many recessive levels in a row there are behind these levels, behind so many before them: from the last one
+/// back, since a run is short on most buses.
 fn ones_behind(ones: u8, levels: &[bool]) -> usize
     ensures { result ≡ ones_behind ones levels.now }
 {

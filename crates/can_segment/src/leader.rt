@@ -4,8 +4,8 @@ use can_node::Listener;
 use can_station::Member;
 
 /// The listener of a node that listens before this bit, with which at least half of all that do have come equally far;
-/// `None` where there is no such node. Nothing rests on it that it is so: nodes come to rest only where they have come as
-/// far as the listener.
+/// `None` where there is no such node. Nothing rests on it that it is so: nodes come to rest only where they have come
+/// as far as the listener.
 pub(crate) fn listener_of_most(
     talkers: &[Member],
     controllers: &[Member],

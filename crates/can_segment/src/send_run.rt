@@ -140,10 +140,9 @@ fn idle_run(
 }
 
 /// As many of the next bits as one node sends in the stuffed region of its frame or behind the ACK slot while all
-/// others rest or go on without sending, in bus off, in passive error flags, in what they wait for behind a frame, or in
-/// the stuffed region of what they read by themselves; or as
-/// all do so, also on an idle bus: `most` at most, and none where that is not so. Their levels are kept behind those of
-/// `levels`, which has room for them.
+/// others rest or go on without sending, in bus off, in passive error flags, in what they wait for behind a frame, or
+/// in the stuffed region of what they read by themselves; or as all do so, also on an idle bus: `most` at most, and
+/// none where that is not so. Their levels are kept behind those of `levels`, which has room for them.
 pub(crate) fn send_run(
     levels: &mut Vec<bool>,
     talkers: &mut [Member],

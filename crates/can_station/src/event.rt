@@ -64,8 +64,8 @@ pub enum Told {
 #[derive(Clone, Copy, Debug, PartialEq, Eq)]
 pub struct Event {
     bit: u64,
-    // what is told lies here flat, a part that nothing is told by being 0, so that a line has 40 bytes and not 64: lines
-    // are most of what a run keeps
+    // what is told lies here flat, a part that nothing is told by being 0, so that a line has 40 bytes and not 64:
+    // lines are most of what a run keeps
     start: u64,
     frame: Frame,
     number: u32,
