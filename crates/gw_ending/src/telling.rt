@@ -18,7 +18,8 @@ fn sent_in(event: &Event, node: u32, route: u8) -> Option<Entry>
     if event.node() != node {
         return None;
     }
-    match event.told() {
+    let told = event.told();
+    match &told {
         Told::Completed {
             start: _,
             frame,
@@ -27,7 +28,7 @@ fn sent_in(event: &Event, node: u32, route: u8) -> Option<Entry>
             if label.route == route {
                 return Some(Entry {
                     number: label.number,
-                    frame,
+                    frame: *frame,
                 });
             }
             None
