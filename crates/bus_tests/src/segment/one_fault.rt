@@ -66,9 +66,10 @@ fn is_taken(events: &[Event], bit: u64, start: u64, frame: Frame) -> bool {
 fn look_behind_an_error(rt: &impl Abort, events: &[Event], turned: Turned, first: u64, end: u64) {
     for event in events {
         if event.node() == RECEIVER && event.bit() > end {
-            if let Told::Took { start, .. } = event.told() {
+            let told = event.told();
+            if let Told::Took { start, .. } = &told {
                 // the start is the first bit that the sender drives, or the bit before, where it joined
-                if start == first || start.saturating_add(1) == first {
+                if *start == first || start.saturating_add(1) == first {
                     assert!(rt; turned.touches_receiver(end, event.bit()), "{turned:?}");
                 }
             }
@@ -81,7 +82,8 @@ fn look_through(rt: &impl Abort, events: &[Event], turned: Turned) -> u64 {
     let mut begun: Option<u64> = None;
     let mut sent: u64 = 0;
     for event in events.iter().filter(|event| event.node() == SENDER) {
-        match event.told() {
+        let told = event.told();
+        match &told {
             Told::Started { .. } => {
                 // what was completed is not begun again
                 assert!(rt; sent == 0, "{turned:?}");
@@ -94,9 +96,9 @@ fn look_through(rt: &impl Abort, events: &[Event], turned: Turned) -> u64 {
                 begun = None;
             }
             Told::Completed { start, frame, .. } => {
-                let taken = is_taken(events, event.bit().saturating_sub(1), start, frame);
+                let taken = is_taken(events, event.bit().saturating_sub(1), *start, *frame);
                 assert!(rt;
-                    taken || turned.touches_any(start, event.bit()),
+                    taken || turned.touches_any(*start, event.bit()),
                     "{turned:?}"
                 );
                 begun = None;
