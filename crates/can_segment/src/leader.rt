@@ -3,36 +3,42 @@
 use can_node::Listener;
 use can_station::Member;
 
-/// The listener of a node that listens before this bit, with which at least half of all that do have come equally far;
-/// `None` where there is no such node. Nothing rests on it that it is so: nodes come to rest only where they have come
-/// as far as the listener.
-pub(crate) fn listener_of_most(
-    talkers: &[Member],
-    controllers: &[Member],
-    bit: u64,
-) -> Option<Listener> {
-    match first_with_most(talkers, talkers, controllers, bit) {
-        Some(listener) => Some(listener),
-        None => first_with_most(controllers, talkers, controllers, bit),
+/// One that listens.
+#[derive(Drop)]
+pub(crate) struct Leader {
+    pub(crate) listener: Listener,
+    // of the talker whose listener it is; without meaning where it is a controller's
+    pub(crate) place: usize,
+}
+
+impl Leader {
+    /// The first that listens before this bit: of the talkers from this place on, of those before, or of the
+    /// controllers. Nothing rests on it that it is so: nodes come to rest only where they have come as far as the
+    /// listener.
+    pub(crate) fn from_place(
+        place: usize,
+        talkers: &[Member],
+        controllers: &[Member],
+        bit: u64,
+    ) -> Option<Leader> {
+        if let Some(leader) = first_of(talkers, place, bit) {
+            return Some(leader);
+        }
+        match first_of(talkers, 0, bit) {
+            Some(leader) => Some(leader),
+            None => first_of(controllers, 0, bit),
+        }
     }
 }
 
-/// That of the first of these candidates.
-fn first_with_most(
-    candidates: &[Member],
-    talkers: &[Member],
-    controllers: &[Member],
-    bit: u64,
-) -> Option<Listener> {
-    for member in candidates {
-        if member.listens_at(bit) {
-            let listener = member.station.node.listener();
-            let mut votes = Votes::none();
-            votes.count(talkers, &listener, bit);
-            votes.count(controllers, &listener, bit);
-            if votes.are_for_most() {
-                return Some(listener);
-            }
+/// The first of these from a place on that listens before this bit.
+fn first_of(members: &[Member], from: usize, bit: u64) -> Option<Leader> {
+    for (place, member) in members.iter().enumerate() {
+        if from <= place && member.listens_at(bit) {
+            return Some(Leader {
+                listener: member.station.node.listener(),
+                place,
+            });
         }
     }
     None
@@ -51,11 +57,6 @@ impl Votes {
             listening: 0,
             alike: 0,
         }
-    }
-
-    /// Whether at least half of those that listen have come as far.
-    fn are_for_most(&self) -> bool {
-        self.listening <= self.alike.saturating_add(self.alike)
     }
 
     /// Counts these nodes before this bit.

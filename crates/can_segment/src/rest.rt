@@ -7,7 +7,7 @@ ghost use Rattle.can_segment.specs.Rests.{IsLess, IsSame, Lulls, RestHolds, Rest
 ghost use Rattle.can_station.specs.Places.{AtPlaces};
 
 use crate::awake::{Awake, asks_at_each_bit, nodes_within};
-use crate::leader::{Votes, listener_of_most};
+use crate::leader::{Leader, Votes};
 use can_node::{KnownCounts, Listener, Node};
 use can_station::{
     Member, NodeFault, Span, Talker, fall_silent, wake_all, wake_disturbed, wake_unspent,
@@ -34,6 +34,8 @@ pub(crate) struct Rest {
     asleep: usize,
     // those that rest read on in the stuffed region at the last bit, and before it
     steady: bool,
+    // the place from which on the next listener is looked for
+    leader: usize,
 }
 
 impl Rest {
@@ -55,6 +57,7 @@ impl Rest {
             settled: false,
             asleep: 0,
             steady: false,
+            leader: 0,
         }
     }
 
@@ -281,7 +284,7 @@ impl Rest {
         votes.alike == 0 && votes.listening <= self.asleep
     }
 
-    /// Where none rests, those may come to rest that have come as far as one that listens, if most have.
+    /// Where none rests, those may come to rest that have come as far as one that listens.
     fn choose(&mut self, talkers: &[Member], controllers: &[Member], bit: u64)
         ensures { Chooses self.old self.new }
     {
@@ -289,10 +292,12 @@ impl Rest {
         if self.resting {
             return;
         }
-        let Some(listener) = listener_of_most(talkers, controllers, bit) else {
+        let Some(leader) = Leader::from_place(self.leader, talkers, controllers, bit) else {
             return;
         };
-        self.listener = listener;
+        self.listener = leader.listener;
+        // where most have come elsewhere they wake at once (`settle`), and the next one leads
+        self.leader = leader.place.saturating_add(1);
         self.resting = true;
         self.known = KnownCounts::Zero;
         self.spent = true;

@@ -94,6 +94,7 @@ impl Model for Event {
 
 impl Event {
     /// The line that tells this of the node at this place in the order of nodes, at the bit of this number.
+    #[inline(always)]
     pub fn new(bit: u64, node: u16, told: Told) -> Event
         ensures { result ≡ record { bit = bit; node = node; told = told } }
     {
@@ -110,6 +111,7 @@ impl Event {
     }
 
     /// The number of the bit.
+    #[inline(always)]
     pub fn bit(&self) -> u64
         ensures { result ≡ self.now.bit }
     {
@@ -117,6 +119,7 @@ impl Event {
     }
 
     /// The node's place in the order of nodes.
+    #[inline(always)]
     pub fn node(&self) -> u32
         ensures { result ≡ self.now.node }
     {
@@ -124,6 +127,7 @@ impl Event {
     }
 
     /// What happened there.
+    #[inline(always)]
     pub fn told(&self) -> Told
         ensures { result ≡ self.now.told }
     {
@@ -170,6 +174,7 @@ const NO_LABEL: Label = Label {
 };
 
 /// Which thing this is, its start, its frame and its request.
+#[inline(always)]
 fn parts_of(told: &Told) -> (Kind, u64, Frame, Label)
     ensures { result ≡ parts_in told.now }
 {

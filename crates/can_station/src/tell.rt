@@ -10,6 +10,8 @@ use crate::transmission::Transmission;
 use can_node::Outcome;
 
 /// One line more, for which there is room.
+// here it is known which thing is told, so that no arm but its own is left of `Event::new`
+#[inline(always)]
 fn push(events: &mut Vec<Event>, bit: u64, node: u16, told: Told)
     requires { vec_len events.old < vec_capacity events.old }
     ensures value { events.new.items ≡ events.old.items ++ lines bit node (told ∷ []) }
