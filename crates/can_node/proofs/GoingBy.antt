@@ -1,5 +1,5 @@
 -- Bits with which a node goes on, one after another.
-use Rattle.std.proofs.Common.{◌≡◌, ℕ, zero, suc, ◌+◌, ◌<◌, ◌≤◌, ◌++◌, min, nat_le, Bool, true, false, List, [], ◌∷◌}
+use Rattle.std.proofs.Common.{◌≡◌, ℕ, zero, suc, ◌+◌, ◌<◌, ◌≤◌, ◌++◌, ◌||◌, min, nat_le, Bool, true, false, List, [], ◌∷◌}
 use Rattle.std.proofs.Common.{length, take, get_or, inl, inr, refl, sym, ap, arith, cond, not, subst, ◌∙◌}
 use Rattle.std.proofs.lemmas.Bool.Decides.{leb_tells}
 use Rattle.std.proofs.lemmas.List.{length-take, take_all, take_more}
@@ -186,7 +186,7 @@ few_of n most h = elim (leb_tells n most) [ inl is ↦ is.1 | inr not ↦ absurd
 
 pub is_out : (state : State) (level : Bool) → stays_out level state ≡ true → IsOut state level
 is_out (Recovering runs ones) true h = record {
-  plain = h;
+  plain = ap (λ b. b || false || nat_le runs 126) h;
   leaves = λ counters now. off_longer_plain runs ones counters now (let few = few_of ones 9 h in omega (arith, few));
   drives = λ spelling. refl;
   begins = refl;
@@ -194,7 +194,7 @@ is_out (Recovering runs ones) true h = record {
   sends_then = refl;
 }
 is_out (Recovering runs ones) false h = record {
-  plain = h;
+  plain = ap (λ b. b || true || nat_le runs 126) h;
   leaves = λ counters now. off_broken_plain runs ones counters now;
   drives = λ spelling. refl;
   begins = refl;

@@ -23,7 +23,7 @@ use Rattle.can_frame.specs.declared.spelling.Spelling.{Spelling}
 use Rattle.can_node.specs.PlainBits.{GoesOn, IsPlain, LeavesPlainly, MayGoOn, is_plain, turns_plainly}
 use Rattle.can_node.specs.PlainBits.MayGoOn.{is_in, reads, sends}
 use Rattle.can_node.proofs.Listens.{region_begins, region_follows}
-use Rattle.can_node.proofs.Moves.{off_broken, off_longer}
+use Rattle.can_node.proofs.Moves.{off_broken, off_counts, off_longer}
 use Rattle.can_node.proofs.SendMoves.{send_acknowledged, send_echoed}
 use Rattle.can_node.proofs.PlainSteps.{plain_steps}
 use Rattle.can_node.proofs.Samples.{quiet_steps, samples}
@@ -41,10 +41,18 @@ pub off_longer_plain : (runs ones : ℕ) (counters : Counters) (now : ℕ) → o
 off_longer_plain runs ones counters now few =
     record { goes = off_longer runs ones now (state_of (counts_of counters)) few; reads_none = refl }
 
-pub below_ten : (level : Bool) (runs ones : ℕ) → is_plain level (Recovering runs ones) ≡ true → ones < 10
-below_ten level runs ones aside = elim (leb_tells ones 9) [
-  | inl is ↦ (let few = is.1 in omega (arith, few))
-  | inr not ↦ absurd (let no = not.0 in cc (no, aside))
+pub off_counts_plain : (runs ones : ℕ) (counters : Counters) (now : ℕ) → 10 ≤ ones → runs < 127 →
+    LeavesPlainly (Recovering runs ones) counters now true (Recovering (runs + 1) 0)
+off_counts_plain runs ones counters now whole few =
+    record { goes = off_counts runs ones now (state_of (counts_of counters)) whole few; reads_none = refl }
+
+pub not_the_last : (runs ones : ℕ) → is_plain true (Recovering runs ones) ≡ true → 10 ≤ ones → runs < 127
+not_the_last runs ones aside whole = elim (leb_tells ones 9) [
+  | inl is ↦ absurd (let few = is.1 in omega (arith, few, whole))
+  | inr not ↦ elim (leb_tells runs 126) [
+    | inl is ↦ (let few = is.1 in omega (arith, few))
+    | inr more ↦ absurd (let no = not.0 in let none = more.0 in cc (no, none, aside))
+  ]
 ]
 
 -- in a passive error flag nothing is owed for this level

@@ -33,10 +33,10 @@ turns_plainly level (Resting role ones) = level
 turns_plainly level (Suspending ones) = level
 turns_plainly level state = false
 
--- So with any level in bus off, where no run of eleven recessive bits ends with the next bit, and in a passive error
--- flag, but for the first dominant level of one that owes an error count.
+-- So with any level in bus off, but for the one that ends the last of 128 runs of eleven recessive bits, and in a
+-- passive error flag, but for the first dominant level of one that owes an error count.
 abbrev pub is_plain : Bool → State → Bool
-is_plain level (Recovering runs ones) = nat_le ones 9
+is_plain level (Recovering runs ones) = nat_le ones 9 || not level || nat_le runs 126
 is_plain level (PassiveFlagging role owes ones zeros) = level || not owes
 is_plain level state = turns_plainly level state
 

@@ -26,7 +26,7 @@ pub(crate) fn is_plain(state: State, level: bool) -> bool
     ensures { result ≡ is_plain level state }
 {
     match state {
-        State::Recovering(_, ones) => ones <= 9,
+        State::Recovering(runs, ones) => ones <= 9 || !level || runs <= 126,
         State::PassiveFlagging(_, owes, _, _) => level || !owes,
         State::Flagging(_, _, _, _) => !level,
         State::Waiting(_, role, until, first) => level || overlooks(role, until, first),
@@ -122,12 +122,17 @@ pub(crate) fn go_plainly(state: &mut State, counters: &Counters, now: u64, level
     ensures { is_plain level state.old ≡ true → LeavesPlainly state.old counters.now now level state.new }
 {
     // in place, since a node may be off for long
-    if let State::Recovering(_runs, ones) = state {
+    if let State::Recovering(runs, ones) = state {
         if !level {
             *ones = 0;
             return;
         }
-        *ones = ones.saturating_add(1);
+        if *ones < 10 {
+            *ones += 1;
+            return;
+        }
+        *runs = runs.saturating_add(1);
+        *ones = 0;
         return;
     }
     if count_on(state, level) {
