@@ -1,5 +1,5 @@
 -- Bits with which a node goes on, one after another.
-use Rattle.std.proofs.Common.{◌≡◌, ℕ, zero, suc, ◌+◌, ◌<◌, ◌≤◌, ◌++◌, ◌||◌, min, nat_le, Bool, true, false, List, [], ◌∷◌}
+use Rattle.std.proofs.Common.{◌≡◌, ℕ, zero, suc, ◌+◌, ◌<◌, ◌≤◌, ◌++◌, min, nat_le, Bool, true, false, List, [], ◌∷◌}
 use Rattle.std.proofs.Common.{length, take, get_or, inl, inr, refl, sym, ap, arith, cond, not, subst, ◌∙◌}
 use Rattle.std.proofs.lemmas.Bool.Decides.{leb_tells}
 use Rattle.std.proofs.lemmas.List.{length-take, take_all, take_more}
@@ -22,7 +22,8 @@ use Rattle.can_node.specs.PlainBits.MayGoOnBy.{reads_on, sends_on, waits_on}
 use Rattle.can_node.proofs.ErrorMoves.{delimit_on}
 use Rattle.can_node.proofs.Moves.{rest_on, suspend_on}
 use Rattle.can_node.proofs.PassiveMoves.{passive_dominant, passive_recessive}
-use Rattle.can_node.proofs.PlainBits.{behind, goes_plainly, goes_sending, off_broken_plain, off_longer_plain}
+use Rattle.can_node.proofs.PlainBits.{behind, goes_plainly, goes_sending, not_the_last, off_broken_plain}
+use Rattle.can_node.proofs.PlainBits.{off_counts_plain, off_longer_plain}
 
 -- so with the first of them
 ahead_taken : (spelling : Spelling) (place n : ℕ) (levels : List Bool) → StandAhead spelling place levels →
@@ -101,25 +102,6 @@ whole_stay state next levels count by ends out = elim (leb_tells (length levels)
       absurd (let not = ends within in let stays = stays_at state count levels out within in cc (not, stays))
 ]
 
--- a level more in bus off
-off_stays : (runs ones : ℕ) (level : Bool) → ones ≤ 9 → stays_out level (Recovering runs ones) ≡ true
-off_stays runs ones level few =
-    elim (leb_tells ones 9) [ inl is ↦ is.0 | inr not ↦ absurd (let more = not.1 in omega (arith, few, more)) ]
-
-off_next : (runs ones more : ℕ) (level : Bool) → more ≡ cond level (ones + 1) 0 →
-    Recovering runs more ≡ out_behind (Recovering runs ones) level
-off_next runs ones more true is = ap (Recovering runs) is
-off_next runs ones more false is = ap (Recovering runs) is
-
-pub off_more : (runs first ones more : ℕ) (levels : List Bool) (i : ℕ) → i < length levels →
-    StaysBy (Recovering runs first) levels i (Recovering runs ones) → ones ≤ 9 →
-    more ≡ cond (get_or levels i false) (ones + 1) 0 →
-    StaysBy (Recovering runs first) levels (i + 1) (Recovering runs more)
-off_more runs first ones more levels i within by few is =
-    let level = get_or levels i false in
-    stays_more (Recovering runs first) (Recovering runs ones) (Recovering runs more) levels i within by
-    (off_stays runs ones level few) (off_next runs ones more level is)
-
 pub is_not : (b : Bool) → not b ≡ false → b ≡ true
 is_not true h = refl
 is_not false h = absurd (cc h)
@@ -184,23 +166,33 @@ pub record IsOut (state : State) (level : Bool) : Type 0 where
 few_of : (n most : ℕ) → nat_le n most ≡ true → n ≤ most
 few_of n most h = elim (leb_tells n most) [ inl is ↦ is.1 | inr not ↦ absurd (let no = not.0 in cc (no, h)) ]
 
+off_out : (runs ones : ℕ) (level : Bool) (next : State) → stays_out level (Recovering runs ones) ≡ true →
+    out_behind (Recovering runs ones) level ≡ next → is_sending next ≡ false →
+    ((counters : Counters) (now : ℕ) → LeavesPlainly (Recovering runs ones) counters now level next) →
+    IsOut (Recovering runs ones) level
+off_out runs ones level next h next_is sends leaves = record {
+  plain = h;
+  leaves = λ counters now.
+      subst (LeavesPlainly (Recovering runs ones) counters now level) (sym next_is) (leaves counters now);
+  drives = λ spelling. refl;
+  begins = refl;
+  sends = refl;
+  sends_then = ap is_sending next_is ∙ sends;
+}
+
 pub is_out : (state : State) (level : Bool) → stays_out level state ≡ true → IsOut state level
-is_out (Recovering runs ones) true h = record {
-  plain = ap (λ b. b || false || nat_le runs 126) h;
-  leaves = λ counters now. off_longer_plain runs ones counters now (let few = few_of ones 9 h in omega (arith, few));
-  drives = λ spelling. refl;
-  begins = refl;
-  sends = refl;
-  sends_then = refl;
-}
-is_out (Recovering runs ones) false h = record {
-  plain = ap (λ b. b || true || nat_le runs 126) h;
-  leaves = λ counters now. off_broken_plain runs ones counters now;
-  drives = λ spelling. refl;
-  begins = refl;
-  sends = refl;
-  sends_then = refl;
-}
+is_out (Recovering runs ones) true h = elim (leb_tells ones 9) [
+  | inl few ↦ off_out runs ones true (Recovering runs (ones + 1)) h
+      (ap (λ b. cond b (Recovering runs (ones + 1)) (Recovering (runs + 1) 0)) few.0) refl
+      (λ counters now. off_longer_plain runs ones counters now (let least = few.1 in omega (arith, least)))
+  | inr many ↦
+      let whole : 10 ≤ ones = let more = many.1 in omega (arith, more) in
+      off_out runs ones true (Recovering (runs + 1) 0) h
+      (ap (λ b. cond b (Recovering runs (ones + 1)) (Recovering (runs + 1) 0)) many.0) refl
+      (λ counters now. off_counts_plain runs ones counters now whole (not_the_last runs ones h whole))
+]
+is_out (Recovering runs ones) false h =
+    off_out runs ones false (Recovering runs 0) h refl refl (λ counters now. off_broken_plain runs ones counters now)
 is_out (PassiveFlagging role owes ones zeros) true h = record {
   plain = refl;
   leaves = λ counters now. record {

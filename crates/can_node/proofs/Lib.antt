@@ -40,5 +40,5 @@ pub mod OneCuttingPlaces
 pub mod PlainBits
 pub mod SendRuns
 pub mod GoingBy
-pub mod OnesBehind
+pub mod BusOff
 pub mod ReadingBy

@@ -66,12 +66,12 @@ pub record GoesOn (old : Node) (level : Bool) (new : Node) : Type 0 where
   pub bit_is : bit_of new ≡ bit_of old + 1
   pub counts_none : counters_in new ≡ counters_in old
 
--- A node stays in bus off with this level, for no run of eleven recessive bits ends with it, or in a passive error
--- flag, for that doesn't end with it and counts nothing; or it waits on with a recessive level in a delimiter, the
--- intermission or suspend transmission, for that doesn't end with it. This and what follows up to `MayGoOnBy` are
--- conditions: what is promised under them is `GoesOnBy`, by the samples of the node's histories.
+-- A node stays in bus off with this level, for the last of 128 runs of eleven recessive bits doesn't end with it, or in
+-- a passive error flag, for that doesn't end with it and counts nothing; or it waits on with a recessive level in a
+-- delimiter, the intermission or suspend transmission, for that doesn't end with it. This and what follows up to
+-- `MayGoOnBy` are conditions: what is promised under them is `GoesOnBy`, by the samples of the node's histories.
 abbrev pub stays_out : Bool → State → Bool
-stays_out level (Recovering runs ones) = nat_le ones 9
+stays_out level (Recovering runs ones) = nat_le ones 9 || not level || nat_le runs 126
 stays_out true (PassiveFlagging role owes ones zeros) = nat_le ones 4
 stays_out false (PassiveFlagging role owes ones zeros) = not owes && nat_le zeros 4
 stays_out true (Delimiting role ones) = nat_le ones 6
@@ -81,7 +81,7 @@ stays_out level state = false
 
 -- where it is then
 abbrev pub out_behind : State → Bool → State
-out_behind (Recovering runs ones) true = Recovering runs (ones + 1)
+out_behind (Recovering runs ones) true = if nat_le ones 9 then Recovering runs (ones + 1) else Recovering (runs + 1) 0
 out_behind (Recovering runs ones) false = Recovering runs 0
 out_behind (PassiveFlagging role owes ones zeros) true = PassiveFlagging role owes (ones + 1) 0
 out_behind (PassiveFlagging role owes ones zeros) false = PassiveFlagging role owes 0 (zeros + 1)
@@ -98,11 +98,6 @@ StaysOut state (level ∷ levels) = (stays_out level state ≡ true) × StaysOut
 abbrev pub out_behind_all : State → List Bool → State
 out_behind_all state [] = state
 out_behind_all state (level ∷ levels) = out_behind_all (out_behind state level) levels
-
--- as many recessive levels in a row as there are behind these, behind so many
-abbrev pub ones_behind : ℕ → List Bool → ℕ
-ones_behind ones [] = ones
-ones_behind ones (level ∷ levels) = ones_behind (if level then ones + 1 else 0) levels
 
 -- it stays so with no more than so many of these levels: the next one ends it, if there is one
 abbrev pub StaysNoLonger : State → List Bool → ℕ → Type 0

@@ -15,7 +15,7 @@ use crate::machine::{advance, begin, is_in_region, level_in, listens, may_start,
 use crate::outcome::Outcome;
 use crate::plain_bits::{go_plainly, is_plain};
 use crate::state::State;
-use crate::stays::{out_behind_all, stay_out};
+use crate::stays::{count_out, out_behind_all};
 use can_confinement::{Counters, KnownCounts};
 use can_frame::{Frame, Reader, Spelled};
 
@@ -271,7 +271,7 @@ impl Node {
         if is_in_region(self.state) {
             return self.reader.would_read_on_by(levels);
         }
-        stay_out(self.state, levels).count
+        count_out(self.state, levels)
     }
 
     /// Bits with which the node goes on, one after another, in a frame that it sends or without sending (`stays_out`):

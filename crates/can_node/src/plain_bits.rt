@@ -89,18 +89,36 @@ pub(crate) fn count_on(state: &mut State, level: bool) -> bool
     false
 }
 
+/// Where a node in bus off is behind a bit with this level; `None` where that ends the last of 128 runs of eleven
+/// recessive levels.
+#[inline(always)]
+fn off_behind(runs: u8, ones: u8, level: bool) -> Option<State>
+    ensures stays { IfSome result (λ next. (stays_out level (State.Recovering runs ones) ≡ true)
+        × (next ≡ out_behind (State.Recovering runs ones) level)) }
+    ensures none { IfNone result (stays_out level (State.Recovering runs ones) ≡ false) }
+{
+    if !level {
+        return Some(State::Recovering(runs, 0));
+    }
+    if ones <= 9 {
+        return Some(State::Recovering(runs, ones + 1));
+    }
+    if runs <= 126 {
+        return Some(State::Recovering(runs + 1, 0));
+    }
+    None
+}
+
 /// Where a node in this state is behind a bit with this level, if it is in bus off or in a passive error flag and stays
-/// there: no run of eleven recessive bits ends, nor the flag, and nothing is counted; or if it waits on in a delimiter,
-/// the intermission or suspend transmission. `None` elsewhere.
+/// there: not the last run of eleven recessive bits ends, nor the flag, and nothing is counted; or if it waits on in a
+/// delimiter, the intermission or suspend transmission. `None` elsewhere.
 #[inline(always)]
 pub(crate) fn out_behind(state: State, level: bool) -> Option<State>
     ensures stays { IfSome result (λ next. (stays_out level state ≡ true) × (next ≡ out_behind state level)) }
     ensures none { IfNone result (stays_out level state ≡ false) }
 {
     match state {
-        State::Recovering(runs, ones) if ones <= 9 => {
-            Some(State::Recovering(runs, if level { ones + 1 } else { 0 }))
-        }
+        State::Recovering(runs, ones) => off_behind(runs, ones, level),
         State::PassiveFlagging(role, owes, ones, _) if level && ones <= 4 => {
             Some(State::PassiveFlagging(role, owes, ones + 1, 0))
         }

@@ -1,8 +1,8 @@
 //! With how many levels, one after another, a node stays out of frames, and where it is behind them.
 
-ghost use Rattle.std.specs.Prelude.{◌≡◌, ◌<◌, ◌≤◌, ◌+◌, ℕ, true, false, length, not, take, if◌then◌else◌};
+ghost use Rattle.std.specs.Prelude.{◌≡◌, ◌<◌, ◌≤◌, ◌+◌, ◌*◌, ℕ, true, false, length, not, take, if◌then◌else◌};
 ghost use Rattle.can_confinement.specs.declared.confinement.Role.{Role as RoleValue};
-ghost use Rattle.can_node.specs.PlainBits.{StaysBy, StaysNoLonger, StaysOut, ones_behind, out_behind_all, stays_out};
+ghost use Rattle.can_node.specs.PlainBits.{StaysBy, StaysNoLonger, StaysOut, out_behind_all, stays_out};
 
 use crate::plain_bits::out_behind;
 use crate::state::State;
@@ -24,38 +24,33 @@ fn counted(count: u8, is_such: bool) -> u8
     if is_such { count + 1 } else { 0 }
 }
 
-/// How many recessive levels in a row there are behind these levels, behind so many before them: from the last one
-/// back, since a run is short on most buses.
-fn ones_behind(ones: u8, levels: &[bool]) -> usize
-    ensures { result ≡ ones_behind ones levels.now }
+/// Whether a node in bus off surely stays there with so many levels, whatever they are: the last of 128 runs of eleven
+/// recessive ones is farther away.
+#[inline(always)]
+fn is_far(runs: u8, ones: u8, levels: usize) -> bool
+    ensures { result ≡ true → 11 * runs + ones + levels ≤ 1407 }
 {
-    let mut place = levels.len();
-    while place > 0 {
-        if !levels[place - 1] {
-            return levels.len() - place;
-        }
-        place -= 1;
-    }
-    levels.len() + usize::from(ones)
+    levels <= 1407 && 11 * usize::from(runs) + usize::from(ones) + levels <= 1407
 }
 
-/// So in bus off, with so many whole runs of eleven recessive levels and so many levels of the next. As many levels as
-/// may end a run are looked at together.
-fn stay_off(runs: u8, ones: u8, levels: &[bool]) -> Stay
-    ensures by { StaysBy (State.Recovering runs ones) levels.now result.count result.state }
-    ensures ends { StaysNoLonger (State.Recovering runs ones) levels.now result.count }
+/// Where a node is then behind these levels that is in bus off, with so many whole runs of eleven recessive levels and
+/// so many levels of the next.
+fn off_behind_all(runs: u8, ones: u8, levels: &[bool]) -> State
+    requires { 11 * runs + ones + length levels.now ≤ 1407 }
+    ensures { result ≡ out_behind_all (State.Recovering runs ones) levels.now }
 {
+    let mut whole = runs;
     let mut run = ones;
-    let mut place = 0;
-    while run <= 9 && place < levels.len() {
-        let next = levels.len().min(place + usize::from(10 - run));
-        run = ones_behind(run, &levels[place..next]) as u8;
-        place = next;
+    for level in levels {
+        // seldom, so that no branch on a level is foretold wrongly
+        if run > 9 && *level {
+            whole += 1;
+            run = 0;
+        } else {
+            run = counted(run, *level);
+        }
     }
-    Stay {
-        count: place,
-        state: State::Recovering(runs, run),
-    }
+    State::Recovering(whole, run)
 }
 
 /// Whether this level ends a passive error flag that samples it, or is counted.
@@ -113,17 +108,28 @@ fn stay_waiting(state: State, levels: &[bool]) -> Stay
     }
 }
 
-/// So in any state. Bus off and passive error flags last long, so they have loops of their own.
+/// So in any state. Passive error flags last long, so they have a loop of their own.
 pub(crate) fn stay_out(state: State, levels: &[bool]) -> Stay
     ensures by { StaysBy state levels.now result.count result.state }
     ensures ends { StaysNoLonger state levels.now result.count }
 {
     match state {
-        State::Recovering(runs, ones) => stay_off(runs, ones, levels),
         State::PassiveFlagging(role, owes, ones, zeros) => {
             stay_flagging(role, owes, ones, zeros, levels)
         }
         _ => stay_waiting(state, levels),
+    }
+}
+
+/// How many of these levels those are. Bus off lasts long, and mostly it is seen at once that it goes on.
+pub(crate) fn count_out(state: State, levels: &[bool]) -> usize
+    ensures few { result ≤ length levels.now }
+    ensures stays { StaysOut state (take result levels.now) }
+    ensures ends { StaysNoLonger state levels.now result }
+{
+    match state {
+        State::Recovering(runs, ones) if is_far(runs, ones, levels.len()) => levels.len(),
+        _ => stay_out(state, levels).count,
     }
 }
 
@@ -132,8 +138,8 @@ pub(crate) fn out_behind_all(state: State, levels: &[bool]) -> State
     ensures { StaysOut state levels.now → result ≡ out_behind_all state levels.now }
 {
     match state {
-        State::Recovering(runs, ones) => {
-            State::Recovering(runs, ones_behind(ones, levels).min(255) as u8)
+        State::Recovering(runs, ones) if is_far(runs, ones, levels.len()) => {
+            off_behind_all(runs, ones, levels)
         }
         _ => stay_out(state, levels).state,
     }
