@@ -190,7 +190,7 @@ impl Node {
     /// counted. So it is where it sends a frame, in the ACK slot with a dominant level and elsewhere with the one that
     /// it drives, but not at the last bit; where it reads one whose stuffed region goes on with this level; in a flag,
     /// and behind it up to the end of the intermission and of suspend transmission, with the levels that belong there;
-    /// and in bus off, but at the end of a run of eleven recessive bits.
+    /// and in bus off, but at the end of the last run of eleven recessive bits.
     #[inline(always)]
     pub fn goes_on(&self, level: bool) -> bool
         ensures may { result ≡ true → MayGoOn level self.now }
@@ -260,8 +260,8 @@ impl Node {
     }
 
     /// With how many of these levels, one after another, the node goes on without sending: in bus off or in a passive
-    /// error flag, up to the end of a run of eleven recessive levels or of the flag, or a level that it counts; in a
-    /// delimiter, the intermission or suspend transmission with recessive ones, up to the last bit; in the stuffed
+    /// error flag, up to the end of the last run of eleven recessive levels or of the flag, or a level that it counts;
+    /// in a delimiter, the intermission or suspend transmission with recessive ones, up to the last bit; in the stuffed
     /// region of a frame that it reads, up to the last level or a wrong stuff bit. 0 where it is in none of these.
     pub fn stays_out(&self, levels: &[bool]) -> usize
         ensures few { result ≤ length levels.now }
