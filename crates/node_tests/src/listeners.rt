@@ -179,14 +179,16 @@ fn one_goes_on_through_flags_and_in_bus_off(rt: HostRuntime) {
     assert_eq!(rt; stay_out(&mut node, &[true, true, true, true, false]), 5);
     for run in 1..=128u8 {
         assert_eq!(rt; stay_out(&mut node, &[true; 7]), 7);
+        if run < 128 {
+            // the end of a run that is not the last one tells nothing
+            assert_eq!(rt; stay_out(&mut node, &[true; 3]), 3);
+            assert_eq!(rt; go_on(&mut node, true), Some(Outcome::Nothing));
+            continue;
+        }
         assert_eq!(rt; stay_out(&mut node, &[true; 7]), 3);
         assert_eq!(rt; stay_out(&mut node, &[true, false]), 0);
         assert_eq!(rt; go_on(&mut node, true), None);
-        let comes_back = run == 128;
-        assert_eq!(rt;
-            sample(&mut node, true) == Some(Outcome::CameBack),
-            comes_back
-        );
+        assert_eq!(rt; sample(&mut node, true), Some(Outcome::CameBack));
     }
     assert_eq!(rt; node.bit().checked_sub(start), Some(9 + 128 * 11));
     assert_eq!(rt; node.counters(), Counters::new());
