@@ -29,5 +29,6 @@ pub mod Going
 pub mod SoleSender
 pub mod QuietBits
 pub mod SendRuns
+pub mod IdleRuns
 pub mod QuietRuns
 pub mod Taken

@@ -2,17 +2,16 @@
 use Rattle.std.proofs.Common.{◌≡◌, ◌≢◌, ℕ, zero, suc, ◌+◌, ◌<◌, ◌≤◌, ◌&&◌, nat_eq, cond, Bool, true, false, Some, List}
 use Rattle.std.proofs.Common.{[], ◌∷◌, ◌++◌, ◌-◌, length, take, drop, slice_get, refl, sym, ap, subst, arith, inl, inr}
 use Rattle.std.proofs.Common.{length-append, ◌∙◌}
-use Rattle.std.proofs.lemmas.Bool.Decides.{eqb_tells, leb_tells}
+use Rattle.std.proofs.lemmas.Bool.Decides.{eqb_tells}
 use Rattle.std.proofs.lemmas.List.{length-take, take_all, take-take}
 use Rattle.std.proofs.lemmas.Option.{slice_get_within}
 use Rattle.std.proofs.Math.Seq.{drop-append_seam}
 use Rattle.can_node.specs.declared.listener.Listener.{Listener}
-use Rattle.can_node.specs.Listener.{Idles, ReadsAlong, ReadsAlongBy}
+use Rattle.can_node.specs.Listener.{ReadsAlong, ReadsAlongBy}
 use Rattle.can_station.specs.declared.member.Member.{Member}
 use Rattle.can_station.specs.Members.{drives_at}
 use Rattle.can_station.specs.Places.{AtPlaces}
-use Rattle.can_station.specs.declared.span.Span.{Span}
-use Rattle.can_station.specs.RestingNodes.{AllGo, AwakeWithin, GoesAsItMay, IfAwake, MayGoBy, MemberGoes, MemberGoesBy}
+use Rattle.can_station.specs.RestingNodes.{AllGo, GoesAsItMay, IfAwake, MayGoBy, MemberGoes, MemberGoesBy}
 use Rattle.can_station.specs.RestingNodes.{OthersStayOut, passes}
 use Rattle.can_station.proofs.GoingBy.{by_taken}
 use Rattle.can_station.proofs.Places.{same_some, some_there}
@@ -375,54 +374,3 @@ swapped bit (level ∷ levels) old new t0 t1 c0 c1 h = (
   },
   swapped (bit + 1) levels h.0 new h.1 t1 h.2 c1 h.4,
 )
-
--- all rest
-abbrev AllRest : List Member → Type 0
-AllRest members = (k : ℕ) (m : Member) → slice_get members k ≡ Some m → m.rests ≡ true
-
-stay_asleep : (bit : ℕ) (members : List Member) → AllRest members → AllGo bit true members members
-stay_asleep bit members asleep = record {
-  at = λ k a b p q. record {
-    rests_on = λ e. same_some b a (sym q ∙ p);
-    stays_awake = λ awake. absurd (let rests = asleep k a p in cc (rests, awake));
-    steps = λ awake. absurd (let rests = asleep k a p in cc (rests, awake));
-  };
-  size = refl;
-}
-
-asleep_drive : (bit : ℕ) (members : List Member) → AllRest members → driven_beside bit true members ≡ true
-asleep_drive bit members asleep = all_pass (λ x. cond x.rests true (drives_at bit x)) members
-    (λ k m e. ap (λ b. cond b true (drives_at bit m)) (asleep k m e))
-
--- one bit of an idle bus at which all rest that have nothing to send
-idle_bit : (bit : ℕ) (rest : Rest) (t c : List Member) → rest.spent ≡ true → Idles rest.listener → AllRest t →
-    AllRest c → GoesQuietly bit true rest rest t t c c
-idle_bit bit rest t c spent idles asleep asleep_too = record {
-  starts_none = inl spent;
-  through = rests_through rest bit rest.listener true (idles.follows rest.known bit) idles.listens;
-  resting = true;
-  drives = λ listening node at. sym (idles.drives node at);
-  talkers = stay_asleep bit t asleep;
-  controllers = stay_asleep bit c asleep_too;
-  level_is = sym (ap (λ b. b && driven_beside bit true c) (asleep_drive bit t asleep)
-      ∙ asleep_drive bit c asleep_too);
-}
-
-pub idle_bits : (bit : ℕ) (sent : List Bool) (rest : Rest) (t c : List Member) → rest.spent ≡ true →
-    Idles rest.listener → AllRest t → AllRest c → AreRecessive sent → GoQuietlyBy bit sent rest rest t t c c
-idle_bits bit [] rest t c spent idles asleep asleep_too recessive = (refl, refl, refl)
-idle_bits bit (level ∷ sent) rest t c spent idles asleep asleep_too recessive =
-    let is = recessive.0 in (
-      rest,
-      t,
-      c,
-      subst (λ l. GoesQuietly bit l rest rest t t c c) (sym is) (idle_bit bit rest t c spent idles asleep asleep_too),
-      idle_bits (bit + 1) sent rest t c spent idles asleep asleep_too recessive.1,
-    )
-
-pub all_asleep : (span : Span) (members : List Member) → AwakeWithin span members → span.to ≤ span.from →
-    AllRest members
-all_asleep span members within none k m e = elim (leb_tells span.to k) [
-  | inl behind ↦ within.outside k m e (inr behind.1)
-  | inr before ↦ within.outside k m e (inl (let less = before.1 in omega (arith, less, none)))
-]
