@@ -1,6 +1,6 @@
 -- Bits of an idle bus on which all nodes rest, one after another.
-use Rattle.std.proofs.Common.{◌≡◌, ℕ, ◌+◌, ◌≤◌, ◌&&◌, cond, Bool, true, Some, List}
-use Rattle.std.proofs.Common.{[], ◌∷◌, slice_get, refl, sym, ap, subst, arith, inl, inr}
+use Rattle.std.proofs.Common.{◌≡◌, ℕ, ◌+◌, ◌≤◌, ◌&&◌, cond, Bool, true, List}
+use Rattle.std.proofs.Common.{[], ◌∷◌, refl, sym, ap, subst, arith, inl, inr}
 use Rattle.std.proofs.Common.{◌∙◌}
 use Rattle.std.proofs.lemmas.Bool.Decides.{leb_tells}
 use Rattle.can_node.specs.Listener.{Idles}
@@ -11,14 +11,10 @@ use Rattle.can_station.specs.RestingNodes.{AllGo, AwakeWithin}
 use Rattle.can_station.proofs.Places.{same_some}
 use Rattle.can_station.proofs.Spans.{all_pass}
 use Rattle.can_segment.specs.declared.rest.Rest.{Rest}
-use Rattle.can_segment.specs.Rests.{AreRecessive, GoQuietlyBy, GoesQuietly, driven_beside}
+use Rattle.can_segment.specs.Rests.{AllRest, AreRecessive, GoQuietlyBy, GoesQuietly, driven_beside}
 use Rattle.can_segment.proofs.SoleSender.{rests_through}
 
--- all rest
-abbrev AllRest : List Member → Type 0
-AllRest members = (k : ℕ) (m : Member) → slice_get members k ≡ Some m → m.rests ≡ true
-
-stay_asleep : (bit : ℕ) (members : List Member) → AllRest members → AllGo bit true members members
+pub stay_asleep : (bit : ℕ) (members : List Member) → AllRest members → AllGo bit true members members
 stay_asleep bit members asleep = record {
   at = λ k a b p q. record {
     rests_on = λ e. same_some b a (sym q ∙ p);
@@ -28,7 +24,7 @@ stay_asleep bit members asleep = record {
   size = refl;
 }
 
-asleep_drive : (bit : ℕ) (members : List Member) → AllRest members → driven_beside bit true members ≡ true
+pub asleep_drive : (bit : ℕ) (members : List Member) → AllRest members → driven_beside bit true members ≡ true
 asleep_drive bit members asleep = all_pass (λ x. cond x.rests true (drives_at bit x)) members
     (λ k m e. ap (λ b. cond b true (drives_at bit m)) (asleep k m e))
 

@@ -31,4 +31,5 @@ pub mod QuietBits
 pub mod SendRuns
 pub mod IdleRuns
 pub mod QuietRuns
+pub mod IdleBits
 pub mod Taken

@@ -28,6 +28,7 @@ use Rattle.can_segment.proofs.Shown.{map_there}
 use Rattle.can_segment.proofs.SoleSender.{controllers_settle_alone, controllers_start_alone, level_alone, quiet_alone}
 use Rattle.can_segment.proofs.SoleSender.{rests_alone, shown_alone, talkers_sample_alone, talkers_start_alone}
 use Rattle.can_segment.proofs.Wholes.{from_real, from_whole}
+use Rattle.can_station.specs.Deeds.{AreQuiet}
 
 -- what all nodes do at such a bit, whatever their ports are
 nodes_move_alone : (plan : SegmentPlan) (bit : ℕ) (level : Bool) (old new : Rest) (t0 t1 c0 c1 : List Member) →
@@ -76,20 +77,20 @@ pub record KeptQuietly (plan : SegmentPlan) (levels : List Bool) (events : List 
   pub kept : SegmentKept plan (levels ++ level ∷ []) events (members_at new (length levels + 1) t)
       (members_at new (length levels + 1) c)
 
-pub kept_quietly : (plan : SegmentPlan) (levels : List Bool) (events : List Event) (level : Bool) (old new : Rest)
+pub kept_so : (plan : SegmentPlan) (levels : List Bool) (events : List Event) (level : Bool) (old new : Rest)
     (t0 t1 c0 c1 : List Member) →
     SegmentKept plan levels events (members_at old (length levels) t0) (members_at old (length levels) c0) →
-    length levels < plan.bits → GoesQuietly (length levels) level old new t0 t1 c0 c1 →
-    RestHolds old (length levels) plan.talkers.items t0 c0 → IsFaultless plan (length levels) →
-    KeptQuietly plan levels events level new t1 c1
-kept_quietly plan levels events level old new t0 t1 c0 c1 kept still h rests faultless =
+    length levels < plan.bits →
+    NodesMove plan (length levels) level (members_at old (length levels) t0) (members_at new (length levels + 1) t1)
+    (members_at old (length levels) c0) (members_at new (length levels + 1) c1) →
+    AreQuiet (length levels) (members_at new (length levels + 1) t1)
+    × AreQuiet (length levels) (members_at new (length levels + 1) c1) → KeptQuietly plan levels events level new t1 c1
+kept_so plan levels events level old new t0 t1 c0 c1 kept still moves quiet =
     let bit = length levels in
     let talkers = members_at new (bit + 1) t1 in
     let controllers = members_at new (bit + 1) c1 in
     let next = kept_on plan levels events bit level (members_at old bit t0) talkers
-    (members_at old bit c0) controllers kept refl still
-    (nodes_move_alone plan bit level old new t0 t1 c0 c1 h rests faultless) in
-    let quiet = quiet_alone plan.talkers.items bit level old new t0 t1 c0 c1 h rests in
+    (members_at old bit c0) controllers kept refl still moves in
     let none = quiet_lines plan (levels ++ level ∷ []) (events ++ bit_lines bit talkers controllers) bit talkers
     controllers next (length-append levels (level ∷ []) ∙ omega arith) quiet.0 quiet.1 in
     record {
@@ -98,15 +99,30 @@ kept_quietly plan levels events level old new t0 t1 c0 c1 kept still h rests fau
           (ap (λ ls. events ++ ls) none ∙ append-nil events) next;
     }
 
+pub kept_quietly : (plan : SegmentPlan) (levels : List Bool) (events : List Event) (level : Bool) (old new : Rest)
+    (t0 t1 c0 c1 : List Member) →
+    SegmentKept plan levels events (members_at old (length levels) t0) (members_at old (length levels) c0) →
+    length levels < plan.bits → GoesQuietly (length levels) level old new t0 t1 c0 c1 →
+    RestHolds old (length levels) plan.talkers.items t0 c0 → IsFaultless plan (length levels) →
+    KeptQuietly plan levels events level new t1 c1
+kept_quietly plan levels events level old new t0 t1 c0 c1 kept still h rests faultless =
+    let bit = length levels in
+    kept_so plan levels events level old new t0 t1 c0 c1 kept still
+    (nodes_move_alone plan bit level old new t0 t1 c0 c1 h rests faultless)
+    (quiet_alone plan.talkers.items bit level old new t0 t1 c0 c1 h rests)
+
+-- counters that are shown of these nodes stay shown
+abbrev pub StayShown : List Counters → List Member → List Member → Type 0
+StayShown counters old new = (first : ℕ) → AreFrom first old counters → AreFrom first new counters
+
 -- and all else stands as it stood
-pub holds_quietly : (plan : SegmentPlan) (levels : List Bool) (events : List Event) (counters : List Counters)
+pub holds_so : (plan : SegmentPlan) (levels : List Bool) (events : List Event) (counters : List Counters)
     (level : Bool) (old new : Rest) (t0 t1 c0 c1 : List Member) →
     ListsHold plan levels events counters (members_at old (length levels) t0) (members_at old (length levels) c0) →
-    KeptQuietly plan levels events level new t1 c1 → GoesQuietly (length levels) level old new t0 t1 c0 c1 →
-    RestHolds old (length levels) plan.talkers.items t0 c0 →
+    KeptQuietly plan levels events level new t1 c1 → StayShown counters t0 t1 → StayShown counters c0 c1 →
     ListsHold plan (levels ++ level ∷ []) events counters (members_at new (length levels + 1) t1)
     (members_at new (length levels + 1) c1)
-holds_quietly plan levels events counters level old new t0 t1 c0 c1 held quiet h rests =
+holds_so plan levels events counters level old new t0 t1 c0 c1 held quiet shown shown_too =
     let bit = length levels in
     let talkers = members_at new (bit + 1) t1 in
     let before = held.kept.stands in
@@ -131,13 +147,25 @@ holds_quietly plan levels events counters level old new t0 t1 c0 c1 held quiet h
         behind.controllers_size,
       );
       talkers_shown = from_real 0 new (bit + 1) t1 counters
-          ((shown_alone 0 plan.talkers.items bit level old new t0 t1 c0 c1 counters h rests).0
-          (from_whole 0 old bit t0 counters held.talkers_shown));
+          (shown 0 (from_whole 0 old bit t0 counters held.talkers_shown));
       controllers_shown = from_real (length talkers) new (bit + 1) c1 counters
-          ((shown_alone (length talkers) plan.talkers.items bit level old new t0 t1 c0 c1 counters h rests).1
-          (subst (λ n. AreFrom n c0 counters) size
+          (shown_too (length talkers) (subst (λ n. AreFrom n c0 counters) size
           (from_whole (length (members_at old bit t0)) old bit c0 counters held.controllers_shown)));
     }
+
+pub holds_quietly : (plan : SegmentPlan) (levels : List Bool) (events : List Event) (counters : List Counters)
+    (level : Bool) (old new : Rest) (t0 t1 c0 c1 : List Member) →
+    ListsHold plan levels events counters (members_at old (length levels) t0) (members_at old (length levels) c0) →
+    KeptQuietly plan levels events level new t1 c1 → GoesQuietly (length levels) level old new t0 t1 c0 c1 →
+    RestHolds old (length levels) plan.talkers.items t0 c0 →
+    ListsHold plan (levels ++ level ∷ []) events counters (members_at new (length levels + 1) t1)
+    (members_at new (length levels + 1) c1)
+holds_quietly plan levels events counters level old new t0 t1 c0 c1 held quiet h rests =
+    let talkers : StayShown counters t0 t1 =
+    λ first. (shown_alone first plan.talkers.items (length levels) level old new t0 t1 c0 c1 counters h rests).0 in
+    let controllers : StayShown counters c0 c1 =
+    λ first. (shown_alone first plan.talkers.items (length levels) level old new t0 t1 c0 c1 counters h rests).1 in
+    holds_so plan levels events counters level old new t0 t1 c0 c1 held quiet talkers controllers
 
 -- so the record that grew quietly is that of a run, behind which all stands,
 pub grown_kept : (plan : SegmentPlan) (faults : FaultOrder) (made next : Record) (old new : Rest)

@@ -1,5 +1,5 @@
 -- Bits at which no port is needed: nothing is told of any node, and no controller wants to start.
-use Rattle.std.specs.Prelude.{◌≡◌, ℕ, Bool, false, List, [], ◌∷◌, ◌++◌, length}
+use Rattle.std.specs.Prelude.{◌≡◌, ℕ, Bool, true, false, List, [], ◌∷◌, ◌++◌, length}
 use Rattle.can_station.specs.declared.fault_order.FaultOrder.{FaultOrder}
 use Rattle.can_station.specs.declared.member.Member.{Member}
 use Rattle.can_station.specs.declared.plan.SegmentPlan.{SegmentPlan}
@@ -23,6 +23,20 @@ pub record MakesQuietBit (old new : SegmentValue) : Type 0 where
 pub data MakeQuietBits : SegmentValue → SegmentValue → Type 0 where
   no_bit : {segment : SegmentValue} → MakeQuietBits segment segment
   one_more : {old mid new : SegmentValue} → MakeQuietBits old mid → MakesQuietBit mid new → MakeQuietBits old new
+
+-- A segment makes one more bit of an idle bus: its record grows by a recessive level alone, and each controller has on
+-- the bus what it had. One that wants to start begins nothing.
+pub record MakesIdleBit (old new : SegmentValue) : Type 0 where
+  pub plan_is : new.plan ≡ old.plan
+  pub levels_is : new.levels ≡ old.levels ++ true ∷ []
+  pub events_is : new.events ≡ old.events
+  pub counters_is : new.counters ≡ old.counters
+  pub sending_is : new.sending ≡ old.sending
+
+-- it makes such bits, or none
+pub data MakeIdleBits : SegmentValue → SegmentValue → Type 0 where
+  no_idle_bit : {segment : SegmentValue} → MakeIdleBits segment segment
+  one_idle_bit : {old mid new : SegmentValue} → MakesIdleBit old mid → MakeIdleBits mid new → MakeIdleBits old new
 
 -- A record grows by the level of a bit at which nothing is told of any node, and by nothing else. No fault stands at
 -- it.

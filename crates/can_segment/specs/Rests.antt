@@ -3,7 +3,7 @@ use Rattle.std.specs.Prelude.{◌≡◌, ◌⊎◌, ℕ, ◌+◌, ◌≤◌, ◌
 use Rattle.std.specs.Prelude.{None, Some, List, [], ◌∷◌, map, slice_get, if◌then◌else◌}
 use Rattle.std.specs.List.{list_all}
 use Rattle.can_confinement.specs.KnownCounts.{Knows}
-use Rattle.can_node.specs.Listener.{Follows, IsListening, caught_up as node_caught_up}
+use Rattle.can_node.specs.Listener.{Follows, Idles, IsListening, caught_up as node_caught_up}
 use Rattle.can_node.specs.Node.{counters_in, driven_by, may_begin}
 use Rattle.can_confinement.specs.declared.counters.Counters.{Counters}
 use Rattle.can_node.specs.declared.node.Node.{Node}
@@ -157,3 +157,19 @@ GoQuietlyBy bit (level ∷ levels) old new t0 t1 c0 c1 = (mid : Rest) × (t : Li
 abbrev pub AreRecessive : List Bool → Type 0
 AreRecessive [] = Unit {0}
 AreRecessive (level ∷ levels) = (level ≡ true) × AreRecessive levels
+
+-- all of these rest
+abbrev pub AllRest : List Member → Type 0
+AllRest members = (k : ℕ) (m : Member) → slice_get members k ≡ Some m → m.rests ≡ true
+
+-- no talker has a frame left
+abbrev pub AreAllSpent : List Talker → List Member → Type 0
+AreAllSpent plan members = (k : ℕ) (m : Member) (talker : Talker) → slice_get members k ≡ Some m →
+    slice_get plan k ≡ Some talker → slice_get talker.frames.items m.station.completed ≡ None
+
+-- all nodes rest on an idle bus, and no talker has a frame left
+pub record AreIdle (rest : Rest) (plan : List Talker) (talkers controllers : List Member) : Type 0 where
+  pub idles : Idles rest.listener
+  pub talkers_rest : AllRest talkers
+  pub controllers_rest : AllRest controllers
+  pub talkers_spent : AreAllSpent plan talkers

@@ -4,6 +4,8 @@
 mod all_nodes;
 mod awake;
 mod counts_shown;
+mod grow;
+mod idle_run;
 mod leader;
 mod make_bit;
 mod opening;

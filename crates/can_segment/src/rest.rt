@@ -216,7 +216,8 @@ impl Rest {
     }
 
     /// Nodes come to rest before this bit that listen and have come equally far, and nothing is told any more of those
-    /// that don't. At the bit before something was told of a node, or nothing.
+    /// that don't. At the bit before something was told of a node, or nothing. Controllers that want to start may come
+    /// to rest where it idles.
     pub(crate) fn come_to_rest(
         &mut self,
         plan: &[Talker],
@@ -224,6 +225,7 @@ impl Rest {
         controllers: &mut [Member],
         bit: u64,
         told: bool,
+        idles: bool,
     )
         requires plan { length plan.now ≡ length talkers.old }
         requires holds { RestHolds self.old bit plan.now talkers.old controllers.old }
@@ -231,7 +233,7 @@ impl Rest {
     {
         fall_silent(talkers, told, self.talkers);
         fall_silent(controllers, told, self.controllers);
-        self.lull_alike(plan, talkers, controllers, bit, told);
+        self.lull_alike(plan, talkers, controllers, bit, told, idles);
     }
 
     /// Nodes come to rest before this bit that listen and have come equally far.
@@ -242,15 +244,13 @@ impl Rest {
         controllers: &mut [Member],
         bit: u64,
         told: bool,
+        idles: bool,
     )
         requires plan { length plan.now ≡ length talkers.old }
         requires holds { RestHolds self.old bit plan.now talkers.old controllers.old }
         ensures { ComesToRest bit plan.now self.old self.new talkers.old talkers.new controllers.old controllers.new }
     {
-        if asks_at_each_bit(controllers) {
-            return;
-        }
-        if self.stays_so(talkers, controllers, bit, told) {
+        if !idles && self.stays_so(talkers, controllers, bit, told) {
             return;
         }
         self.choose(talkers, controllers, bit);
@@ -258,12 +258,16 @@ impl Rest {
             return;
         }
         self.lull_talkers(plan, talkers, bit);
-        self.lull_controllers(controllers, bit);
+        self.lull_controllers(controllers, bit, idles);
         self.settle(plan, talkers, controllers, bit);
     }
 
-    /// Whether none that is awake can have come as far as the listener at the last bit, as far as that is seen at once.
+    /// Whether none comes to rest: ports are asked at each bit, or none that is awake can have come as far as the
+    /// listener at the last bit, as far as that is seen at once.
     fn stays_so(&self, talkers: &[Member], controllers: &[Member], bit: u64, told: bool) -> bool {
+        if asks_at_each_bit(controllers) {
+            return true;
+        }
         // where one has woken, or something was told, it is looked once more at which places they are awake
         if told || !self.settled {
             return false;
@@ -303,15 +307,16 @@ impl Rest {
         self.spent = true;
     }
 
-    /// The node comes to rest before this bit if it may. Whether it has nothing to start is told.
-    fn lull(&mut self, member: &mut Member, spent: bool, bit: u64)
+    /// The node comes to rest before this bit if it may. It is told whether it has nothing to start, and whether it is
+    /// given nothing.
+    fn lull(&mut self, member: &mut Member, spent: bool, idles: bool, bit: u64)
         ensures { Lulls bit spent self.old self.new member.old member.new }
     {
         if !self.resting || !member.may_rest(&self.listener, bit) {
             return;
         }
         // it would wake at once
-        if !spent && self.listener.wants_start() {
+        if !spent && !idles && self.listener.wants_start() {
             return;
         }
         self.known = self.known.and(member.known_counts());
@@ -332,12 +337,12 @@ impl Rest {
     {
         for place in self.talkers.from..self.talkers.to {
             let spent = members[place].is_spent(plan[place].frames.as_slice());
-            self.lull(&mut members[place], spent, bit);
+            self.lull(&mut members[place], spent, false, bit);
         }
     }
 
-    /// So do controllers.
-    fn lull_controllers(&mut self, members: &mut [Member], bit: u64)
+    /// So do controllers, where it idles also such as want to start.
+    fn lull_controllers(&mut self, members: &mut [Member], bit: u64, idles: bool)
         requires within { self.old.controllers.to ≤ length members.old }
         requires rests { AreResting self.old bit members.old }
         requires spent { self.old.spent ≡ true → NoneRests members.old }
@@ -347,7 +352,7 @@ impl Rest {
         ensures spent { self.new.spent ≡ true → NoneRests members.new }
     {
         for place in self.controllers.from..self.controllers.to {
-            self.lull(&mut members[place], false, bit);
+            self.lull(&mut members[place], false, idles, bit);
         }
     }
 

@@ -7,6 +7,7 @@ ghost use Rattle.can_segment.specs.Rests.{AreRecessive, GoQuietlyBy};
 ghost use Rattle.can_station.specs.RestingNodes.{AwakeWithin, HasRoom, MayGoBy, OthersStayOut};
 ghost use Rattle.can_station.specs.declared.member.Member.{Member};
 
+use crate::idle_run::{idle_run, recessive};
 use crate::rest::Rest;
 use can_station::{Member, Span, all_stay_out, go_on_by};
 
@@ -22,15 +23,6 @@ fn first_sender(members: &[Member], awake: Span) -> usize
         }
     }
     members.len()
-}
-
-/// So many recessive levels, and 32 at most.
-fn recessive<'a>(most: usize) -> &'a [bool]
-    ensures few { length result.now ≤ most }
-    ensures recessive { AreRecessive result.now }
-{
-    const RECESSIVE: &[bool] = &[true; 32];
-    &RECESSIVE[..most.min(RECESSIVE.len())]
 }
 
 /// The levels that the node at this place drives next in a frame that it sends, or recessive ones where no node is
@@ -112,31 +104,6 @@ fn send_beside(
     let sent = &levels.as_slice()[made..];
     go_on_by(senders, sent, awake);
     go_on_by(others, sent, awake_others);
-}
-
-/// Bits at which all nodes rest on an idle bus and have nothing to send: `most` at most, and none where that is not so.
-/// Their levels are kept behind those of `levels`, which has room for them.
-fn idle_run(
-    levels: &mut Vec<bool>,
-    talkers: &[Member],
-    controllers: &[Member],
-    rest: &Rest,
-    most: usize,
-)
-    requires talkers_within { AwakeWithin rest.now.talkers talkers.now }
-    requires controllers_within { AwakeWithin rest.now.controllers controllers.now }
-    requires level_room { vec_len levels.old + most ≤ vec_capacity levels.old }
-    ensures { (sent : List Bool) × (length sent ≤ most) × (levels.new.items ≡ levels.old.items ++ sent)
-        × GoQuietlyBy (length levels.old.items) sent rest.now rest.now talkers.now talkers.now
-        controllers.now controllers.now }
-{
-    if !rest.spent || !rest.listener.is_idle() {
-        return;
-    }
-    if !rest.talkers.is_empty() || !rest.controllers.is_empty() {
-        return;
-    }
-    let _ = levels.extend_from_slice(recessive(most));
 }
 
 /// As many of the next bits as one node sends in the stuffed region of its frame or behind the ACK slot while all

@@ -129,3 +129,14 @@ TurnMade after after' old new answer = Acted after after' (counted old) new answ
 abbrev pub TurnKeeps : HandValue → HandValue → TurnAnswer → Type 0
 TurnKeeps old new answer = (past next : RoutePast) → Turned (counted old) new past next answer → LogMatches old past →
     LogMatches new next
+
+-- Nothing is in the hand, and no abort comes due, whatever the count of turns is: so each turn is idle as long as the
+-- FIFO is empty.
+pub record WaitsForFrame (h : HandValue) : Type 0 where
+  pub none_held : h.in_hand ≡ []
+  pub none_due : (turns : ℕ) (abort : RouteAbort) → first_abort h ≡ Some abort →
+      IsDueByCount (record h { turns = turns }) abort → ⊥
+
+-- the hand behind so many turns more that were idle, where what the FIFO was asked is left aside
+abbrev pub idled : ℕ → HandValue → HandValue
+idled more h = record h { turns = h.turns + more }

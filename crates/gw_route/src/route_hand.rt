@@ -1,7 +1,7 @@
 //! A route's hand.
 ghost use Rattle.std.specs.Prelude.{◌≡◌, ℕ, ◌+◌, ◌<◌, ◌≤◌, ◌↔◌, Bool, List, [], ◌∷◌, ◌++◌, Option, Some, None};
 ghost use Rattle.std.specs.Prelude.{Result, IfOk, OnOk, OnErr, IfSome, IfNone, IsErr, IsTrue, MatchOption, vec_len};
-ghost use Rattle.std.specs.Prelude.{vec_capacity, slice_get};
+ghost use Rattle.std.specs.Prelude.{vec_capacity, slice_get, true};
 ghost use Rattle.bx_core.specs.declared.answer.Sent.{Sent};
 ghost use Rattle.bx_core.specs.declared.answer.AbortAnswer.{AbortAnswer};
 ghost use Rattle.bx_core.specs.declared.answer.NumberTooLarge.{NumberTooLarge};
@@ -14,7 +14,7 @@ ghost use Rattle.gw_route.specs.declared.route_abort.RouteAbort.{RouteAbort};
 ghost use Rattle.gw_route.specs.RouteHand.{hand_value, new_hand, LogMatches, LogsReleased, IsLinked};
 ghost use Rattle.gw_route.specs.Turn.{counted, next_turn, IsDueByCount, first_abort, taken, none_given, Filled};
 ghost use Rattle.gw_route.specs.Turn.{if_requested, requested_answer, logged, if_aborted, aborted_answer, Acted};
-ghost use Rattle.gw_route.specs.Turn.{TurnMade, TurnKeeps};
+ghost use Rattle.gw_route.specs.Turn.{TurnMade, TurnKeeps, WaitsForFrame, idled};
 
 use crate::log::Log;
 use crate::route_abort::RouteAbort;
@@ -109,6 +109,31 @@ impl RouteHand {
         }
         self.count();
         Ok(self.act(rt, tx, gate))
+    }
+
+    /// Whether nothing is in the hand, and no abort comes due whatever the count of turns is: the next one, if there is
+    /// one, is of a number that wasn't given out. So each turn is idle as long as the FIFO is empty.
+    pub fn waits_for_frame(&self) -> bool
+        ensures { result ≡ true → WaitsForFrame (hand_value self.now) }
+    {
+        if self.hand.is_some() {
+            return false;
+        }
+        match self.aborts.as_slice().first() {
+            Some(abort) => self.tickets < abort.number,
+            None => true,
+        }
+    }
+
+    /// So many idle turns at once, at which the FIFO is empty: they are counted, and nothing else is done.
+    pub fn idle(&mut self, more: u32)
+        requires waits { WaitsForFrame (hand_value self.old) }
+        requires few { self.old.turns + more ≤ 1000000 }
+        ensures value { hand_value self.new ≡ idled more (hand_value self.old) }
+        ensures queue { self.new.out.queue ≡ self.old.out.queue }
+        ensures rewrites { self.new.rewrites ≡ self.old.rewrites }
+    {
+        self.turns += more;
     }
 
     fn count(&mut self)

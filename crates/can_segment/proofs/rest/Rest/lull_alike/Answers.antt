@@ -5,10 +5,6 @@ use Rattle.can_segment.proofs.ComesToRest.{alike_at_rest, alike_self, chosen_awa
 use Rattle.can_segment.proofs.ComesToRest.{chosen_spent, lain_within, less_rests}
 use Rattle.can_segment.proofs.rest.Rest.lull_alike.Goals as goal
 
-pub returns-then-asks_at_each_bit : goal.returns-then-asks_at_each_bit
-returns-then-asks_at_each_bit c =
-    record { talkers = alike_self _ _ refl; controllers = alike_self _ _ refl; holds = c.requires.holds }
-
 pub returns-then-stays_so : goal.returns-then-stays_so
 returns-then-stays_so c =
     record { talkers = alike_self _ _ refl; controllers = alike_self _ _ refl; holds = c.requires.holds }

@@ -1,5 +1,5 @@
 use Rattle.can_segment.proofs.SendRuns.{all_recessive, are_recessive, recessive_taken}
-use Rattle.can_segment.proofs.send_run.recessive.Goals as goal
+use Rattle.can_segment.proofs.idle_run.recessive.Goals as goal
 
 pub returns-clause-recessive : goal.returns-clause-recessive
 returns-clause-recessive c = recessive_taken c.min.result (all_recessive 32) (are_recessive 32)

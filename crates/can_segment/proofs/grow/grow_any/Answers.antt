@@ -14,7 +14,7 @@ use Rattle.can_segment.proofs.Keeps.{run_length}
 use Rattle.can_station.proofs.Places.{some_there}
 use Rattle.can_segment.proofs.Rests.{members_length}
 use Rattle.can_segment.proofs.Wholes.{from_left, from_real, from_whole, holds_alike}
-use Rattle.can_segment.proofs.segment.grow_any.Goals as goal
+use Rattle.can_segment.proofs.grow.grow_any.Goals as goal
 
 pub make_bit-told-requires-clause-few : goal.make_bit-told-requires-clause-few
 make_bit-told-requires-clause-few g c =

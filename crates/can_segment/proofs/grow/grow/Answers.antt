@@ -14,7 +14,7 @@ use Rattle.can_station.proofs.Places.{some_there}
 use Rattle.can_segment.proofs.QuietBits.{grown_holds, grown_kept, grown_rests}
 use Rattle.can_segment.proofs.Woken.{found_awake}
 use Rattle.can_segment.proofs.SoleSender.{controllers_settle_alone, controllers_start_alone}
-use Rattle.can_segment.proofs.segment.grow.Goals as goal
+use Rattle.can_segment.proofs.grow.grow.Goals as goal
 
 pub grow_quietly-requires-clause-talker_room : goal.grow_quietly-requires-clause-talker_room
 grow_quietly-requires-clause-talker_room g c k m e awake on =

@@ -1,6 +1,6 @@
 use Rattle.std.proofs.Common.{rules, ◌≡◌, true, is_ok, length}
 use Rattle.can_segment.proofs.IdleRuns.{all_asleep, idle_bits}
-use Rattle.can_segment.proofs.send_run.idle_run.Goals as goal
+use Rattle.can_segment.proofs.idle_run.idle_run.Goals as goal
 
 pub returns : goal.returns
 returns c =

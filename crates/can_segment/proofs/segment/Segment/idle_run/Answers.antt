@@ -1,0 +1,56 @@
+use Rattle.std.proofs.Common.{rules, ◌≡◌, ◌++◌, true, is_ok, length, arith, subst}
+use Rattle.can_segment.specs.QuietBits.{MakeIdleBits}
+use Rattle.can_segment.specs.QuietBits.MakeIdleBits.{no_idle_bit}
+use Rattle.can_segment.specs.Rests.{AreIdle}
+use Rattle.can_segment.proofs.IdleBits.{idle_run}
+use Rattle.can_segment.proofs.QuietRuns.{value_of}
+use Rattle.can_segment.proofs.segment.Segment.idle_run.Goals as goal
+
+pub returns-then-most-eq0-clause-bits : goal.returns-then-most-eq0-clause-bits
+returns-then-most-eq0-clause-bits c = no_idle_bit
+
+pub returns-then-not-are_idle-clause-bits : goal.returns-then-not-are_idle-clause-bits
+returns-then-not-are_idle-clause-bits c = no_idle_bit
+
+pub invariant_of-self : goal.invariant_of-self
+invariant_of-self c =
+    let inside = c.self.inside in
+    let made = inside.made in
+    let here : c.len-made.result ≡ length made.levels.items = search rules in
+    let fine : is_ok c.extend_from_slice.result ≡ true = search rules in
+    let idle : AreIdle inside.rest inside.plan.talkers.items inside.talkers.items inside.controllers.items =
+    rw (c.as_slice.ensures.value, c.as_slice-2.ensures.value, c.as_slice-3.ensures.value) at
+    c.are_idle.ensures c.if-not-are_idle.false in
+    let items : c.extend_from_slice.new.self.items ≡ made.levels.items ++ c.recessive.result.now =
+    rw fine at c.extend_from_slice.ensures.items in
+    let ran = idle_run inside.plan inside.faults made.levels.items made.events.items made.counters.items
+    c.recessive.result.now inside.rest inside.talkers.items inside.controllers.items c.quiet_until-last.result
+    c.recessive.ensures.recessive idle
+    (record { holds = c.self.invariant.0; stands = c.self.invariant.1; rests = c.self.invariant.2 })
+    (c.quiet_until-last.ensures.quiet inside.plan)
+    (omega (arith, c.quiet_until-last.ensures.limit, c.min.ensures))
+    (λ some. omega (arith, some, here, c.recessive.ensures.few, c.min-most.ensures, c.saturating_sub.ensures)) in
+    let behind = ran.0 in
+    rw items (behind.holds, behind.stands, behind.rests)
+
+pub returns-clause-bits : goal.returns-clause-bits
+returns-clause-bits c =
+    let inside = c.self.inside in
+    let made = inside.made in
+    let here : c.len-made.result ≡ length made.levels.items = search rules in
+    let fine : is_ok c.extend_from_slice.result ≡ true = search rules in
+    let idle : AreIdle inside.rest inside.plan.talkers.items inside.talkers.items inside.controllers.items =
+    rw (c.as_slice.ensures.value, c.as_slice-2.ensures.value, c.as_slice-3.ensures.value) at
+    c.are_idle.ensures c.if-not-are_idle.false in
+    let items : c.extend_from_slice.new.self.items ≡ made.levels.items ++ c.recessive.result.now =
+    rw fine at c.extend_from_slice.ensures.items in
+    let ran = idle_run inside.plan inside.faults made.levels.items made.events.items made.counters.items
+    c.recessive.result.now inside.rest inside.talkers.items inside.controllers.items c.quiet_until-last.result
+    c.recessive.ensures.recessive idle
+    (record { holds = c.self.invariant.0; stands = c.self.invariant.1; rests = c.self.invariant.2 })
+    (c.quiet_until-last.ensures.quiet inside.plan)
+    (omega (arith, c.quiet_until-last.ensures.limit, c.min.ensures))
+    (λ some. omega (arith, some, here, c.recessive.ensures.few, c.min-most.ensures, c.saturating_sub.ensures)) in
+    let behind = value_of inside.plan (made.levels.items ++ c.recessive.result.now) made.events.items
+    made.counters.items inside.rest inside.controllers.items in
+    rw items (subst (λ s. MakeIdleBits s behind) c.self.view_is ran.1)
