@@ -8,3 +8,4 @@ pub mod Counted
 pub mod Keeps
 pub mod Finals
 pub mod Closes
+pub mod Stretches

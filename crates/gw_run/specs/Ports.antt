@@ -1,5 +1,5 @@
 -- The controllers of a run in one thread: with mailboxes for one thread.
-use Rattle.std.specs.Prelude.{◌≡◌, ℕ, Bool, Option, None, Some, false, slice_get}
+use Rattle.std.specs.Prelude.{◌≡◌, ℕ, Bool, Option, None, Some, List, [], false, slice_get}
 use Rattle.bx_core.specs.PlainMail.{core_of, short_of, sending}
 use Rattle.bx_core.specs.RouteTx.{no_route_past}
 use Rattle.bx_core.specs.States.{opening_by}
@@ -44,3 +44,7 @@ pub record StartsPort (s : ScriptValue) (controller : ℕ) (port : Port) : Type 
   pub is_new : IsNewPort s controller port
   pub mail : (value : ControllerValue) → slice_get s.controllers controller ≡ Some value →
       IsNewMail (priority_of value) (routes_at s controller) port.mail
+
+-- no request waits for any of these controllers
+abbrev pub NoneWaits : List Port → Type 0
+NoneWaits ports = (k : ℕ) (port : Port) → slice_get ports k ≡ Some port → (core_of port.mail).queue ≡ []

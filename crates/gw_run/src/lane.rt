@@ -12,17 +12,17 @@ ghost use Rattle.gw_run.specs.Lanes.{TurnLeaves};
 use crate::port::Port;
 use bx_core::{NoGate, PlainRoute};
 use can_frame::Memory;
-use gw_route::RouteHand;
+use gw_route::{RouteHand, TurnAnswer};
 use std::sync::Wait;
 
-/// One turn of a route into the mailboxes of this controller. `Memory` where it was refused to the hand, or to the
-/// mailboxes at any time before.
+/// One turn of a route into the mailboxes of this controller: whether it had nothing to do. `Memory` where it was
+/// refused to the hand, or to the mailboxes at any time before.
 pub(crate) fn turn_on<R: Wait>(
     rt: &R,
     hand: &mut RouteHand,
     port: &mut Port,
     number: u8,
-) -> Result<(), Memory>
+) -> Result<bool, Memory>
     requires route { number < length (core_of port.old.mail).routes }
     requires linked { IsLinked (RouteStands (core_of port.old.mail) number) (hand_value hand.old) }
     ensures linked { IsLinked (RouteStands (core_of port.new.mail) number) (hand_value hand.new) }
@@ -39,9 +39,9 @@ pub(crate) fn turn_on<R: Wait>(
         mail: &mut port.mail,
         route: number,
     };
-    hand.turn(rt, &mut side, &mut NoGate)?;
+    let answer = hand.turn(rt, &mut side, &mut NoGate)?;
     if port.mail.short() {
         return Err(Memory);
     }
-    Ok(())
+    Ok(matches!(answer, TurnAnswer::Idle))
 }

@@ -8,6 +8,7 @@ mod opening;
 mod port;
 mod run_fault;
 mod site;
+mod stretch;
 mod threaded;
 mod world;
 

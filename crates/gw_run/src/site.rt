@@ -1,12 +1,56 @@
 //! A segment of a run in one thread, bit by bit.
 
-ghost use Rattle.std.specs.Prelude.{◌≡◌, ◌≤◌, OnOk, length};
-ghost use Rattle.gw_run.specs.Sites.{IsAheadUpTo, SiteHolds, SiteMakes};
+ghost use Rattle.std.specs.Prelude.{◌≡◌, ◌<◌, ◌≤◌, ℕ, OnOk, true, false, length};
+ghost use Rattle.gw_run.specs.Ports.{NoneWaits};
+ghost use Rattle.gw_run.specs.Sites.{IsAheadUpTo, SiteHolds, SiteIdles, SiteMakes};
 
-use crate::port::Site;
+use crate::port::{Port, Site};
 use can_frame::Memory;
 use gw_site::make_bit;
 use std::sync::Wait;
+
+/// Whether no request waits for any of these controllers: then none is ready, however often they are asked.
+pub(crate) fn none_waits(ports: &[Port]) -> bool
+    ensures { result ≡ true → NoneWaits ports.now }
+{
+    for port in ports {
+        if port.mail.core().first().is_some() {
+            return false;
+        }
+    }
+    true
+}
+
+/// Bits of an idle bus until a segment has made so many, while no request waits for any of its controllers: their ports
+/// need not be asked at each of them. Whether it has made so many then, also where it had before.
+pub(crate) fn rest_on(site: &mut Site, until: u64) -> bool
+    requires holds { SiteHolds site.old.segment site.old.ports.items }
+    requires waits { NoneWaits site.old.ports.items }
+    requires ahead { IsAheadUpTo until site.old.segment }
+    ensures idles { SiteIdles until site.old site.new }
+    ensures far { result ≡ true → until ≤ length site.new.segment.levels }
+    ensures near { result ≡ false → length site.new.segment.levels < until }
+{
+    if until <= site.segment.record().levels.len() as u64 {
+        return true;
+    }
+    site.segment.idle_bits(until);
+    until <= site.segment.record().levels.len() as u64
+}
+
+/// The same, where no request waits; else no bit.
+fn idle_on(site: &mut Site, until: u64) -> bool
+    requires holds { SiteHolds site.old.segment site.old.ports.items }
+    requires ahead { IsAheadUpTo until site.old.segment }
+    ensures idles { SiteIdles until site.old site.new }
+    ensures far { result ≡ true → until ≤ length site.new.segment.levels }
+    ensures near { result ≡ false → length site.new.segment.levels < until }
+{
+    if none_waits(site.ports.as_slice()) {
+        return rest_on(site, until);
+    }
+    until <= site.segment.record().levels.len() as u64
+}
 
 /// A segment with its controllers makes bits until there are so many, of all that it has to make, unless there are
 /// already; and behind them such as need no port, which are the same whenever they are made. `Memory` where the record
@@ -19,7 +63,7 @@ pub(crate) fn bits_of<R: Wait>(rt: &R, site: &mut Site, until: u64, bits: u64) -
     requires at_most { length site.old.segment.levels ≤ bits }
     ensures { OnOk result (SiteMakes until bits site.old site.new) }
 {
-    while (site.segment.record().levels.len() as u64) < until {
+    while !idle_on(site, until) {
         make_bit(rt, &mut site.segment, site.ports.as_mut_slice())?;
         site.segment.quiet_bits(bits);
     }

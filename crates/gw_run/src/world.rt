@@ -11,6 +11,7 @@ ghost use Rattle.gw_run.specs.Worlds.{SameSegments, HaveMade, HaveMadeUpTo, Coun
 use crate::lane::turn_on;
 use crate::port::Site;
 use crate::site::bits_of;
+use crate::stretch::stretch;
 use can_frame::Memory;
 use gw_opening::Lane;
 use std::sync::Wait;
@@ -38,8 +39,9 @@ pub(crate) fn make_bits<R: Wait>(
     Ok(())
 }
 
-/// One turn of a route. `Memory` where it was refused to the hand, or to the mailboxes at any time before.
-fn turn_of<R: Wait>(rt: &R, sites: &mut [Site], lane: &mut Lane) -> Result<(), Memory>
+/// One turn of a route: whether it had nothing to do. `Memory` where it was refused to the hand, or to the mailboxes at
+/// any time before.
+fn turn_of<R: Wait>(rt: &R, sites: &mut [Site], lane: &mut Lane) -> Result<bool, Memory>
     requires { Leads sites.old lane.old }
     ensures turns { LaneTurns sites.old sites.new lane.old lane.new }
     ensures counted { OnOk result (CountsTurn lane.old lane.new) }
@@ -54,12 +56,12 @@ fn turn_of<R: Wait>(rt: &R, sites: &mut [Site], lane: &mut Lane) -> Result<(), M
     )
 }
 
-/// One turn of each route, in their order.
+/// One turn of each route, in their order: whether none of them had anything to do.
 pub(crate) fn make_turns<R: Wait>(
     rt: &R,
     sites: &mut [Site],
     lanes: &mut [Lane],
-) -> Result<(), Memory>
+) -> Result<bool, Memory>
     requires { WorldHolds sites.old lanes.old }
     ensures world { OnOk result (WorldHolds sites.new lanes.new) }
     ensures counted { OnOk result (AtPlaces (λ k. CountsTurn) lanes.old lanes.new) }
@@ -68,10 +70,11 @@ pub(crate) fn make_turns<R: Wait>(
     ensures lanes { OnOk result (LanesKeep lanes.old lanes.new) }
     ensures keeps { OnOk result (SitesKeep lanes.old sites.old sites.new) }
 {
+    let mut idle = true;
     for place in 0..lanes.len() {
-        turn_of(rt, sites, &mut lanes[place])?;
+        idle &= turn_of(rt, sites, &mut lanes[place])?;
     }
-    Ok(())
+    Ok(idle)
 }
 
 /// Whether so many bits are a multiple of this. Most runs make a turn behind each bit: then nothing is divided.
@@ -83,7 +86,8 @@ fn is_multiple(made: u64, turn: u64) -> bool
     turn == 1 || made % turn == 0
 }
 
-/// This bit of each segment, and a turn of each route where the bits made are a multiple of this.
+/// This bit of each segment, and a turn of each route where the bits made are a multiple of this. Whether turns were
+/// made, and none of them had anything to do.
 fn step<R: Wait>(
     rt: &R,
     sites: &mut [Site],
@@ -91,9 +95,9 @@ fn step<R: Wait>(
     bits: u64,
     bit: u64,
     turn: u64,
-) -> Result<(), Memory>
+) -> Result<bool, Memory>
     requires world { WorldHolds sites.old lanes.old }
-    requires made { HaveMade bits bit sites.old }
+    requires made { HaveMadeUpTo bits (bit + 1) sites.old }
     requires turned { HaveTurned turn bit lanes.old }
     requires few { bits ≤ 1000000 }
     requires still { bit < bits }
@@ -107,10 +111,10 @@ fn step<R: Wait>(
 {
     make_bits(rt, sites, bit + 1, bits)?;
     if !is_multiple(bit + 1, turn) {
-        return Ok(());
+        return Ok(false);
     }
-    make_turns(rt, sites, lanes)?;
-    Ok(())
+    let idle = make_turns(rt, sites, lanes)?;
+    Ok(idle)
 }
 
 /// All bits of all segments, with the turns of the routes between them.
@@ -137,8 +141,12 @@ pub(crate) fn make_all<R: Wait>(
         // then no segment knows of another
         return make_bits(rt, sites, bits, bits);
     }
-    for bit in 0..bits {
-        step(rt, sites, lanes, bits, bit, turn)?;
+    let mut made = 0;
+    let mut idle = false;
+    while made < bits {
+        made = stretch(sites, lanes, idle, bits, made, turn);
+        idle = step(rt, sites, lanes, bits, made, turn)?;
+        made += 1;
     }
     Ok(())
 }

@@ -1,30 +1,45 @@
+use Rattle.std.proofs.Common.{rules, ◌≡◌, arith, subst}
 use Rattle.std.proofs.lemmas.Result.{on_ok_weaker}
+use Rattle.gw_run.specs.Worlds.{HaveMade, HaveTurned}
 use Rattle.gw_run.proofs.Counted.{short_bits}
 use Rattle.gw_run.proofs.Passes.{lanes_start, lanes_on}
 use Rattle.gw_run.proofs.Keeps.{sites-self, sites-on, sites_of_first}
+use Rattle.gw_run.proofs.Stretches.{made_up_to}
 use Rattle.gw_run.proofs.world.make_all.Goals as goal
 
-pub loop-bit-init : goal.loop-bit-init
-loop-bit-init g c = (
+pub make_bits-requires-clause-before : goal.make_bits-requires-clause-before
+make_bits-requires-clause-before g c = made_up_to c.args.bits 0 c.args.bits c.args.sites.now (omega arith) c.requires.made
+
+pub loop-made-init : goal.loop-made-init
+loop-made-init g c = (
   c.requires.world,
   c.requires.made,
   lanes_start c.args.lanes.now,
   sites-self c.args.lanes.now c.args.sites.now,
   c.requires.turned,
-  λ h. h,
+  (λ h. h),
+  omega arith,
 )
 
-pub loop-bit-preserved : goal.loop-bit-preserved
-loop-bit-preserved g c = (
-  c.in_ok-step.ensures.world,
-  c.in_ok-step.ensures.made,
-  lanes_on c.args.lanes.now c.loop-bit.lanes c.step.new.lanes c.loop-bit.invariant.2 c.in_ok-step.ensures.lanes,
-  sites-on c.args.lanes.now c.args.sites.now c.loop-bit.sites c.step.new.sites c.loop-bit.invariant.3
-      (sites_of_first c.args.lanes.now c.loop-bit.lanes c.loop-bit.sites c.step.new.sites c.loop-bit.invariant.2
-      c.in_ok-step.ensures.keeps),
-  c.in_ok-step.ensures.turned,
-  λ h. c.in_ok-step.ensures.short (c.loop-bit.invariant.5 h),
-)
+pub loop-made-preserved : goal.loop-made-preserved
+loop-made-preserved g c =
+    let first = c.args.lanes.now in
+    let sites = c.args.sites.now in
+    let held = c.loop-made.invariant in
+    let mid = c.stretch-made.ensures in
+    let step = c.in_ok-idle.ensures in
+    let lanes = lanes_on first c.loop-made.lanes c.stretch-made.new.lanes held.2 mid.lanes in
+    let keeps = sites-on first sites c.loop-made.sites c.stretch-made.new.sites held.3
+    (sites_of_first first c.loop-made.lanes c.loop-made.sites c.stretch-made.new.sites held.2 mid.keeps) in (
+      step.world,
+      step.made,
+      lanes_on first c.stretch-made.new.lanes c.step.new.lanes lanes step.lanes,
+      sites-on first sites c.stretch-made.new.sites c.step.new.sites keeps
+          (sites_of_first first c.stretch-made.new.lanes c.stretch-made.new.sites c.step.new.sites lanes step.keeps),
+      step.turned,
+      (λ h. step.short (mid.short (held.5 h))),
+      search rules,
+    )
 
 pub returns-then-is_empty-clause-short : goal.returns-then-is_empty-clause-short
 returns-then-is_empty-clause-short g c = on_ok_weaker c.make_bits.result
@@ -33,3 +48,15 @@ returns-then-is_empty-clause-short g c = on_ok_weaker c.make_bits.result
 pub returns-then-is_empty-clause-keeps : goal.returns-then-is_empty-clause-keeps
 returns-then-is_empty-clause-keeps g c =
     on_ok_weaker c.make_bits.result (λ keeps. keeps c.args.lanes.now) c.make_bits.ensures.keeps
+
+pub returns-clause-made : goal.returns-clause-made
+returns-clause-made g c =
+    let held = c.loop-made.invariant in
+    let all : c.loop-made.made ≡ c.args.bits = omega (arith, c.loop-made-test.false, held.6) in
+    subst (λ n. HaveMade c.args.bits n c.loop-made.sites) all held.1
+
+pub returns-clause-turned : goal.returns-clause-turned
+returns-clause-turned g c =
+    let held = c.loop-made.invariant in
+    let all : c.loop-made.made ≡ c.args.bits = omega (arith, c.loop-made-test.false, held.6) in
+    subst (λ n. HaveTurned c.args.turn n c.loop-made.lanes) all held.4

@@ -40,15 +40,11 @@ returns-clause-made g c =
     made_bits c.args.bits c.args.until c.args.sites.now c.loop-place.sites
     (places_end (λ i. SiteMakes c.args.until c.args.bits) c.args.sites.now c.loop-place.sites c.loop-place.place
     (omega (arith, c.loop-place-test.false, c.loop-place.invariant.size)) c.loop-place.invariant)
-    c.requires.before.2.of_bits
+    c.requires.before.of_bits
 
 pub bits_of-requires-clause-ahead : goal.bits_of-requires-clause-ahead
 bits_of-requires-clause-ahead g c =
     let place = c.loop-place.place in
     let found =
-    slice_get-get_or c.loop-place.sites place c.index-sites-place.result (omega (arith, c.loop-place-test.true)) in (
-      c.requires.before.0,
-      c.requires.before.1,
-      c.requires.before.2.ahead place _
-          (sym (c.loop-place.invariant.above place (omega arith)) ∙ found),
-    )
+    slice_get-get_or c.loop-place.sites place c.index-sites-place.result (omega (arith, c.loop-place-test.true)) in
+    c.requires.before.ahead place _ (sym (c.loop-place.invariant.above place (omega arith)) ∙ found)

@@ -33,9 +33,9 @@ loop-place-preserved g c =
           (sites_turn c.loop-place.lanes c.loop-place.place _ c.turn_of.new.lane c.loop-place.sites c.turn_of.new.sites
           found c.turn_of.ensures.turns)),
       places_step (λ k. CountsTurn) c.args.lanes.now c.loop-place.lanes c.loop-place.place _ c.turn_of.new.lane
-          (omega (arith, c.loop-place-test.true, c.loop-place.invariant.4.size)) found c.in_ok-turn_of.ensures.counted
+          (omega (arith, c.loop-place-test.true, c.loop-place.invariant.4.size)) found c.in_ok-idle.ensures.counted
           c.loop-place.invariant.4,
-      λ h. c.in_ok-turn_of.ensures.short (c.loop-place.invariant.5 h),
+      λ h. c.in_ok-idle.ensures.short (c.loop-place.invariant.5 h),
     )
 
 pub returns-clause-counted : goal.returns-clause-counted

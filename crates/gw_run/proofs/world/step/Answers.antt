@@ -10,7 +10,7 @@ returns-then-not-is_multiple-clause-made g c = c.in_ok-make_bits.ensures.made
 pub returns-clause-made : goal.returns-clause-made
 returns-clause-made g c =
     made_turns c.args.bits (c.args.bit + 1) c.make_bits.new.sites c.make_turns.new.sites
-    c.in_ok-make_turns.ensures.segments
+    c.in_ok-idle.ensures.segments
     c.in_ok-make_bits.ensures.made
 
 pub returns-then-not-is_multiple-clause-keeps : goal.returns-then-not-is_multiple-clause-keeps
@@ -19,7 +19,7 @@ returns-then-not-is_multiple-clause-keeps g c = c.in_ok-make_bits.ensures.keeps 
 pub returns-clause-keeps : goal.returns-clause-keeps
 returns-clause-keeps g c =
     sites-on c.args.lanes.now c.args.sites.now c.make_bits.new.sites c.make_turns.new.sites
-    (c.in_ok-make_bits.ensures.keeps c.args.lanes.now) c.in_ok-make_turns.ensures.keeps
+    (c.in_ok-make_bits.ensures.keeps c.args.lanes.now) c.in_ok-idle.ensures.keeps
 
 pub returns-then-not-is_multiple-clause-turned : goal.returns-then-not-is_multiple-clause-turned
 returns-then-not-is_multiple-clause-turned g c =
@@ -34,9 +34,9 @@ pub returns-clause-turned : goal.returns-clause-turned
 returns-clause-turned g c =
     turned_once c.args.turn c.args.bit c.args.lanes.now c.make_turns.new.lanes c.requires.turn
     (omega (arith, c.requires.still, c.requires.few))
-    (omega (arith, c.is_multiple.ensures.yes c.if-not-is_multiple.false)) c.in_ok-make_turns.ensures.counted
+    (omega (arith, c.is_multiple.ensures.yes c.if-not-is_multiple.false)) c.in_ok-idle.ensures.counted
     c.requires.turned
 
 pub returns-clause-short : goal.returns-clause-short
-returns-clause-short g c = λ h. c.in_ok-make_turns.ensures.short
+returns-clause-short g c = λ h. c.in_ok-idle.ensures.short
     (short_bits c.args.sites.now c.make_bits.new.sites c.in_ok-make_bits.ensures.moves h)

@@ -1,0 +1,183 @@
+-- Stretches of bits at which all segments idle.
+use Rattle.std.proofs.Common.{◌≡◌, ℕ, ◌+◌, ◌-◌, ◌/◌, ◌<◌, ◌≤◌, Some, List, length, slice_get, refl, sym, ap, subst}
+use Rattle.std.proofs.Common.{arith, ◌∙◌}
+use Rattle.std.proofs.Math.Nat.{div-le_self, div-mul-le_self}
+use Rattle.std.proofs.lemmas.Nat.{le-div}
+use Rattle.std.proofs.lemmas.Option.{slice_get_within}
+use Rattle.bx_core.specs.PlainMail.{core_of}
+use Rattle.bx_core.specs.Stands.{RouteStands}
+use Rattle.can_station.specs.Places.{AtPlaces}
+use Rattle.can_station.proofs.Places.{same_some, some_there}
+use Rattle.gw_route.specs.Plans.{FromPlan}
+use Rattle.gw_route.specs.RouteHand.{HandValue, IsLinked, LogsReleased, hand_value}
+use Rattle.gw_route.specs.Turn.{idled}
+use Rattle.gw_opening.specs.declared.lane.Lane.{Lane}
+use Rattle.gw_opening.specs.Places.{IsAt, slot_of}
+use Rattle.gw_run.specs.Ports.{Site}
+use Rattle.gw_run.specs.Sites.{SiteIdles, SiteMoves}
+use Rattle.gw_run.specs.Worlds.{HaveMade, HaveMadeUpTo, HaveTurned, LaneIdles, LaneKeeps, LanesKeep, Leads}
+use Rattle.gw_run.specs.Worlds.{MayIdle, WorldHolds}
+use Rattle.gw_run.proofs.Ahead.{ahead_up, idles_not, idles_on}
+
+-- of some segments that made so many bits, or fewer, none made more than as many
+pub made_up_to : (bits made most : ℕ) (sites : List Site) → made ≤ most → HaveMade bits made sites →
+    HaveMadeUpTo bits most sites
+made_up_to bits made most sites less h =
+    record { of_bits = h.of_bits; ahead = λ i site e. (made, less, h.ahead i site e) }
+
+-- bits of one segment
+idles_up : (until more : ℕ) (a b : Site) → until ≤ more → SiteIdles until a b → SiteIdles more a b
+idles_up until more a b less h = record {
+  moves = h.moves;
+  ports_are = h.ports_are;
+  ahead = ahead_up until more b.segment less h.ahead;
+  longer = h.longer;
+  at_most = λ bits least before. h.at_most bits (omega (arith, less, least)) before;
+}
+
+-- and of all: none so far,
+pub idle_start : (made : ℕ) (sites : List Site) → MayIdle made sites → AtPlaces (λ i. SiteIdles (made + 1)) sites sites
+idle_start made sites may = record {
+  at = λ i a b p q.
+      let h = may i a p in
+      subst (SiteIdles (made + 1) a) (same_some a b (sym p ∙ q))
+      (idles_not (made + 1) a h.holds (ahead_up made (made + 1) a.segment (omega arith) h.ahead));
+  size = refl;
+}
+
+-- more may follow,
+pub may_idle_on : (made until : ℕ) (old new : List Site) → MayIdle made old → AtPlaces (λ i. SiteIdles until) old new →
+    MayIdle until new
+may_idle_on made until old new may idle i site e =
+    let before = some_there old i (let within = slice_get_within new i site e in omega (arith, within, idle.size)) in
+    let h = idle.at i before.0 site before.1 e in
+    record {
+      holds = h.moves.holds;
+      waits = λ k port there. (may i before.0 before.1).waits k port
+          (ap (λ ports. slice_get ports.items k) (sym h.ports_are) ∙ there);
+      ahead = h.ahead;
+    }
+
+-- and were more
+pub idle_both : (until : ℕ) (old mid new : List Site) → AtPlaces (λ i. SiteIdles until) old mid →
+    AtPlaces (λ i. SiteIdles until) mid new → AtPlaces (λ i. SiteIdles until) old new
+idle_both until old mid new first next = record {
+  at = λ i a c p r.
+      let b = some_there mid i (let within = slice_get_within old i a p in omega (arith, within, first.size)) in
+      idles_on until until a b.0 c (omega arith) (first.at i a b.0 p b.1) (next.at i b.0 c b.1 r);
+  size = next.size ∙ first.size;
+}
+
+pub idle_up : (until : ℕ) (old new : List Site) → AtPlaces (λ i. SiteIdles until) old new →
+    AtPlaces (λ i. SiteIdles (until + 1)) old new
+idle_up until old new h =
+    record { at = λ i a b p q. idles_up until (until + 1) a b (omega arith) (h.at i a b p q); size = h.size }
+
+pub idle_moves : (until : ℕ) (old new : List Site) → AtPlaces (λ i. SiteIdles until) old new →
+    AtPlaces (λ i. SiteMoves) old new
+idle_moves until old new h = record { at = λ i a b p q. (h.at i a b p q).moves; size = h.size }
+
+pub idle_made : (bits made until : ℕ) (old new : List Site) → until ≤ bits → HaveMade bits made old →
+    AtPlaces (λ i. SiteIdles until) old new → HaveMadeUpTo bits until new
+idle_made bits made until old new few h idle = record {
+  of_bits = record {
+    plans = λ i site e.
+        let before = some_there old i (let within = slice_get_within new i site e in omega (arith, within, idle.size))
+        in
+        ap (λ p. p.bits) (idle.at i before.0 site before.1 e).moves.plan_is ∙ h.of_bits.plans i before.0 before.1;
+    at_most = λ i site e.
+        let before = some_there old i (let within = slice_get_within new i site e in omega (arith, within, idle.size))
+        in
+        (idle.at i before.0 site before.1 e).at_most bits few (h.of_bits.at_most i before.0 before.1);
+  };
+  ahead = λ i site e.
+      let before = some_there old i (let within = slice_get_within new i site e in omega (arith, within, idle.size)) in
+      (idle.at i before.0 site before.1 e).ahead;
+}
+
+-- idle turns change nothing but their count
+linked_on : (stands : _) (more : ℕ) (h : HandValue) → IsLinked stands h → IsLinked stands (idled more h)
+linked_on stands more h l = (l.0, l.1, record {
+  log = l.2.log;
+  one_hand = l.2.one_hand;
+  tickets_is = l.2.tickets_is;
+  limit = l.2.limit;
+  ended = l.2.ended;
+  asked = l.2.asked;
+  known = l.2.known;
+})
+
+idles_keeps : (more : ℕ) (old new : Lane) → LaneIdles more old new → LaneKeeps old new
+idles_keeps more old new h = record {
+  source_is = h.source_is;
+  fifo_is = h.fifo_is;
+  target_is = h.target_is;
+  number_is = h.number_is;
+  queue_is = h.queue_is;
+  rewrites_is = h.rewrites_is;
+  plan = λ planned p. subst (FromPlan planned) (sym h.hand_is)
+      (record { done = p.done; all = p.all; logged = p.logged });
+}
+
+pub lanes_idled : (more : ℕ) (old new : List Lane) → AtPlaces (λ k. LaneIdles more) old new → LanesKeep old new
+lanes_idled more old new h =
+    record { at = λ k a b p q. idles_keeps more a b (h.at k a b p q); size = h.size }
+
+leads_idled : (more : ℕ) (sites : List Site) (old new : Lane) → LaneIdles more old new → Leads sites old →
+    Leads sites new
+leads_idled more sites old new h l = record {
+  to = l.to;
+  to_is = subst (λ place. IsAt sites place l.to) (sym h.target_is) l.to_is;
+  holds = record {
+    in_range = subst (λ n. n < length (core_of l.to.mail).routes) (sym h.number_is) l.holds.in_range;
+    linked = subst (λ n. IsLinked (RouteStands (core_of l.to.mail) n) (hand_value new.hand)) (sym h.number_is)
+        (subst (IsLinked (RouteStands (core_of l.to.mail) old.number)) (sym h.hand_is)
+        (linked_on (RouteStands (core_of l.to.mail) old.number) more (hand_value old.hand) l.holds.linked));
+  };
+  from = l.from;
+  from_is = subst (λ place. IsAt sites place l.from) (sym h.source_is) l.from_is;
+  takes = record {
+    intake = l.takes.intake;
+    slot_is = ap (slot_of l.from) h.fifo_is ∙ l.takes.slot_is;
+    queue_is = l.takes.queue_is ∙ sym h.queue_is;
+  };
+  log = subst LogsReleased (sym h.hand_is) l.log;
+}
+
+pub world_idled : (more : ℕ) (sites : List Site) (old new : List Lane) → AtPlaces (λ k. LaneIdles more) old new →
+    WorldHolds sites old → WorldHolds sites new
+world_idled more sites old new h w = record {
+  each_site = w.each_site;
+  each_lane = λ k lane e.
+      let before = before_of k lane e in
+      leads_idled more sites before.0 lane (h.at k before.0 lane before.1 e) (w.each_lane k before.0 before.1);
+  apart = λ i j a b ne ea eb targets numbers.
+      let x = before_of i a ea in
+      let y = before_of j b eb in
+      let hx = h.at i x.0 a x.1 ea in
+      let hy = h.at j y.0 b y.1 eb in
+      w.apart i j x.0 y.0 ne x.1 y.1 (sym hx.target_is ∙ targets ∙ hy.target_is)
+      (sym hx.number_is ∙ numbers ∙ hy.number_is);
+}
+  where
+    before_of : (k : ℕ) (lane : Lane) → slice_get new k ≡ Some lane → (b : Lane) × (slice_get old k ≡ Some b)
+    before_of k lane e =
+        some_there old k (let within = slice_get_within new k lane e in omega (arith, within, h.size))
+
+-- how many turns are made behind so many bits, and behind more
+fewer-turns : (turn made next : ℕ) → 0 < turn → made ≤ next → made / turn ≤ next / turn
+fewer-turns turn made next some less = le-div (made / turn) next turn some
+    (let low = div-mul-le_self made turn in omega (arith, low, less))
+
+pub few_turned : (turn made next : ℕ) (lanes : List Lane) → 0 < turn → made ≤ next → next < 1000000 →
+    HaveTurned turn made lanes → (k : ℕ) (lane : Lane) → slice_get lanes k ≡ Some lane →
+    lane.hand.turns + (next / turn - made / turn) ≤ 1000000
+few_turned turn made next lanes some less few h k lane e =
+    omega (arith, h k lane e, fewer-turns turn made next some less, div-le_self next turn, few)
+
+pub idle_turned : (turn made next : ℕ) (old new : List Lane) → 0 < turn → made ≤ next →
+    AtPlaces (λ k. LaneIdles (next / turn - made / turn)) old new → HaveTurned turn made old → HaveTurned turn next new
+idle_turned turn made next old new some less idle h k lane e =
+    let before = some_there old k (let within = slice_get_within new k lane e in omega (arith, within, idle.size)) in
+    let is = ap (λ v. v.turns) (idle.at k before.0 lane before.1 e).hand_is in
+    omega (arith, is, h k before.0 before.1, fewer-turns turn made next some less)

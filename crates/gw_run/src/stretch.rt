@@ -1,0 +1,125 @@
+//! Stretches of bits at which all segments idle, and no route has anything to do.
+
+ghost use Rattle.std.specs.Prelude.{◌≡◌, ◌<◌, ◌≤◌, ◌+◌, ℕ, List, Some, true, slice_get};
+ghost use Rattle.can_station.specs.Places.{AtPlaces};
+ghost use Rattle.gw_opening.specs.declared.lane.Lane.{Lane};
+ghost use Rattle.gw_run.specs.Ports.{NoneWaits, Site};
+ghost use Rattle.gw_run.specs.Sites.{SiteIdles};
+ghost use Rattle.gw_run.specs.Worlds.{AllWait, HaveMade, HaveMadeUpTo, HaveTurned, LaneIdles, LanesKeep};
+ghost use Rattle.gw_run.specs.Worlds.{MayIdle, NoneShort, SitesKeep, WorldHolds};
+
+use crate::port::Site;
+use crate::site::{none_waits, rest_on};
+use gw_opening::Lane;
+
+/// Whether no request waits for any controller.
+fn none_waits_anywhere(sites: &[Site]) -> bool
+    ensures { result ≡ true → (i : ℕ) (site : Site) → slice_get sites.now i ≡ Some site
+        → NoneWaits site.ports.items }
+{
+    for site in sites {
+        if !none_waits(site.ports.as_slice()) {
+            return false;
+        }
+    }
+    true
+}
+
+/// Whether each of these routes waits for a frame.
+fn all_wait(lanes: &[Lane]) -> bool
+    ensures { result ≡ true → AllWait lanes.now }
+{
+    for lane in lanes {
+        if !lane.hand.waits_for_frame() {
+            return false;
+        }
+    }
+    true
+}
+
+/// So many turns of each of these routes at which it has nothing to do.
+fn idle_lanes(lanes: &mut [Lane], more: u32)
+    requires waits { AllWait lanes.old }
+    requires few { (k : ℕ) (lane : Lane) → slice_get lanes.old k ≡ Some lane → lane.hand.turns + more ≤ 1000000 }
+    ensures { AtPlaces (λ k. LaneIdles more) lanes.old lanes.new }
+{
+    for place in 0..lanes.len() {
+        lanes[place].hand.idle(more);
+    }
+}
+
+/// Bits of an idle bus of each segment until it has made so many, where it idles. Whether each has made so many then.
+fn all_rest_on(sites: &mut [Site], until: u64) -> bool
+    requires { MayIdle until sites.old }
+    ensures { AtPlaces (λ i. SiteIdles until) sites.old sites.new }
+{
+    let mut all = true;
+    for place in 0..sites.len() {
+        all &= rest_on(&mut sites[place], until);
+    }
+    all
+}
+
+/// Bits of all segments, one after another, as long as each idles or is ahead, up to so many in all: how many all have
+/// made then.
+fn rest_until(sites: &mut [Site], made: u64, last: u64) -> u64
+    requires may { MayIdle made sites.old }
+    requires less { made ≤ last }
+    requires fits { last < 18446744073709551615 }
+    ensures idle { AtPlaces (λ i. SiteIdles (result + 1)) sites.old sites.new }
+    ensures least { made ≤ result }
+    ensures most { result ≤ last }
+{
+    let mut made = made;
+    while made < last {
+        if !all_rest_on(sites, made + 1) {
+            return made;
+        }
+        made += 1;
+    }
+    made
+}
+
+/// Whether nothing is to be done: the last turns were idle, each route waits for a frame, and no request for any
+/// controller.
+fn nothing_waits(sites: &[Site], lanes: &[Lane], idle: bool) -> bool
+    ensures lanes { result ≡ true → AllWait lanes.now }
+    ensures sites { result ≡ true → (i : ℕ) (site : Site) → slice_get sites.now i ≡ Some site
+        → NoneWaits site.ports.items }
+{
+    idle && all_wait(lanes) && none_waits_anywhere(sites)
+}
+
+/// A stretch of bits at which all segments idle or are ahead, and the turns behind them, where each route waits for a
+/// frame, the last turns were idle, and no request waits for any controller: so none of these turns has anything to do.
+/// How many bits are made then, and one is left to make; some segments may have made one more.
+pub(crate) fn stretch(
+    sites: &mut [Site],
+    lanes: &mut [Lane],
+    idle: bool,
+    bits: u64,
+    made: u64,
+    turn: u64,
+) -> u64
+    requires world { WorldHolds sites.old lanes.old }
+    requires made { HaveMade bits made sites.old }
+    requires turned { HaveTurned turn made lanes.old }
+    requires still { made < bits }
+    requires few { bits ≤ 1000000 }
+    requires turn { 0 < turn }
+    ensures world { WorldHolds sites.new lanes.new }
+    ensures made { HaveMadeUpTo bits (result + 1) sites.new }
+    ensures turned { HaveTurned turn result lanes.new }
+    ensures short { NoneShort sites.old → NoneShort sites.new }
+    ensures lanes { LanesKeep lanes.old lanes.new }
+    ensures keeps { SitesKeep lanes.old sites.old sites.new }
+    ensures least { made ≤ result }
+    ensures still { result < bits }
+{
+    if !nothing_waits(sites, lanes, idle) {
+        return made;
+    }
+    let next = rest_until(sites, made, bits - 1);
+    idle_lanes(lanes, (next / turn - made / turn) as u32);
+    next
+}
