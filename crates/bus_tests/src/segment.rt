@@ -148,6 +148,14 @@ fn make_quiet_bits<R, P: RxSink<R>>(_rt: &R, segment: &mut Segment, ports: &[P],
     segment.quiet_bits(limit);
 }
 
+/// Makes bits of an idle bus, up to so many in all.
+fn make_idle_bits<R, P: RxSink<R>>(_rt: &R, segment: &mut Segment, ports: &[P], limit: u64)
+    requires { Fit P.transmitting segment.old ports.now }
+    ensures { Fit P.transmitting segment.new ports.now }
+{
+    segment.idle_bits(limit);
+}
+
 /// Makes a bit, and behind it those that need no port, unless there are so many already: whether it made any.
 fn make_more<R, P: RxSink<R>>(
     rt: &R,

@@ -4,3 +4,4 @@ pub mod Matches
 pub mod Turns
 pub mod Sublists
 pub mod Plans
+pub mod Idles

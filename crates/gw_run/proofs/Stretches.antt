@@ -10,7 +10,7 @@ use Rattle.can_station.specs.Places.{AtPlaces}
 use Rattle.can_station.proofs.Places.{same_some, some_there}
 use Rattle.gw_route.specs.Plans.{FromPlan}
 use Rattle.gw_route.specs.RouteHand.{HandValue, IsLinked, LogsReleased, hand_value}
-use Rattle.gw_route.specs.Turn.{idled}
+use Rattle.gw_route.proofs.Idles.{linked_idled, planned_idled}
 use Rattle.gw_opening.specs.declared.lane.Lane.{Lane}
 use Rattle.gw_opening.specs.Places.{IsAt, slot_of}
 use Rattle.gw_run.specs.Ports.{Site}
@@ -95,18 +95,7 @@ idle_made bits made until old new few h idle = record {
       (idle.at i before.0 site before.1 e).ahead;
 }
 
--- idle turns change nothing but their count
-linked_on : (stands : _) (more : ℕ) (h : HandValue) → IsLinked stands h → IsLinked stands (idled more h)
-linked_on stands more h l = (l.0, l.1, record {
-  log = l.2.log;
-  one_hand = l.2.one_hand;
-  tickets_is = l.2.tickets_is;
-  limit = l.2.limit;
-  ended = l.2.ended;
-  asked = l.2.asked;
-  known = l.2.known;
-})
-
+-- what idle turns keep of a route
 idles_keeps : (more : ℕ) (old new : Lane) → LaneIdles more old new → LaneKeeps old new
 idles_keeps more old new h = record {
   source_is = h.source_is;
@@ -115,8 +104,8 @@ idles_keeps more old new h = record {
   number_is = h.number_is;
   queue_is = h.queue_is;
   rewrites_is = h.rewrites_is;
-  plan = λ planned p. subst (FromPlan planned) (sym h.hand_is)
-      (record { done = p.done; all = p.all; logged = p.logged });
+  plan = λ planned p.
+      subst (FromPlan planned) (sym h.hand_is) (planned_idled planned more (hand_value old.hand) p);
 }
 
 pub lanes_idled : (more : ℕ) (old new : List Lane) → AtPlaces (λ k. LaneIdles more) old new → LanesKeep old new
@@ -132,7 +121,7 @@ leads_idled more sites old new h l = record {
     in_range = subst (λ n. n < length (core_of l.to.mail).routes) (sym h.number_is) l.holds.in_range;
     linked = subst (λ n. IsLinked (RouteStands (core_of l.to.mail) n) (hand_value new.hand)) (sym h.number_is)
         (subst (IsLinked (RouteStands (core_of l.to.mail) old.number)) (sym h.hand_is)
-        (linked_on (RouteStands (core_of l.to.mail) old.number) more (hand_value old.hand) l.holds.linked));
+        (linked_idled (RouteStands (core_of l.to.mail) old.number) more (hand_value old.hand) l.holds.linked));
   };
   from = l.from;
   from_is = subst (λ place. IsAt sites place l.from) (sym h.source_is) l.from_is;

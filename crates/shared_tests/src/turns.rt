@@ -1,4 +1,4 @@
-ghost use Rattle.std.specs.Prelude.{◌≡◌, ◌<◌, IfOk, length};
+ghost use Rattle.std.specs.Prelude.{◌≡◌, ◌<◌, ◌≤◌, IfOk, length};
 ghost use Rattle.bx_core.specs.PlainMail.{core_of};
 ghost use Rattle.bx_core.specs.RouteTx.{no_route_past};
 ghost use Rattle.bx_core.specs.Stands.{RouteStands};
@@ -39,6 +39,19 @@ fn turns<R: Wait>(rt: &R, hand: &mut RouteHand, mail: &mut PlainMail) -> Result<
     hand.turn(rt, &mut side, &mut NoGate)
 }
 
+/// So many idle turns of a hand that waits for a frame and made none yet.
+fn idle(hand: &mut RouteHand, mail: &PlainMail, more: u32)
+    requires few { more ≤ 1000 }
+    requires linked { IsLinked (RouteStands (core_of mail.now) 0) (hand_value hand.old) }
+    ensures linked { IsLinked (RouteStands (core_of mail.now) 0) (hand_value hand.new) }
+{
+    let _ = mail;
+    if !hand.waits_for_frame() || hand.turns != 0 {
+        return;
+    }
+    hand.idle(more);
+}
+
 #[test]
 fn a_frame_is_released_and_requested(rt: HostRuntime) -> Result<(), Fail> {
     let (mut rxin, rxout) = RxFifo::pair(rt.alloc())?;
@@ -77,6 +90,29 @@ fn a_refused_frame_waits_until_an_abort(rt: HostRuntime) -> Result<(), Fail> {
     assert!(rt; hand.log.aborted.as_slice() == [2].as_slice());
     assert_eq!(rt; turns(&rt, &mut hand, &mut mail), Ok(TurnAnswer::Requested));
     assert!(rt; mail.core().waiting(0).as_slice() == [1, 3, 4].as_slice());
+    Ok(())
+}
+
+/// Before its number is given out an abort doesn't come due, so that a hand waits for a frame, and idle turns may be
+/// counted at once; from then on it may.
+#[test]
+fn idle_turns_are_counted_at_once(rt: HostRuntime) -> Result<(), Fail> {
+    let (mut rxin, rxout) = RxFifo::pair(rt.alloc())?;
+    let mut mail = PlainMail::new(rt.alloc(), 1);
+    let mut aborts = Vec::new(rt.alloc());
+    aborts.push(RouteAbort { number: 1, turn: 9 })?;
+    let mut hand = RouteHand::new(rt.alloc(), rxout, aborts, ArrayVec::new());
+    assert!(rt; hand.waits_for_frame());
+    idle(&mut hand, &mail, 5);
+    assert_eq!(rt; hand.turns, 5);
+    let frame = data(5)?;
+    rxin.offer(&rt, received(frame));
+    assert_eq!(rt; turns(&rt, &mut hand, &mut mail), Ok(TurnAnswer::Requested));
+    assert!(rt; !hand.waits_for_frame());
+    assert_eq!(rt; turns(&rt, &mut hand, &mut mail), Ok(TurnAnswer::Idle));
+    assert_eq!(rt; turns(&rt, &mut hand, &mut mail), Ok(TurnAnswer::Idle));
+    assert_eq!(rt; turns(&rt, &mut hand, &mut mail), Ok(TurnAnswer::AbortDone));
+    assert!(rt; hand.log.aborted.as_slice() == [1].as_slice());
     Ok(())
 }
 

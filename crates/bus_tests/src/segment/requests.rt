@@ -3,7 +3,7 @@
 ghost use Rattle.std.specs.Prelude.{◌≡◌, ◌≤◌, All, None, IfSome, length};
 ghost use Rattle.bx_core.specs.PlainMail.{core_of, sending};
 
-use super::{Port, completed, data_frame, make_bits, plan_of, started, talker, took};
+use super::{Port, completed, data_frame, make_bits, make_idle_bits, plan_of, started, talker, took};
 use bx_core::{NoGate, PlainMail, PlainRoute, RouteTx, Sent};
 use can_frame::{Frame, Id};
 use can_segment::{Controller, Event, Label, Record, SegFault, Segment, SegmentPlan, Told};
@@ -87,6 +87,75 @@ fn a_request_is_sent_and_a_frame_is_taken(rt: HostRuntime) -> Result<(), Fail> {
     );
     assert_eq!(rt; ports[0].taken, 1);
     assert!(rt; ports[0].mail.core().waiting(0).is_empty());
+    Ok(())
+}
+
+/// What the segment of a plan records over all its bits, the bits from this one up to that one made as such of an idle
+/// bus; its only controller has this port.
+fn recorded_idle(
+    alloc: Global,
+    plan: SegmentPlan,
+    ports: &mut [Port],
+    from: u64,
+    until: u64,
+) -> Result<Record, SegFault>
+    requires one { length plan.controllers.items ≡ 1 }
+    requires few { length plan.talkers.items ≤ 15 }
+    requires port { length ports.old ≡ 1 }
+    requires idle { All (λ port. sending (core_of port.mail) ≡ None) ports.old }
+{
+    let bits = plan.bits;
+    match Segment::new(alloc, plan) {
+        Ok(mut segment) => {
+            make_bits(&(), &mut segment, ports, from)?;
+            make_idle_bits(&(), &mut segment, ports, until);
+            let made = segment.record().levels.len() as u64;
+            make_bits(&(), &mut segment, ports, bits.saturating_sub(made))?;
+            Ok(segment.into_record())
+        }
+        Err(fault) => Err(fault),
+    }
+}
+
+/// Behind the eleven recessive bits that its nodes wait for, a bus stays idle as long as no controller is asked; what
+/// waits there begins at the next bit at which it is.
+#[test]
+fn an_idle_bus_stays_so_until_a_port_is_asked(rt: HostRuntime) -> Result<(), Fail> {
+    let frame = data_frame()?;
+    let mut plan = plan_of(rt.alloc(), 91);
+    plan.talkers.push(talker(rt.alloc(), 0, frame, 0)?)?;
+    plan.controllers.push(Controller { on: 0 })?;
+    if plan.talkers.len() != 1 || plan.controllers.len() != 1 {
+        return Err(SegFault::Ended.into());
+    }
+    let Some(port) = port_with(rt.alloc(), frame) else {
+        return Err(SegFault::Memory.into());
+    };
+    let mut ports = [port];
+    let record = recorded_idle(rt.alloc(), plan, &mut ports, 11, 40)?;
+    let label = Some(Label {
+        route: 0,
+        number: 1,
+    });
+    assert_eq!(rt; record.levels.len(), 91);
+    assert!(rt; record.levels.as_slice()[..40].iter().all(|level| *level));
+    assert!(rt;
+        record.events.as_slice()
+            == [
+                Event::new(40, 1, Told::Started { frame, label }),
+                took(88, 0, 40, frame),
+                Event::new(
+                    89,
+                    1,
+                    Told::Completed {
+                        start: 40,
+                        frame,
+                        label
+                    }
+                ),
+            ]
+            .as_slice()
+    );
     Ok(())
 }
 
