@@ -193,6 +193,28 @@ fn make_all<R, P: RxSink<R>>(
     Ok(calls)
 }
 
+/// Makes so many bits in all, those of an idle bus many at once: how many of them weren't such.
+fn make_all_idle<R, P: RxSink<R>>(
+    rt: &R,
+    segment: &mut Segment,
+    ports: &mut [P],
+    bits: u64,
+) -> Result<u64, SegFault>
+    requires { Fit P.transmitting segment.old ports.old }
+    ensures { Fit P.transmitting segment.new ports.new }
+{
+    let mut calls = 0u64;
+    for _ in 0..bits {
+        make_idle_bits(rt, segment, ports, bits);
+        if segment.record().levels.len() as u64 >= bits {
+            return Ok(calls);
+        }
+        make_bit(rt, segment, ports)?;
+        calls = calls.saturating_add(1);
+    }
+    Ok(calls)
+}
+
 /// A segment of talkers, which has no port.
 fn segment_of(alloc: Global, plan: SegmentPlan) -> Result<Segment, Fail>
     ensures { IfOk result (λ segment. length segment.sending ≡ 0) }

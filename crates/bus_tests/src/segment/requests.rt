@@ -3,7 +3,9 @@
 ghost use Rattle.std.specs.Prelude.{◌≡◌, ◌≤◌, All, None, IfSome, length};
 ghost use Rattle.bx_core.specs.PlainMail.{core_of, sending};
 
-use super::{Port, completed, data_frame, make_bits, make_idle_bits, plan_of, started, talker, took};
+use super::{
+    Port, completed, data_frame, make_all_idle, make_bits, plan_of, started, talker, took,
+};
 use bx_core::{NoGate, PlainMail, PlainRoute, RouteTx, Sent};
 use can_frame::{Frame, Id};
 use can_segment::{Controller, Event, Label, Record, SegFault, Segment, SegmentPlan, Told};
@@ -90,15 +92,13 @@ fn a_request_is_sent_and_a_frame_is_taken(rt: HostRuntime) -> Result<(), Fail> {
     Ok(())
 }
 
-/// What the segment of a plan records over all its bits, the bits from this one up to that one made as such of an idle
-/// bus; its only controller has this port.
+/// What the segment of a plan records over all its bits, whose only controller has this port, and how many of them were
+/// not made as such of an idle bus.
 fn recorded_idle(
     alloc: Global,
     plan: SegmentPlan,
     ports: &mut [Port],
-    from: u64,
-    until: u64,
-) -> Result<Record, SegFault>
+) -> Result<(Record, u64), SegFault>
     requires one { length plan.controllers.items ≡ 1 }
     requires few { length plan.talkers.items ≤ 15 }
     requires port { length ports.old ≡ 1 }
@@ -107,55 +107,30 @@ fn recorded_idle(
     let bits = plan.bits;
     match Segment::new(alloc, plan) {
         Ok(mut segment) => {
-            make_bits(&(), &mut segment, ports, from)?;
-            make_idle_bits(&(), &mut segment, ports, until);
-            let made = segment.record().levels.len() as u64;
-            make_bits(&(), &mut segment, ports, bits.saturating_sub(made))?;
-            Ok(segment.into_record())
+            let calls = make_all_idle(&(), &mut segment, ports, bits)?;
+            Ok((segment.into_record(), calls))
         }
         Err(fault) => Err(fault),
     }
 }
 
-/// Behind the eleven recessive bits that its nodes wait for, a bus stays idle as long as no controller is asked; what
-/// waits there begins at the next bit at which it is.
+/// Behind the eleven recessive bits that its nodes wait for a bus stays idle where no request waits: then most bits are
+/// made without a look at the ports.
 #[test]
-fn an_idle_bus_stays_so_until_a_port_is_asked(rt: HostRuntime) -> Result<(), Fail> {
+fn bits_of_an_idle_bus_are_made_at_once(rt: HostRuntime) -> Result<(), Fail> {
     let frame = data_frame()?;
-    let mut plan = plan_of(rt.alloc(), 91);
+    let mut plan = plan_of(rt.alloc(), 200);
     plan.talkers.push(talker(rt.alloc(), 0, frame, 0)?)?;
     plan.controllers.push(Controller { on: 0 })?;
     if plan.talkers.len() != 1 || plan.controllers.len() != 1 {
         return Err(SegFault::Ended.into());
     }
-    let Some(port) = port_with(rt.alloc(), frame) else {
-        return Err(SegFault::Memory.into());
-    };
-    let mut ports = [port];
-    let record = recorded_idle(rt.alloc(), plan, &mut ports, 11, 40)?;
-    let label = Some(Label {
-        route: 0,
-        number: 1,
-    });
-    assert_eq!(rt; record.levels.len(), 91);
-    assert!(rt; record.levels.as_slice()[..40].iter().all(|level| *level));
-    assert!(rt;
-        record.events.as_slice()
-            == [
-                Event::new(40, 1, Told::Started { frame, label }),
-                took(88, 0, 40, frame),
-                Event::new(
-                    89,
-                    1,
-                    Told::Completed {
-                        start: 40,
-                        frame,
-                        label
-                    }
-                ),
-            ]
-            .as_slice()
-    );
+    let mail = PlainMail::new(rt.alloc(), 1);
+    let mut ports = [Port { mail, taken: 0 }];
+    let (record, calls) = recorded_idle(rt.alloc(), plan, &mut ports)?;
+    assert!(rt; record.levels.as_slice() == [true; 200].as_slice());
+    assert!(rt; record.events.is_empty());
+    assert!(rt; calls < 20);
     Ok(())
 }
 
