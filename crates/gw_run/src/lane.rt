@@ -1,13 +1,13 @@
 //! A route's turn in one thread.
 
-ghost use Rattle.std.specs.Prelude.{◌≡◌, ◌<◌, List, OnOk, false, length};
+ghost use Rattle.std.specs.Prelude.{◌≡◌, ◌<◌, List, IfOk, OnOk, true, false, length};
 ghost use Rattle.bx_core.specs.PlainMail.{core_of, short_of};
 ghost use Rattle.bx_core.specs.Stands.{RouteStands};
 ghost use Rattle.gw_route.specs.Plans.{FromPlan};
 ghost use Rattle.gw_route.specs.RouteHand.{hand_value, IsLinked, LogsReleased};
 ghost use Rattle.gw_route.specs.Turn.{next_turn};
 ghost use Rattle.gw_route.specs.declared.route_abort.RouteAbort.{RouteAbort};
-ghost use Rattle.gw_run.specs.Lanes.{TurnLeaves};
+ghost use Rattle.gw_run.specs.Lanes.{AskedInVain, TurnLeaves};
 
 use crate::port::Port;
 use bx_core::{NoGate, PlainRoute};
@@ -34,6 +34,7 @@ pub(crate) fn turn_on<R: Wait>(
     ensures plan { (planned : List RouteAbort) → FromPlan planned (hand_value hand.old)
         → FromPlan planned (hand_value hand.new) }
     ensures port { TurnLeaves number port.old port.new }
+    ensures idle { IfOk result (λ idle. idle ≡ true → AskedInVain hand.new) }
 {
     let mut side = PlainRoute {
         mail: &mut port.mail,

@@ -5,7 +5,7 @@ ghost use Rattle.can_station.specs.Places.{AtPlaces};
 ghost use Rattle.gw_opening.specs.declared.lane.Lane.{Lane};
 ghost use Rattle.gw_run.specs.Ports.{NoneWaits, Site};
 ghost use Rattle.gw_run.specs.Sites.{SiteIdles};
-ghost use Rattle.gw_run.specs.Worlds.{AllWait, HaveMade, HaveMadeUpTo, HaveTurned, LaneIdles, LanesKeep};
+ghost use Rattle.gw_run.specs.Worlds.{AllAskedInVain, AllWait, HaveMade, HaveMadeUpTo, HaveTurned, LaneIdles, LanesKeep};
 ghost use Rattle.gw_run.specs.Worlds.{MayIdle, NoneShort, SitesKeep, WorldHolds};
 
 use crate::port::Site;
@@ -103,6 +103,7 @@ pub(crate) fn stretch(
 ) -> u64
     requires world { WorldHolds sites.old lanes.old }
     requires made { HaveMade bits made sites.old }
+    requires asked { idle ≡ true → AllAskedInVain lanes.old }
     requires turned { HaveTurned turn made lanes.old }
     requires still { made < bits }
     requires few { bits ≤ 1000000 }

@@ -1,11 +1,13 @@
 //! All segments and routes of a run.
 
-ghost use Rattle.std.specs.Prelude.{◌≡◌, ◌≢◌, ◌<◌, ◌≤◌, ◌+◌, ◌%◌, ℕ, true, false, List, OnOk, Some, length, slice_get};
+ghost use Rattle.std.specs.Prelude.{◌≡◌, ◌≢◌, ◌<◌, ◌≤◌, ◌+◌, ◌%◌, ℕ, true, false, List, IfOk, OnOk, Some, length};
+ghost use Rattle.std.specs.Prelude.{slice_get};
 ghost use Rattle.can_station.specs.Places.{AtPlaces};
 ghost use Rattle.gw_opening.specs.declared.lane.Lane.{Lane};
 ghost use Rattle.gw_run.specs.Ports.{Site};
 ghost use Rattle.gw_run.specs.Sites.{SiteHolds, SiteMoves};
-ghost use Rattle.gw_run.specs.Worlds.{Leads, LaneTurns, LanesKeep, SitesKeep, WorldHolds};
+ghost use Rattle.gw_run.specs.Lanes.{AskedInVain};
+ghost use Rattle.gw_run.specs.Worlds.{AllAskedInVain, Leads, LaneTurns, LanesKeep, SitesKeep, WorldHolds};
 ghost use Rattle.gw_run.specs.Worlds.{SameSegments, HaveMade, HaveMadeUpTo, CountsTurn, HaveTurned, NoneShort};
 
 use crate::lane::turn_on;
@@ -45,6 +47,7 @@ fn turn_of<R: Wait>(rt: &R, sites: &mut [Site], lane: &mut Lane) -> Result<bool,
     requires { Leads sites.old lane.old }
     ensures turns { LaneTurns sites.old sites.new lane.old lane.new }
     ensures counted { OnOk result (CountsTurn lane.old lane.new) }
+    ensures idle { IfOk result (λ idle. idle ≡ true → AskedInVain lane.new.hand) }
     ensures short { OnOk result (NoneShort sites.old → NoneShort sites.new) }
 {
     let place = lane.target;
@@ -65,6 +68,7 @@ pub(crate) fn make_turns<R: Wait>(
     requires { WorldHolds sites.old lanes.old }
     ensures world { OnOk result (WorldHolds sites.new lanes.new) }
     ensures counted { OnOk result (AtPlaces (λ k. CountsTurn) lanes.old lanes.new) }
+    ensures idle { IfOk result (λ idle. idle ≡ true → AllAskedInVain lanes.new) }
     ensures short { OnOk result (NoneShort sites.old → NoneShort sites.new) }
     ensures segments { OnOk result (SameSegments sites.old sites.new) }
     ensures lanes { OnOk result (LanesKeep lanes.old lanes.new) }
@@ -105,6 +109,7 @@ fn step<R: Wait>(
     ensures world { OnOk result (WorldHolds sites.new lanes.new) }
     ensures made { OnOk result (HaveMade bits (bit + 1) sites.new) }
     ensures turned { OnOk result (HaveTurned turn (bit + 1) lanes.new) }
+    ensures idle { IfOk result (λ idle. idle ≡ true → AllAskedInVain lanes.new) }
     ensures short { OnOk result (NoneShort sites.old → NoneShort sites.new) }
     ensures lanes { OnOk result (LanesKeep lanes.old lanes.new) }
     ensures keeps { OnOk result (SitesKeep lanes.old sites.old sites.new) }

@@ -19,6 +19,7 @@ loop-made-init g c = (
   c.requires.turned,
   (λ h. h),
   omega arith,
+  λ is. absurd (cc is),
 )
 
 pub loop-made-preserved : goal.loop-made-preserved
@@ -39,6 +40,7 @@ loop-made-preserved g c =
       step.turned,
       (λ h. step.short (mid.short (held.5 h))),
       search rules,
+      step.idle,
     )
 
 pub returns-then-is_empty-clause-short : goal.returns-then-is_empty-clause-short

@@ -1,11 +1,18 @@
-use Rattle.std.proofs.Common.{arith}
-use Rattle.std.proofs.lemmas.Option.{slice_get-get_or}
+use Rattle.std.proofs.Common.{◌≡◌, ◌&&◌, Bool, true, false, inl, inr, refl, sym, subst, arith}
+use Rattle.std.proofs.lemmas.Bool.{cases_lt}
+use Rattle.std.proofs.lemmas.Option.{slice_get-get_or, slice_get_within}
 use Rattle.can_station.proofs.Places.{places_start, places_step, places_end}
+use Rattle.gw_opening.specs.declared.lane.Lane.{Lane}
+use Rattle.gw_run.specs.Lanes.{AskedInVain}
 use Rattle.gw_run.specs.Worlds.{CountsTurn}
-use Rattle.gw_run.proofs.WorldTurns.{world_turn}
+use Rattle.gw_run.proofs.WorldTurns.{lane_cases, world_turn}
 use Rattle.gw_run.proofs.Passes.{segments_start, segments_turn, lanes_start, lanes_turn}
 use Rattle.gw_run.proofs.Keeps.{sites-self, sites-on, sites_of_first, sites_turn}
 use Rattle.gw_run.proofs.world.make_turns.Goals as goal
+
+both_true : (a b : Bool) → (a && b) ≡ true → (a ≡ true) × (b ≡ true)
+both_true true b e = (refl, e)
+both_true false b e = absurd (cc e)
 
 pub loop-place-init : goal.loop-place-init
 loop-place-init g c = (
@@ -14,7 +21,8 @@ loop-place-init g c = (
   lanes_start c.args.lanes.now,
   sites-self c.args.lanes.now c.args.sites.now,
   places_start (λ k. CountsTurn) c.args.lanes.now,
-  λ h. h,
+  (λ h. h),
+  λ idle k lane none e. absurd (omega (arith, none)),
 )
 
 pub loop-place-preserved : goal.loop-place-preserved
@@ -35,9 +43,24 @@ loop-place-preserved g c =
       places_step (λ k. CountsTurn) c.args.lanes.now c.loop-place.lanes c.loop-place.place _ c.turn_of.new.lane
           (omega (arith, c.loop-place-test.true, c.loop-place.invariant.4.size)) found c.in_ok-idle.ensures.counted
           c.loop-place.invariant.4,
-      λ h. c.in_ok-idle.ensures.short (c.loop-place.invariant.5 h),
+      (λ h. c.in_ok-idle.ensures.short (c.loop-place.invariant.5 h)),
+      λ is k lane less e.
+          let both = both_true c.loop-place.idle c.in_ok-idle.field-0 is in
+          elim (lane_cases c.loop-place.lanes c.loop-place.place _ c.turn_of.new.lane found k lane e) [
+            | inl here ↦ subst (λ (l : Lane). AskedInVain l.hand) (sym here.1) (c.in_ok-idle.ensures.idle both.1)
+            | inr there ↦ c.loop-place.invariant.6 both.0 k lane
+                (elim (cases_lt k c.loop-place.place) [
+                  | inl below ↦ below
+                  | inr above ↦ absurd (there.0 (omega (arith, above, less)))
+                ]) there.1
+          ],
     )
 
 pub returns-clause-counted : goal.returns-clause-counted
 returns-clause-counted g c = places_end (λ k. CountsTurn) c.args.lanes.now c.loop-place.lanes c.loop-place.place
     (omega (arith, c.loop-place-test.false, c.loop-place.invariant.4.size)) c.loop-place.invariant.4
+
+pub returns-clause-idle : goal.returns-clause-idle
+returns-clause-idle g c is k lane e = c.loop-place.invariant.6 is k lane
+    (let within = slice_get_within c.loop-place.lanes k lane e in
+    let end = c.loop-place-test.false in omega (arith, within, end)) e
