@@ -9,7 +9,7 @@ use Rattle.bx_core.specs.Stands.{RouteStands}
 use Rattle.can_station.specs.Places.{AtPlaces}
 use Rattle.can_station.proofs.Places.{same_some, some_there}
 use Rattle.gw_route.specs.Plans.{FromPlan}
-use Rattle.gw_route.specs.RouteHand.{HandValue, IsLinked, LogsReleased, hand_value}
+use Rattle.gw_route.specs.RouteHand.{IsLinked, LogsReleased, hand_value}
 use Rattle.gw_route.proofs.Idles.{linked_idled, planned_idled}
 use Rattle.gw_opening.specs.declared.lane.Lane.{Lane}
 use Rattle.gw_opening.specs.Places.{IsAt, slot_of}
