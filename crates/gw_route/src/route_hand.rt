@@ -1,7 +1,7 @@
 //! A route's hand.
 ghost use Rattle.std.specs.Prelude.{◌≡◌, ℕ, ◌+◌, ◌<◌, ◌≤◌, ◌↔◌, Bool, List, [], ◌∷◌, ◌++◌, Option, Some, None};
 ghost use Rattle.std.specs.Prelude.{Result, IfOk, OnOk, OnErr, IfSome, IfNone, IsErr, IsTrue, MatchOption, vec_len};
-ghost use Rattle.std.specs.Prelude.{vec_capacity, slice_get, true};
+ghost use Rattle.std.specs.Prelude.{vec_capacity, slice_get, true, false};
 ghost use Rattle.bx_core.specs.declared.answer.Sent.{Sent};
 ghost use Rattle.bx_core.specs.declared.answer.AbortAnswer.{AbortAnswer};
 ghost use Rattle.bx_core.specs.declared.answer.NumberTooLarge.{NumberTooLarge};
@@ -114,13 +114,14 @@ impl RouteHand {
     /// Whether nothing is in the hand, and no abort comes due whatever the count of turns is: the next one, if there is
     /// one, is of a number that wasn't given out. So each turn is idle as long as the FIFO is empty.
     pub fn waits_for_frame(&self) -> bool
-        ensures { result ≡ true → WaitsForFrame (hand_value self.now) }
+        ensures yes { result ≡ true → WaitsForFrame (hand_value self.now) }
+        ensures no { result ≡ false → WaitsForFrame (hand_value self.now) → ⊥ }
     {
         if self.hand.is_some() {
             return false;
         }
         match self.aborts.as_slice().first() {
-            Some(abort) => self.tickets < abort.number,
+            Some(abort) => abort.number == 0 || self.tickets < abort.number,
             None => true,
         }
     }
