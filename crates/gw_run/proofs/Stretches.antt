@@ -41,22 +41,16 @@ idle_start made sites may = record {
   at = λ i a b p q.
       let h = may i a p in
       subst (SiteIdles (made + 1) a) (same_some a b (sym p ∙ q))
-      (idles_not (made + 1) a h.holds (ahead_up made (made + 1) a.segment (omega arith) h.ahead));
+      (idles_not (made + 1) a h.0 (ahead_up made (made + 1) a.segment (omega arith) h.1));
   size = refl;
 }
 
 -- more may follow,
-pub may_idle_on : (made until : ℕ) (old new : List Site) → MayIdle made old → AtPlaces (λ i. SiteIdles until) old new →
-    MayIdle until new
-may_idle_on made until old new may idle i site e =
+pub may_idle_on : (until : ℕ) (old new : List Site) → AtPlaces (λ i. SiteIdles until) old new → MayIdle until new
+may_idle_on until old new idle i site e =
     let before = some_there old i (let within = slice_get_within new i site e in omega (arith, within, idle.size)) in
     let h = idle.at i before.0 site before.1 e in
-    record {
-      holds = h.moves.holds;
-      waits = λ k port there. (may i before.0 before.1).waits k port
-          (ap (λ ports. slice_get ports.items k) (sym h.ports_are) ∙ there);
-      ahead = h.ahead;
-    }
+    (h.moves.holds, h.ahead)
 
 -- and were more
 pub idle_both : (until : ℕ) (old mid new : List Site) → AtPlaces (λ i. SiteIdles until) old mid →

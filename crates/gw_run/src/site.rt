@@ -10,7 +10,7 @@ use gw_site::make_bit;
 use std::sync::Wait;
 
 /// Whether no request waits for any of these controllers: then none is ready, however often they are asked.
-pub(crate) fn none_waits(ports: &[Port]) -> bool
+fn none_waits(ports: &[Port]) -> bool
     ensures { result ≡ true → NoneWaits ports.now }
 {
     for port in ports {
@@ -21,11 +21,10 @@ pub(crate) fn none_waits(ports: &[Port]) -> bool
     true
 }
 
-/// Bits of an idle bus until a segment has made so many, while no request waits for any of its controllers: their ports
+/// Bits of an idle bus until a segment has made so many, where no request waits for any of its controllers: their ports
 /// need not be asked at each of them. Whether it has made so many then, also where it had before.
-pub(crate) fn rest_on(site: &mut Site, until: u64) -> bool
+pub(crate) fn idle_on(site: &mut Site, until: u64) -> bool
     requires holds { SiteHolds site.old.segment site.old.ports.items }
-    requires waits { NoneWaits site.old.ports.items }
     requires ahead { IsAheadUpTo until site.old.segment }
     ensures idles { SiteIdles until site.old site.new }
     ensures far { result ≡ true → until ≤ length site.new.segment.levels }
@@ -34,21 +33,10 @@ pub(crate) fn rest_on(site: &mut Site, until: u64) -> bool
     if until <= site.segment.record().levels.len() as u64 {
         return true;
     }
-    site.segment.idle_bits(until);
-    until <= site.segment.record().levels.len() as u64
-}
-
-/// The same, where no request waits; else no bit.
-fn idle_on(site: &mut Site, until: u64) -> bool
-    requires holds { SiteHolds site.old.segment site.old.ports.items }
-    requires ahead { IsAheadUpTo until site.old.segment }
-    ensures idles { SiteIdles until site.old site.new }
-    ensures far { result ≡ true → until ≤ length site.new.segment.levels }
-    ensures near { result ≡ false → length site.new.segment.levels < until }
-{
-    if none_waits(site.ports.as_slice()) {
-        return rest_on(site, until);
+    if !none_waits(site.ports.as_slice()) {
+        return false;
     }
+    site.segment.idle_bits(until);
     until <= site.segment.record().levels.len() as u64
 }
 

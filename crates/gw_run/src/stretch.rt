@@ -3,27 +3,13 @@
 ghost use Rattle.std.specs.Prelude.{◌≡◌, ◌<◌, ◌≤◌, ◌+◌, ℕ, List, Some, true, slice_get};
 ghost use Rattle.can_station.specs.Places.{AtPlaces};
 ghost use Rattle.gw_opening.specs.declared.lane.Lane.{Lane};
-ghost use Rattle.gw_run.specs.Ports.{NoneWaits, Site};
 ghost use Rattle.gw_run.specs.Sites.{SiteIdles};
 ghost use Rattle.gw_run.specs.Worlds.{AllAskedInVain, AllWait, HaveMade, HaveMadeUpTo, HaveTurned, LaneIdles, LanesKeep};
 ghost use Rattle.gw_run.specs.Worlds.{MayIdle, NoneShort, SitesKeep, WorldHolds};
 
 use crate::port::Site;
-use crate::site::{none_waits, rest_on};
+use crate::site::idle_on;
 use gw_opening::Lane;
-
-/// Whether no request waits for any controller.
-fn none_waits_anywhere(sites: &[Site]) -> bool
-    ensures { result ≡ true → (i : ℕ) (site : Site) → slice_get sites.now i ≡ Some site
-        → NoneWaits site.ports.items }
-{
-    for site in sites {
-        if !none_waits(site.ports.as_slice()) {
-            return false;
-        }
-    }
-    true
-}
 
 /// Whether each of these routes waits for a frame.
 fn all_wait(lanes: &[Lane]) -> bool
@@ -48,21 +34,22 @@ fn idle_lanes(lanes: &mut [Lane], more: u32)
     }
 }
 
-/// Bits of an idle bus of each segment until it has made so many, where it idles. Whether each has made so many then.
-fn all_rest_on(sites: &mut [Site], until: u64) -> bool
+/// Bits of an idle bus of each segment until it has made so many, where it idles and no request waits there. Whether each
+/// has made so many then.
+fn all_idle_on(sites: &mut [Site], until: u64) -> bool
     requires { MayIdle until sites.old }
     ensures { AtPlaces (λ i. SiteIdles until) sites.old sites.new }
 {
     let mut all = true;
     for place in 0..sites.len() {
-        all &= rest_on(&mut sites[place], until);
+        all &= idle_on(&mut sites[place], until);
     }
     all
 }
 
 /// Bits of all segments, one after another, as long as each idles or is ahead, up to so many in all: how many all have
 /// made then.
-fn rest_until(sites: &mut [Site], made: u64, last: u64) -> u64
+fn idle_until(sites: &mut [Site], made: u64, last: u64) -> u64
     requires may { MayIdle made sites.old }
     requires less { made ≤ last }
     requires fits { last < 18446744073709551615 }
@@ -72,7 +59,7 @@ fn rest_until(sites: &mut [Site], made: u64, last: u64) -> u64
 {
     let mut made = made;
     while made < last {
-        if !all_rest_on(sites, made + 1) {
+        if !all_idle_on(sites, made + 1) {
             return made;
         }
         made += 1;
@@ -80,19 +67,16 @@ fn rest_until(sites: &mut [Site], made: u64, last: u64) -> u64
     made
 }
 
-/// Whether nothing is to be done: the last turns were idle, each route waits for a frame, and no request for any
-/// controller.
-fn nothing_waits(sites: &[Site], lanes: &[Lane], idle: bool) -> bool
-    ensures lanes { result ≡ true → AllWait lanes.now }
-    ensures sites { result ≡ true → (i : ℕ) (site : Site) → slice_get sites.now i ≡ Some site
-        → NoneWaits site.ports.items }
+/// Whether no turn has anything to do before a frame comes: the last turns were idle, and each route waits for one.
+fn nothing_waits(lanes: &[Lane], idle: bool) -> bool
+    ensures { result ≡ true → AllWait lanes.now }
 {
-    idle && all_wait(lanes) && none_waits_anywhere(sites)
+    idle && all_wait(lanes)
 }
 
-/// A stretch of bits at which all segments idle or are ahead, and the turns behind them, where each route waits for a
-/// frame, the last turns were idle, and no request waits for any controller: so none of these turns has anything to do.
-/// How many bits are made then, and one is left to make; some segments may have made one more.
+/// A stretch of bits at which each segment is ahead, or idles and no request waits there, and the turns behind them,
+/// where the last turns were idle and each route waits for a frame: so none of these turns has anything to do. How many
+/// bits are made then, and one is left to make; some segments may have made one more.
 pub(crate) fn stretch(
     sites: &mut [Site],
     lanes: &mut [Lane],
@@ -117,10 +101,10 @@ pub(crate) fn stretch(
     ensures least { made ≤ result }
     ensures still { result < bits }
 {
-    if !nothing_waits(sites, lanes, idle) {
+    if !nothing_waits(lanes, idle) {
         return made;
     }
-    let next = rest_until(sites, made, bits - 1);
+    let next = idle_until(sites, made, bits - 1);
     idle_lanes(lanes, (next / turn - made / turn) as u32);
     next
 }

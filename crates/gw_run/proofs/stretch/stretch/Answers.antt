@@ -9,33 +9,30 @@ pub returns-then-not-nothing_waits-clause-made : goal.returns-then-not-nothing_w
 returns-then-not-nothing_waits-clause-made c =
     made_up_to c.args.bits c.args.made (c.args.made + 1) c.args.sites.now (omega arith) c.requires.made
 
-pub rest_until-next-requires-clause-may : goal.rest_until-next-requires-clause-may
-rest_until-next-requires-clause-may c i site e = record {
-  holds = c.requires.world.each_site i site e;
-  waits = c.nothing_waits.ensures.sites c.if-not-nothing_waits.false i site e;
-  ahead = (c.args.made, omega arith, c.requires.made.ahead i site e);
-}
+pub idle_until-next-requires-clause-may : goal.idle_until-next-requires-clause-may
+idle_until-next-requires-clause-may c i site e =
+    (c.requires.world.each_site i site e, (c.args.made, omega arith, c.requires.made.ahead i site e))
 
 pub returns-clause-world : goal.returns-clause-world
 returns-clause-world c =
-    let sites = c.rest_until-next.new.sites in
-    let moves = idle_moves (c.rest_until-next.result + 1) c.args.sites.now sites c.rest_until-next.ensures.idle in
+    let sites = c.idle_until-next.new.sites in
+    let moves = idle_moves (c.idle_until-next.result + 1) c.args.sites.now sites c.idle_until-next.ensures.idle in
     world_idled _ sites c.args.lanes.now c.idle_lanes.new.lanes c.idle_lanes.ensures
     (world_bits c.args.sites.now sites c.args.lanes.now moves c.requires.world)
 
 pub returns-clause-made : goal.returns-clause-made
-returns-clause-made c = idle_made c.args.bits c.args.made (c.rest_until-next.result + 1) c.args.sites.now
-    c.rest_until-next.new.sites (omega (arith, c.rest_until-next.ensures.most, c.requires.still)) c.requires.made
-    c.rest_until-next.ensures.idle
+returns-clause-made c = idle_made c.args.bits c.args.made (c.idle_until-next.result + 1) c.args.sites.now
+    c.idle_until-next.new.sites (omega (arith, c.idle_until-next.ensures.most, c.requires.still)) c.requires.made
+    c.idle_until-next.ensures.idle
 
 pub returns-clause-turned : goal.returns-clause-turned
-returns-clause-turned c = idle_turned c.args.turn c.args.made c.rest_until-next.result c.args.lanes.now
-    c.idle_lanes.new.lanes c.requires.turn c.rest_until-next.ensures.least c.idle_lanes.ensures c.requires.turned
+returns-clause-turned c = idle_turned c.args.turn c.args.made c.idle_until-next.result c.args.lanes.now
+    c.idle_lanes.new.lanes c.requires.turn c.idle_until-next.ensures.least c.idle_lanes.ensures c.requires.turned
 
 pub returns-clause-short : goal.returns-clause-short
-returns-clause-short c = short_bits c.args.sites.now c.rest_until-next.new.sites
-    (idle_moves (c.rest_until-next.result + 1) c.args.sites.now c.rest_until-next.new.sites
-    c.rest_until-next.ensures.idle)
+returns-clause-short c = short_bits c.args.sites.now c.idle_until-next.new.sites
+    (idle_moves (c.idle_until-next.result + 1) c.args.sites.now c.idle_until-next.new.sites
+    c.idle_until-next.ensures.idle)
 
 pub returns-clause-lanes : goal.returns-clause-lanes
 returns-clause-lanes c = lanes_idled _ c.args.lanes.now c.idle_lanes.new.lanes c.idle_lanes.ensures

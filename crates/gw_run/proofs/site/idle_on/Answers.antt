@@ -5,7 +5,7 @@ use Rattle.can_segment.proofs.IdleBits.{left_idle}
 use Rattle.can_segment.specs.QuietBits.MakeQuietBits.{no_bit}
 use Rattle.gw_site.proofs.Sites.{leave-self, site_quietly}
 use Rattle.gw_run.specs.Ports.{BusDid, PortLeaves, on_bus}
-use Rattle.gw_run.proofs.site.rest_on.Goals as goal
+use Rattle.gw_run.proofs.site.idle_on.Goals as goal
 
 pub returns-clause-idles : goal.returns-clause-idles
 returns-clause-idles c =

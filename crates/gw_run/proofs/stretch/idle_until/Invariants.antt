@@ -1,7 +1,7 @@
 use Rattle.std.proofs.Common.{◌+◌, ◌-◌, ◌≤◌}
 use Rattle.can_station.specs.Places.{AtPlaces}
 use Rattle.gw_run.specs.Sites.{SiteIdles}
-use Rattle.gw_run.proofs.stretch.rest_until.Given as goal
+use Rattle.gw_run.proofs.stretch.idle_until.Given as goal
 
 abbrev pub invariant-loop-made : goal.invariant-loop-made
 invariant-loop-made l = AtPlaces (λ i. SiteIdles (l.made + 1)) l.initial.sites l.sites × (l.initial.made ≤ l.made)
