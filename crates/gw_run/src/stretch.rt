@@ -4,8 +4,8 @@ ghost use Rattle.std.specs.Prelude.{◌≡◌, ◌<◌, ◌≤◌, ◌+◌, ℕ,
 ghost use Rattle.can_station.specs.Places.{AtPlaces};
 ghost use Rattle.gw_opening.specs.declared.lane.Lane.{Lane};
 ghost use Rattle.gw_run.specs.Sites.{SiteIdles};
-ghost use Rattle.gw_run.specs.Worlds.{AllAskedInVain, AllWait, HaveMade, HaveMadeUpTo, HaveTurned, LaneIdles, LanesKeep};
-ghost use Rattle.gw_run.specs.Worlds.{MayIdle, NoneShort, SitesKeep, WorldHolds};
+ghost use Rattle.gw_run.specs.Worlds.{AllAskedInVain, AllWait, HaveMade, HaveMadeUpTo, HaveTurned, LaneIdles};
+ghost use Rattle.gw_run.specs.Worlds.{LanesKeep, MayIdle, NoneShort, SitesKeep, WorldHolds};
 
 use crate::port::Site;
 use crate::site::idle_on;
@@ -34,8 +34,8 @@ fn idle_lanes(lanes: &mut [Lane], more: u32)
     }
 }
 
-/// Bits of an idle bus of each segment until it has made so many, where it idles and no request waits there. Whether each
-/// has made so many then.
+/// Bits of an idle bus of each segment until it has made so many, where it idles and no request waits there. Whether
+/// each has made so many then.
 fn all_idle_on(sites: &mut [Site], until: u64) -> bool
     requires { MayIdle until sites.old }
     ensures { AtPlaces (λ i. SiteIdles until) sites.old sites.new }

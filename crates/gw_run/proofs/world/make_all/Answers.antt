@@ -8,7 +8,8 @@ use Rattle.gw_run.proofs.Stretches.{made_up_to}
 use Rattle.gw_run.proofs.world.make_all.Goals as goal
 
 pub make_bits-requires-clause-before : goal.make_bits-requires-clause-before
-make_bits-requires-clause-before g c = made_up_to c.args.bits 0 c.args.bits c.args.sites.now (omega arith) c.requires.made
+make_bits-requires-clause-before g c =
+    made_up_to c.args.bits 0 c.args.bits c.args.sites.now (omega arith) c.requires.made
 
 pub loop-made-init : goal.loop-made-init
 loop-made-init g c = (

@@ -3,8 +3,8 @@ use Rattle.gw_run.specs.Worlds.{AllAskedInVain, WorldHolds, HaveMade, LanesKeep,
 use Rattle.gw_run.proofs.world.make_all.Given as goal
 
 abbrev pub invariant-loop-made : goal.invariant-loop-made
-invariant-loop-made g l = WorldHolds l.sites l.lanes × HaveMade l.bits l.made l.sites × LanesKeep l.initial.lanes l.lanes
-    × SitesKeep l.initial.lanes l.initial.sites l.sites
+invariant-loop-made g l = WorldHolds l.sites l.lanes × HaveMade l.bits l.made l.sites
+    × LanesKeep l.initial.lanes l.lanes × SitesKeep l.initial.lanes l.initial.sites l.sites
     × HaveTurned l.turn l.made l.lanes × (NoneShort l.initial.sites → NoneShort l.sites) × (l.made ≤ l.bits)
     × (l.idle ≡ true → AllAskedInVain l.lanes)
 
