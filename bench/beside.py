@@ -28,6 +28,7 @@ CASES = [
     (f"16 talkers, 90 % load, {FAULTS}", 16, draw.disturbed),
     (f"16 idle talkers, {FAULTS} that change nothing", 16, draw.idle_with_faults),
     ("16 idle controllers with 16 idle routes", 16, draw.gateway),
+    ("3 segments of 4 talkers, 40 % load, with 6 controllers and routes", 18, draw.busy_gateway),
 ]
 
 # of each pair the second has so many times as much

@@ -77,3 +77,19 @@ def gateway(bits, count=16):
         "controllers": [{"name": f"c{place}", "segment": "a", "on": 0, "banks": [ALL]} for place in range(count)],
         "routes": [{"name": f"r{place}", "from": f"c{place}", "fifo": 0, "to": f"c{(place + 1) % count}"}
                    for place in range(count)]}
+
+
+def busy_gateway(bits, count=3, talkers=4, percent=40):
+    """Segments whose talkers want so many of a hundred bits together, and routes from two controllers on each into those
+    of the next segment: each takes a sixteenth of the frames of standard identifiers."""
+    segments, controllers, routes = [], [], []
+    for place in range(count):
+        members = loaded(bits, talkers, percent)["segments"][0]["talkers"]
+        segments.append({"name": f"s{place}",
+                         "talkers": [member | {"name": f"s{place}{member['name']}"} for member in members]})
+        for side in range(2):
+            bank = ALL | {"r1": side << 21, "r2": 15 << 21 | 4}
+            controllers.append({"name": f"c{place}{side}", "segment": f"s{place}", "on": 0, "banks": [bank]})
+            routes.append({"name": f"r{place}{side}", "from": f"c{place}{side}", "fifo": 0,
+                           "to": f"c{(place + 1) % count}{side}"})
+    return {"version": 1, "bits": bits, "segments": segments, "controllers": controllers, "routes": routes}
