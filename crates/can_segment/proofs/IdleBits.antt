@@ -24,7 +24,7 @@ use Rattle.can_segment.specs.Segments.{SegmentValue, sending_of_all}
 use Rattle.can_segment.proofs.Going.{go_quiet, go_samples, go_starts}
 use Rattle.can_segment.proofs.Holds.{through_holds}
 use Rattle.can_segment.proofs.IdleRuns.{asleep_drive, stay_asleep}
-use Rattle.can_segment.proofs.QuietBits.{LeftQuietly, holds_so, kept_so}
+use Rattle.can_segment.proofs.QuietBits.{LeftQuietly, SoFar, both_so_far, holds_so, kept_so, none_so_far}
 use Rattle.can_segment.proofs.QuietRuns.{Between, QuietUntil, value_of}
 use Rattle.can_segment.proofs.Rests.{all_drive, all_quiet, members_sample, real_at, talkers_start}
 use Rattle.can_segment.proofs.SoleSender.{rests_through}
@@ -201,26 +201,20 @@ idle_run plan faults levels events counters (level ∷ made) rest t c last reces
     × MakeIdleBits (value_of plan levels events counters rest c) (value_of plan ls events counters rest c))
     all (more.0, one_idle_bit one.1 more.1)
 
--- idle bits so far, and not too many
-pub record IdleSoFar (old new : SegmentValue) (limit : ℕ) : Type 0 where
-  pub bits : MakeIdleBits old new
-  pub within : length old.levels ≤ limit → length new.levels ≤ limit
-  pub still : length old.levels ≤ old.plan.bits → length new.levels ≤ new.plan.bits
+-- idle bits so far
+abbrev pub IdleSoFar : SegmentValue → SegmentValue → ℕ → Type 0
+IdleSoFar = SoFar MakeIdleBits
 
 pub idle_on : {old mid new : SegmentValue} → MakeIdleBits old mid → MakeIdleBits mid new → MakeIdleBits old new
 idle_on no_idle_bit more = more
 idle_on (one_idle_bit bit bits) more = one_idle_bit bit (idle_on bits more)
 
 pub idle_start : (segment : SegmentValue) (limit : ℕ) → IdleSoFar segment segment limit
-idle_start segment limit = record { bits = no_idle_bit; within = λ h. h; still = λ h. h }
+idle_start segment limit = none_so_far segment limit no_idle_bit
 
 pub idle_both : {old mid new : SegmentValue} {limit : ℕ} → IdleSoFar old mid limit → IdleSoFar mid new limit →
     IdleSoFar old new limit
-idle_both first more = record {
-  bits = idle_on first.bits more.bits;
-  within = λ h. more.within (first.within h);
-  still = λ h. more.still (first.still h);
-}
+idle_both first more = both_so_far idle_on first more
 
 -- what idle bits leave of a segment, whatever its ports are
 pub left_idle : {old new : SegmentValue} → MakeIdleBits old new → LeftQuietly old new

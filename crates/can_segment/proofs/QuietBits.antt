@@ -203,14 +203,31 @@ grown_rests plan faults made next old new t0 t1 c0 c1 h rests =
     (sym (ap length h.levels_is ∙ length-append made.levels.items (h.level ∷ [])))
     (rests_alone plan.talkers.items (length made.levels.items) h.level old new t0 t1 c0 c1 h.sends rests)
 
--- quiet bits so far, and not too many
-pub record QuietSoFar (old new : SegmentValue) (limit : ℕ) : Type 0 where
-  pub bits : MakeQuietBits old new
+-- bits of a kind so far, and not too many
+pub record SoFar (Bits : SegmentValue → SegmentValue → Type 0) (old new : SegmentValue) (limit : ℕ) : Type 0 where
+  pub bits : Bits old new
   pub within : length old.levels ≤ limit → length new.levels ≤ limit
   pub still : length old.levels ≤ old.plan.bits → length new.levels ≤ new.plan.bits
 
+pub none_so_far : {Bits : SegmentValue → SegmentValue → Type 0} (segment : SegmentValue) (limit : ℕ) →
+    Bits segment segment → SoFar Bits segment segment limit
+none_so_far segment limit none = record { bits = none; within = λ h. h; still = λ h. h }
+
+pub both_so_far : {Bits : SegmentValue → SegmentValue → Type 0} {old mid new : SegmentValue} {limit : ℕ} →
+    (Bits old mid → Bits mid new → Bits old new) → SoFar Bits old mid limit → SoFar Bits mid new limit →
+    SoFar Bits old new limit
+both_so_far on first more = record {
+  bits = on first.bits more.bits;
+  within = λ h. more.within (first.within h);
+  still = λ h. more.still (first.still h);
+}
+
+-- quiet bits
+abbrev pub QuietSoFar : SegmentValue → SegmentValue → ℕ → Type 0
+QuietSoFar = SoFar MakeQuietBits
+
 pub quiet_start : (segment : SegmentValue) (limit : ℕ) → QuietSoFar segment segment limit
-quiet_start segment limit = record { bits = no_bit; within = λ h. h; still = λ h. h }
+quiet_start segment limit = none_so_far segment limit no_bit
 
 pub quiet_on : {old mid new : SegmentValue} → MakeQuietBits old mid → MakeQuietBits mid new → MakeQuietBits old new
 quiet_on bits no_bit = bits
@@ -218,11 +235,7 @@ quiet_on bits (one_more more bit) = one_more (quiet_on bits more) bit
 
 pub quiet_both : {old mid new : SegmentValue} {limit : ℕ} → QuietSoFar old mid limit → QuietSoFar mid new limit →
     QuietSoFar old new limit
-quiet_both first more = record {
-  bits = quiet_on first.bits more.bits;
-  within = λ h. more.within (first.within h);
-  still = λ h. more.still (first.still h);
-}
+quiet_both first more = both_so_far quiet_on first more
 
 pub quiet_more : (old mid new : SegmentValue) (limit : ℕ) → MakesQuietBit mid new → length mid.levels < mid.plan.bits →
     length mid.levels < limit → QuietSoFar old mid limit → QuietSoFar old new limit

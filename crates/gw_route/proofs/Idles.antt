@@ -7,6 +7,7 @@ use Rattle.bx_core.specs.declared.answer.NumberTooLarge.{NumberTooLarge}
 use Rattle.bx_core.specs.declared.answer.Sent.{Sent}
 use Rattle.bx_core.specs.declared.answer.Sent.TheVariants.{Yes, NotNow}
 use Rattle.bx_rx.specs.RxOut.{none_given}
+use Rattle.gw_route.proofs.Matches.{matches-counted}
 use Rattle.gw_route.specs.Plans.{FromPlan}
 use Rattle.gw_route.specs.RouteHand.{HandValue, IsLinked, LogMatches}
 use Rattle.gw_route.specs.Turn.{TurnMade, Turned, aborted_answer, counted, idled, requested_answer}
@@ -57,13 +58,5 @@ gave_none old new past next answer (by_abort abort ended asks first due) is = ab
 pub asked_in_vain : (after before : RoutePast → Type 0) (old new : HandValue) → IsLinked before old →
     TurnMade before after old new Idle → new.out ≡ none_given old.out
 asked_in_vain after before old new l made =
-    let acted = made l.0 l.1 (record {
-      log = l.2.log;
-      one_hand = l.2.one_hand;
-      tickets_is = l.2.tickets_is;
-      limit = l.2.limit;
-      ended = l.2.ended;
-      asked = l.2.asked;
-      known = l.2.known;
-    }) in
+    let acted = made l.0 l.1 (matches-counted old l.0 l.2) in
     gave_none (counted old) new l.0 acted.0 Idle acted.2 refl

@@ -1,7 +1,9 @@
 //! Worked cases of a controller that sends requests.
 
-ghost use Rattle.std.specs.Prelude.{◌≡◌, ◌≤◌, All, None, IfSome, length};
+ghost use Rattle.std.specs.Prelude.{◌≡◌, ◌≤◌, All, None, IfOk, IfSome, length};
 ghost use Rattle.bx_core.specs.PlainMail.{core_of, sending};
+ghost use Rattle.can_segment.specs.Segments.{Fit};
+ghost use Rattle.bus_tests.specs.declared.segment.Port.{Port};
 
 use super::{
     Port, completed, data_frame, make_all_idle, make_bits, plan_of, started, talker, took,
@@ -27,6 +29,20 @@ fn port_with(alloc: Global, frame: Frame) -> Option<Port>
     None
 }
 
+/// The segment of a plan whose only controller has this port, which has nothing on the bus yet.
+fn opened(alloc: Global, plan: SegmentPlan, ports: &[Port]) -> Result<Segment, SegFault>
+    requires one { length plan.controllers.items ≡ 1 }
+    requires few { length plan.talkers.items ≤ 15 }
+    requires port { length ports.now ≡ 1 }
+    requires idle { All (λ port. sending (core_of port.mail) ≡ None) ports.now }
+    ensures { IfOk result (λ segment. Fit (λ (port : Port). sending (core_of port.mail)) segment ports.now) }
+{
+    match Segment::new(alloc, plan) {
+        Ok(segment) => Ok(segment),
+        Err(fault) => Err(fault),
+    }
+}
+
 /// What the segment of a plan records over all its bits, whose only controller has this port.
 fn recorded(alloc: Global, plan: SegmentPlan, ports: &mut [Port]) -> Result<Record, SegFault>
     requires one { length plan.controllers.items ≡ 1 }
@@ -35,13 +51,9 @@ fn recorded(alloc: Global, plan: SegmentPlan, ports: &mut [Port]) -> Result<Reco
     requires idle { All (λ port. sending (core_of port.mail) ≡ None) ports.old }
 {
     let bits = plan.bits;
-    match Segment::new(alloc, plan) {
-        Ok(mut segment) => {
-            make_bits(&(), &mut segment, ports, bits)?;
-            Ok(segment.into_record())
-        }
-        Err(fault) => Err(fault),
-    }
+    let mut segment = opened(alloc, plan, ports)?;
+    make_bits(&(), &mut segment, ports, bits)?;
+    Ok(segment.into_record())
 }
 
 /// A talker's frame loses arbitration against a controller's request. The controller's sink is offered the
@@ -105,13 +117,9 @@ fn recorded_idle(
     requires idle { All (λ port. sending (core_of port.mail) ≡ None) ports.old }
 {
     let bits = plan.bits;
-    match Segment::new(alloc, plan) {
-        Ok(mut segment) => {
-            let calls = make_all_idle(&(), &mut segment, ports, bits)?;
-            Ok((segment.into_record(), calls))
-        }
-        Err(fault) => Err(fault),
-    }
+    let mut segment = opened(alloc, plan, ports)?;
+    let calls = make_all_idle(&(), &mut segment, ports, bits)?;
+    Ok((segment.into_record(), calls))
 }
 
 /// Behind the eleven recessive bits that its nodes wait for a bus stays idle where no request waits: then most bits are

@@ -7,6 +7,8 @@ use Rattle.gw_run.proofs.lane.turn_on.Goals as goal
 pub returns-in-Idle-clause-idle : goal.returns-in-Idle-clause-idle
 returns-in-Idle-clause-idle g c is =
     let old = hand_value c.args.hand.now in
-    let new = hand_value c.turn.new.self in
-    (c.args.hand.now.out, asked_in_vain _ _ old new c.requires.linked
-    (subst (TurnMade _ _ old new) c.in-Idle.is c.in_ok-answer.ensures.turned))
+    let new = hand_value c.turn.new.self in (
+      c.args.hand.now.out,
+      asked_in_vain _ _ old new c.requires.linked
+          (subst (TurnMade _ _ old new) c.in-Idle.is c.in_ok-answer.ensures.turned),
+    )

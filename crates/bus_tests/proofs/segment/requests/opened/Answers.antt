@@ -3,10 +3,10 @@ use Rattle.std.proofs.Common.{sym, ap, ◌∙◌}
 use Rattle.std.proofs.lemmas.Option.{slice_get_within, get_or_from_slice_get}
 use Rattle.bx_core.specs.PlainMail.{core_of, sending}
 use Rattle.bus_tests.specs.declared.segment.Port.{Port}
-use Rattle.bus_tests.proofs.segment.requests.recorded.Goals as goal
+use Rattle.bus_tests.proofs.segment.requests.opened.Goals as goal
 
-pub make_bits-requires : goal.make_bits-requires
-make_bits-requires c =
+pub returns-in-Ok : goal.returns-in-Ok
+returns-in-Ok c =
     let ports = c.args.ports.now in
     let opening = c.in-Ok.ensures.ok in
     record {
