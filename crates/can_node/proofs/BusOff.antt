@@ -91,7 +91,8 @@ pub run_more : (state : State) (whole run next : ℕ) (levels : List Bool) (i : 
 run_more state whole run next levels i within few next_is is =
     rw (take_more levels i false within)
     (sym (behind_more state (take i levels) (get_or levels i false)
-    ∙ ap (λ s. out_behind s (get_or levels i false)) (sym is) ∙ run_on whole run next (get_or levels i false) few next_is))
+    ∙ ap (λ s. out_behind s (get_or levels i false)) (sym is)
+    ∙ run_on whole run next (get_or levels i false) few next_is))
 
 -- no more of a run than before, and one
 pub counted_few : (run next : ℕ) (level : Bool) → next ≡ cond level (run + 1) 0 → next ≤ run + 1

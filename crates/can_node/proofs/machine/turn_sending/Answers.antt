@@ -9,7 +9,8 @@ returns-then-is_taking c now = record {
   errors = c.state-errors.result;
   shows = c.state-errors.ensures.counted;
   advances = sending_advances c.args.start c.args.place c.args.reader.now c.read_behind.new.reader
-      c.args.spelling.now now c.state-errors.result c.args.level c.after_sending-turn.result c.after_sending-turn.ensures.goes
+      c.args.spelling.now now c.state-errors.result c.args.level c.after_sending-turn.result
+      c.after_sending-turn.ensures.goes
       c.after_sending-turn.ensures.lost
       (λ is. subst (λ t. StandsAfter c.read_behind.new.reader (t ++ c.args.level ∷ []))
       c.before-then-is_taking.ensures c.read_behind.ensures);
