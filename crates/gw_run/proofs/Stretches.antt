@@ -1,5 +1,6 @@
 -- Stretches of bits at which all segments idle.
-use Rattle.std.proofs.Common.{◌≡◌, ℕ, ◌+◌, ◌-◌, ◌/◌, ◌<◌, ◌≤◌, Some, List, length, slice_get, refl, sym, ap, subst}
+use Rattle.std.proofs.Common.{◌≡◌, ◌&&◌, Bool, true, false, ℕ, ◌+◌, ◌-◌, ◌/◌}
+use Rattle.std.proofs.Common.{◌<◌, ◌≤◌, Some, List, length, slice_get, refl, sym, ap, subst}
 use Rattle.std.proofs.Common.{arith, ◌∙◌}
 use Rattle.std.proofs.Math.Nat.{div-le_self, div-mul-le_self}
 use Rattle.std.proofs.lemmas.Nat.{le-div}
@@ -15,15 +16,19 @@ use Rattle.gw_opening.specs.declared.lane.Lane.{Lane}
 use Rattle.gw_opening.specs.Places.{IsAt, slot_of}
 use Rattle.gw_run.specs.Ports.{Site}
 use Rattle.gw_run.specs.Sites.{SiteIdles, SiteMoves}
-use Rattle.gw_run.specs.Worlds.{HaveMade, HaveMadeUpTo, HaveTurned, LaneIdles, LaneKeeps, LanesKeep, Leads}
+use Rattle.gw_run.specs.Worlds.{AreFar, HaveMade, HaveMadeUpTo, HaveTurned, LaneIdles, LaneKeeps, LanesKeep, Leads}
 use Rattle.gw_run.specs.Worlds.{MayIdle, WorldHolds}
-use Rattle.gw_run.proofs.Ahead.{ahead_up, idles_not, idles_on}
+use Rattle.gw_run.proofs.Ahead.{ahead_least, ahead_up, idles_not, idles_on}
 
 -- of some segments that made so many bits, or fewer, none made more than as many
 pub made_up_to : (bits made most : ℕ) (sites : List Site) → made ≤ most → HaveMade bits made sites →
     HaveMadeUpTo bits most sites
 made_up_to bits made most sites less h =
     record { of_bits = h.of_bits; ahead = λ i site e. (made, less, h.ahead i site e) }
+
+pub both_true : (a b : Bool) → (a && b) ≡ true → (a ≡ true) × (b ≡ true)
+both_true true b e = (refl, e)
+both_true false b e = absurd (cc e)
 
 -- bits of one segment
 idles_up : (until more : ℕ) (a b : Site) → until ≤ more → SiteIdles until a b → SiteIdles more a b
@@ -66,6 +71,17 @@ pub idle_up : (until : ℕ) (old new : List Site) → AtPlaces (λ i. SiteIdles 
     AtPlaces (λ i. SiteIdles (until + 1)) old new
 idle_up until old new h =
     record { at = λ i a b p q. idles_up until (until + 1) a b (omega arith) (h.at i a b p q); size = h.size }
+
+-- none is less far behind them
+pub far_on : (until made : ℕ) (old new : List Site) → AtPlaces (λ i. SiteIdles until) old new → AreFar made old →
+    AreFar made new
+far_on until made old new h far i site e =
+    let before = some_there old i (let within = slice_get_within new i site e in omega (arith, within, h.size)) in
+    omega (arith, far i before.0 before.1, (h.at i before.0 site before.1 e).longer)
+
+-- those that made so many bits are as far
+pub far_made : (bits made : ℕ) (sites : List Site) → HaveMade bits made sites → AreFar made sites
+far_made bits made sites h i site e = ahead_least made site.segment (h.ahead i site e)
 
 pub idle_moves : (until : ℕ) (old new : List Site) → AtPlaces (λ i. SiteIdles until) old new →
     AtPlaces (λ i. SiteMoves) old new

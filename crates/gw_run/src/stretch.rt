@@ -4,8 +4,8 @@ ghost use Rattle.std.specs.Prelude.{◌≡◌, ◌<◌, ◌≤◌, ◌+◌, ℕ,
 ghost use Rattle.can_station.specs.Places.{AtPlaces};
 ghost use Rattle.gw_opening.specs.declared.lane.Lane.{Lane};
 ghost use Rattle.gw_run.specs.Sites.{SiteIdles};
-ghost use Rattle.gw_run.specs.Worlds.{AllAskedInVain, AllWait, HaveMade, HaveMadeUpTo, HaveTurned, LaneIdles};
-ghost use Rattle.gw_run.specs.Worlds.{LanesKeep, MayIdle, NoneShort, SitesKeep, WorldHolds};
+ghost use Rattle.gw_run.specs.Worlds.{AllAskedInVain, AllWait, AreFar, HaveMade, HaveMadeUpTo, HaveTurned};
+ghost use Rattle.gw_run.specs.Worlds.{LaneIdles, LanesKeep, MayIdle, NoneShort, SitesKeep, WorldHolds};
 
 use crate::port::Site;
 use crate::site::idle_on;
@@ -25,6 +25,7 @@ fn all_wait(lanes: &[Lane]) -> bool
 
 /// So many turns of each of these routes at which it has nothing to do.
 fn idle_lanes(lanes: &mut [Lane], more: u32)
+    requires asked { AllAskedInVain lanes.old }
     requires waits { AllWait lanes.old }
     requires few { (k : ℕ) (lane : Lane) → slice_get lanes.old k ≡ Some lane → lane.hand.turns + more ≤ 1000000 }
     ensures { AtPlaces (λ k. LaneIdles more) lanes.old lanes.new }
@@ -38,7 +39,8 @@ fn idle_lanes(lanes: &mut [Lane], more: u32)
 /// each has made so many then.
 fn all_idle_on(sites: &mut [Site], until: u64) -> bool
     requires { MayIdle until sites.old }
-    ensures { AtPlaces (λ i. SiteIdles until) sites.old sites.new }
+    ensures idle { AtPlaces (λ i. SiteIdles until) sites.old sites.new }
+    ensures far { result ≡ true → AreFar until sites.new }
 {
     let mut all = true;
     for place in 0..sites.len() {
@@ -51,9 +53,11 @@ fn all_idle_on(sites: &mut [Site], until: u64) -> bool
 /// made then.
 fn idle_until(sites: &mut [Site], made: u64, last: u64) -> u64
     requires may { MayIdle made sites.old }
+    requires far { AreFar made sites.old }
     requires less { made ≤ last }
     requires fits { last < 18446744073709551615 }
     ensures idle { AtPlaces (λ i. SiteIdles (result + 1)) sites.old sites.new }
+    ensures far { AreFar result sites.new }
     ensures least { made ≤ result }
     ensures most { result ≤ last }
 {
@@ -69,7 +73,8 @@ fn idle_until(sites: &mut [Site], made: u64, last: u64) -> u64
 
 /// Whether no turn has anything to do before a frame comes: the last turns were idle, and each route waits for one.
 fn nothing_waits(lanes: &[Lane], idle: bool) -> bool
-    ensures { result ≡ true → AllWait lanes.now }
+    ensures idle { result ≡ true → idle ≡ true }
+    ensures waits { result ≡ true → AllWait lanes.now }
 {
     idle && all_wait(lanes)
 }
@@ -94,6 +99,7 @@ pub(crate) fn stretch(
     requires turn { 0 < turn }
     ensures world { WorldHolds sites.new lanes.new }
     ensures made { HaveMadeUpTo bits (result + 1) sites.new }
+    ensures far { AreFar result sites.new }
     ensures turned { HaveTurned turn result lanes.new }
     ensures short { NoneShort sites.old → NoneShort sites.new }
     ensures lanes { LanesKeep lanes.old lanes.new }

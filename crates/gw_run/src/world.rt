@@ -7,7 +7,7 @@ ghost use Rattle.gw_opening.specs.declared.lane.Lane.{Lane};
 ghost use Rattle.gw_run.specs.Ports.{Site};
 ghost use Rattle.gw_run.specs.Sites.{SiteHolds, SiteMoves};
 ghost use Rattle.gw_run.specs.Lanes.{AskedInVain};
-ghost use Rattle.gw_run.specs.Worlds.{AllAskedInVain, Leads, LaneTurns, LanesKeep, SitesKeep, WorldHolds};
+ghost use Rattle.gw_run.specs.Worlds.{AllAskedInVain, AreFar, Leads, LaneTurns, LanesKeep, SitesKeep, WorldHolds};
 ghost use Rattle.gw_run.specs.Worlds.{SameSegments, HaveMade, HaveMadeUpTo, CountsTurn, HaveTurned, NoneShort};
 
 use crate::lane::turn_on;
@@ -102,6 +102,7 @@ fn step<R: Wait>(
 ) -> Result<bool, Memory>
     requires world { WorldHolds sites.old lanes.old }
     requires made { HaveMadeUpTo bits (bit + 1) sites.old }
+    requires far { AreFar bit sites.old }
     requires turned { HaveTurned turn bit lanes.old }
     requires few { bits ≤ 1000000 }
     requires still { bit < bits }

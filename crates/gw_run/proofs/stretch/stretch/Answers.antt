@@ -1,6 +1,6 @@
 use Rattle.std.proofs.Common.{◌+◌, arith}
 use Rattle.gw_run.proofs.Counted.{short_bits}
-use Rattle.gw_run.proofs.Stretches.{idle_made, idle_moves, idle_turned, lanes_idled, made_up_to}
+use Rattle.gw_run.proofs.Stretches.{far_made, idle_made, idle_moves, idle_turned, lanes_idled, made_up_to}
 use Rattle.gw_run.proofs.Stretches.{world_idled}
 use Rattle.gw_run.proofs.Worlds.{world_bits}
 use Rattle.gw_run.proofs.stretch.stretch.Goals as goal
@@ -36,3 +36,9 @@ returns-clause-short c = short_bits c.args.sites.now c.idle_until-next.new.sites
 
 pub returns-clause-lanes : goal.returns-clause-lanes
 returns-clause-lanes c = lanes_idled _ c.args.lanes.now c.idle_lanes.new.lanes c.idle_lanes.ensures
+
+pub returns-then-not-nothing_waits-clause-far : goal.returns-then-not-nothing_waits-clause-far
+returns-then-not-nothing_waits-clause-far c = far_made c.args.bits c.args.made c.args.sites.now c.requires.made
+
+pub idle_until-next-requires-clause-far : goal.idle_until-next-requires-clause-far
+idle_until-next-requires-clause-far c = far_made c.args.bits c.args.made c.args.sites.now c.requires.made

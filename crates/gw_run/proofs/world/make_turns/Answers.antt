@@ -1,18 +1,15 @@
-use Rattle.std.proofs.Common.{◌≡◌, ◌&&◌, Bool, true, false, inl, inr, refl, sym, subst, arith}
+use Rattle.std.proofs.Common.{inl, inr, sym, subst, arith}
 use Rattle.std.proofs.lemmas.Bool.{cases_lt}
 use Rattle.std.proofs.lemmas.Option.{slice_get-get_or, slice_get_within}
 use Rattle.can_station.proofs.Places.{places_start, places_step, places_end}
 use Rattle.gw_opening.specs.declared.lane.Lane.{Lane}
 use Rattle.gw_run.specs.Lanes.{AskedInVain}
 use Rattle.gw_run.specs.Worlds.{CountsTurn}
+use Rattle.gw_run.proofs.Stretches.{both_true}
 use Rattle.gw_run.proofs.WorldTurns.{lane_cases, world_turn}
 use Rattle.gw_run.proofs.Passes.{segments_start, segments_turn, lanes_start, lanes_turn}
 use Rattle.gw_run.proofs.Keeps.{sites-self, sites-on, sites_of_first, sites_turn}
 use Rattle.gw_run.proofs.world.make_turns.Goals as goal
-
-both_true : (a b : Bool) → (a && b) ≡ true → (a ≡ true) × (b ≡ true)
-both_true true b e = (refl, e)
-both_true false b e = absurd (cc e)
 
 pub loop-place-init : goal.loop-place-init
 loop-place-init g c = (
