@@ -1,5 +1,5 @@
 -- Idle turns change nothing of a hand but the count of turns.
-use Rattle.std.proofs.Common.{◌≡◌, ℕ, List, Result, Ok, Err, refl}
+use Rattle.std.proofs.Common.{◌≡◌, ◌+◌, ℕ, List, Result, Ok, Err, refl}
 use Rattle.bx_core.specs.RouteTx.{RoutePast}
 use Rattle.bx_core.specs.declared.answer.AbortAnswer.{AbortAnswer}
 use Rattle.bx_core.specs.declared.answer.AbortAnswer.TheVariants.{Ended, Asked, Gone, NotNow as Later}
@@ -7,30 +7,19 @@ use Rattle.bx_core.specs.declared.answer.NumberTooLarge.{NumberTooLarge}
 use Rattle.bx_core.specs.declared.answer.Sent.{Sent}
 use Rattle.bx_core.specs.declared.answer.Sent.TheVariants.{Yes, NotNow}
 use Rattle.bx_rx.specs.RxOut.{none_given}
-use Rattle.gw_route.proofs.Matches.{matches-counted}
+use Rattle.gw_route.proofs.Matches.{matches-counted, matches-turns}
 use Rattle.gw_route.specs.Plans.{FromPlan}
-use Rattle.gw_route.specs.RouteHand.{HandValue, IsLinked, LogMatches}
+use Rattle.gw_route.specs.RouteHand.{HandValue, IsLinked}
 use Rattle.gw_route.specs.Turn.{TurnMade, Turned, aborted_answer, counted, idled, requested_answer}
 use Rattle.gw_route.specs.Turn.Turned.{by_abort, by_request, idle}
 use Rattle.gw_route.specs.declared.turn_answer.TurnAnswer.{TurnAnswer}
 use Rattle.gw_route.specs.declared.turn_answer.TurnAnswer.TheVariants.{Idle}
 use Rattle.gw_route.specs.declared.route_abort.RouteAbort.{RouteAbort}
 
-matches_idled : (more : ℕ) (h : HandValue) (past : RoutePast) → LogMatches h past → LogMatches (idled more h) past
-matches_idled more h past l = record {
-  log = l.log;
-  one_hand = l.one_hand;
-  tickets_is = l.tickets_is;
-  limit = l.limit;
-  ended = l.ended;
-  asked = l.asked;
-  known = l.known;
-}
-
 -- it still matches what its side of the mailboxes did,
 pub linked_idled : (after : RoutePast → Type 0) (more : ℕ) (h : HandValue) → IsLinked after h →
     IsLinked after (idled more h)
-linked_idled after more h l = (l.0, l.1, matches_idled more h l.0 l.2)
+linked_idled after more h l = (l.0, l.1, matches-turns (h.turns + more) h l.0 l.2)
 
 -- and keeps to the aborts that were planned
 pub planned_idled : (planned : List RouteAbort) (more : ℕ) (h : HandValue) → FromPlan planned h →

@@ -19,7 +19,7 @@ use Rattle.bx_core.proofs.Words.{has-right, has-left}
 use Rattle.bx_rx.specs.declared.rx_frame.RxFrame.{RxFrame}
 use Rattle.gw_route.specs.RouteHand.{HandValue, LogMatches, numbered, as_requested}
 use Rattle.gw_route.specs.Turn.{counted, taken, given, none_given, Filled, IsDue, IsDueByCount, if_requested}
-use Rattle.gw_route.specs.Turn.{if_aborted}
+use Rattle.gw_route.specs.Turn.{if_aborted, next_turn}
 use Rattle.gw_route.specs.declared.route_abort.RouteAbort.{RouteAbort}
 use Rattle.gw_route.proofs.Lists.{has-either}
 use Rattle.gw_route.proofs.Numbered.{length-numbered, numbered-append, last_of-numbered, last-numbered, has-numbered}
@@ -61,8 +61,10 @@ count-due h past a l d = record {
       (omega (arith, d.below, tickets-requested h past l));
 }
 
-pub matches-counted : (h : HandValue) (past : RoutePast) → LogMatches h past → LogMatches (counted h) past
-matches-counted h past l = record {
+-- however many turns were made
+pub matches-turns : (turns : ℕ) (h : HandValue) (past : RoutePast) → LogMatches h past →
+    LogMatches (record h { turns = turns }) past
+matches-turns turns h past l = record {
   log = l.log;
   one_hand = l.one_hand;
   tickets_is = l.tickets_is;
@@ -71,6 +73,9 @@ matches-counted h past l = record {
   asked = l.asked;
   known = l.known;
 }
+
+pub matches-counted : (h : HandValue) (past : RoutePast) → LogMatches h past → LogMatches (counted h) past
+matches-counted h past l = matches-turns (next_turn h.turns) h past l
 
 -- the FIFO was asked, and gave nothing
 pub matches-asked : (h : HandValue) (past : RoutePast) → LogMatches h past → LogMatches (none_given h) past

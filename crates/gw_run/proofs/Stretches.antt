@@ -1,4 +1,4 @@
--- Stretches of bits at which all segments idle.
+-- Stretches of bits at which each segment idles or is ahead.
 use Rattle.std.proofs.Common.{◌≡◌, ◌&&◌, Bool, true, false, ℕ, ◌+◌, ◌-◌, ◌/◌}
 use Rattle.std.proofs.Common.{◌<◌, ◌≤◌, Some, List, length, slice_get, refl, sym, ap, subst}
 use Rattle.std.proofs.Common.{arith, ◌∙◌}

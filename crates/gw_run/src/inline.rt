@@ -80,7 +80,8 @@ fn run<R: Wait>(rt: &R, alloc: Global, script: &Script, turn: u32) -> Result<Rep
 
 /// Runs a script in this thread: for each of its bits, each segment in the order of the script makes one
 /// bit; and where the number of bits made is a multiple of `turn`, each route in the order of the script
-/// then makes one turn. Bits at which no port is needed are made earlier, which makes no difference to anyone.
+/// then makes one turn. Bits at which no port is needed are made earlier, and turns at which nothing waits are counted
+/// and not made, which makes no difference to anyone.
 /// Each controller has three transmit mailboxes and two receive FIFOs of three frames (RM0008, bxCAN, "Transmission
 /// handling" and "Reception handling").
 ///

@@ -1,4 +1,4 @@
-//! Stretches of bits at which all segments idle, and no route has anything to do.
+//! Stretches of bits at which each segment idles or is ahead, and no route has anything to do.
 
 ghost use Rattle.std.specs.Prelude.{◌≡◌, ◌<◌, ◌≤◌, ◌+◌, ℕ, List, Some, true, slice_get};
 ghost use Rattle.can_station.specs.Places.{AtPlaces};
