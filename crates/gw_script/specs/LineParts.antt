@@ -1,14 +1,16 @@
 -- Parts of the line of an event.
-use Rattle.std.specs.Prelude.{◌≡◌, ℕ, List, [], ◌∷◌, ◌++◌, All, vec_len, codes}
+use Rattle.std.specs.Prelude.{◌≡◌, ℕ, List, [], ◌∷◌, ◌++◌, All, length, map, vec_len, codes}
 use Rattle.std.specs.Fmt.{decimal}
 use Rattle.can_station.specs.declared.event.Event.{Event}
 use Rattle.can_station.specs.declared.event.Told.{Told}
 use Rattle.gw_config.specs.Scripts.{ScriptValue}
 use Rattle.gw_script.specs.NamedPlaces.{label_of}
+use Rattle.gw_script.specs.declared.event_lines.EventLines.{EventLines}
 use Rattle.gw_script.specs.declared.repeats.Front.{Front}
 use Rattle.gw_script.specs.declared.repeats.End.{End}
 use Rattle.gw_script.specs.declared.repeats.Ends.{Ends}
-use Rattle.gw_script.specs.ReportTexts.{told_text, label_text}
+use Rattle.gw_config.specs.Nodes.{names_of_nodes}
+use Rattle.gw_script.specs.ReportTexts.{told_text, label_text, segment_name}
 
 -- the beginning of the lines at a bit of the segment with this name
 abbrev pub front_text : List ℕ → ℕ → List ℕ
@@ -33,3 +35,10 @@ IsEnd end = end.text.items ≡ end_text end.told
 -- those of so many nodes
 abbrev pub AreEnds : ℕ → Ends → Type 0
 AreEnds nodes ends = (vec_len ends.started ≡ nodes) × All IsEnd ends.started.items × IsEnd ends.last
+
+-- so the lines of the segment at this place are made of these parts
+pub record AreLines (s : ScriptValue) (segment : ℕ) (lines : EventLines) : Type 0 where
+  pub name_is : lines.name.now ≡ segment_name s segment
+  pub names_are : map (λ name. name.now) lines.names.items ≡ names_of_nodes s segment
+  pub front_is : IsFront (segment_name s segment) lines.front
+  pub ends_are : AreEnds (length (names_of_nodes s segment)) lines.ends

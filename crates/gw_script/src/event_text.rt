@@ -1,19 +1,15 @@
-//! The lines of a segment's events.
+//! What the line of an event tells.
 
-ghost use Rattle.std.specs.Prelude.{◌≡◌, ◌<◌, ◌++◌, length, map, codes, IfSome, OnOk};
-ghost use Rattle.std.specs.List.{flat_map};
+ghost use Rattle.std.specs.Prelude.{◌≡◌, ◌++◌, codes, IfSome, OnOk};
 ghost use Rattle.std.specs.Fmt.{decimal};
-ghost use Rattle.bx_core.specs.Lists.{Each};
-ghost use Rattle.gw_config.specs.Nodes.{names_of_nodes};
 ghost use Rattle.gw_script.specs.FrameTexts.{frame_text};
-ghost use Rattle.gw_script.specs.LineParts.{rest_text, IsFront, AreEnds};
+ghost use Rattle.gw_script.specs.LineParts.{rest_text};
 ghost use Rattle.gw_script.specs.NamedPlaces.{label_of, NamesRequest, NamesEvent};
-ghost use Rattle.gw_script.specs.ReportTexts.{kind_text, told_text, label_text, segment_name, node_name, event_line};
+ghost use Rattle.gw_script.specs.ReportTexts.{kind_text, told_text, label_text};
 
 use crate::digits::{push_decimal, push_decimal_and_space};
 use crate::frame_text::{FrameText, write_frame};
-use crate::repeats::{Ends, Front};
-use crate::report_names::{name_at, names_of_nodes, route_name, route_of, segment_name};
+use crate::report_names::{route_name, route_of};
 use can_frame::Frame;
 use can_node::ErrorKind;
 use can_segment::{Event, Label, Told};
@@ -112,7 +108,7 @@ fn push_label(
 }
 
 /// Adds the rest of a line behind the node's name: what happened, the request that it names, if any, and a line feed.
-fn push_rest(
+pub(crate) fn push_rest(
     text: &mut Vec<u8>,
     script: &Script,
     segment: usize,
@@ -132,62 +128,4 @@ fn push_rest(
         label_of(&told),
     )?;
     text.extend_from_slice(b"\n")
-}
-
-/// Adds the line of an event of the segment with this name. The beginning and the end are those of the line before,
-/// where they are the same.
-fn push_event(
-    text: &mut Vec<u8>,
-    script: &Script,
-    segment: usize,
-    name: &str,
-    names: &[&str],
-    front: &mut Front,
-    ends: &mut Ends,
-    event: &Event,
-) -> Result<(), AllocError>
-    requires name { name.now ≡ segment_name script.now segment }
-    requires names { map (λ name. name.now) names.now ≡ names_of_nodes script.now segment }
-    requires event { NamesEvent script.now segment event.now }
-    requires front { IsFront name.now front.old }
-    requires ends { AreEnds (length (names_of_nodes script.now segment)) ends.old }
-    ensures front { OnOk result (IsFront name.now front.new) }
-    ensures ends { OnOk result (AreEnds (length (names_of_nodes script.now segment)) ends.new) }
-    ensures text { OnOk result
-        (text.new.items ≡ text.old.items ++ event_line script.now segment event.now) }
-{
-    front.push(text, name, event.bit())?;
-    let node = event.node() as usize;
-    text.extend_from_slice(name_at(names, node).as_bytes())?;
-    let told = event.told();
-    match label_of(&told) {
-        None => ends.push(text, node, &told),
-        Some(_) => push_rest(text, script, segment, event),
-    }
-}
-
-/// Adds the lines of events.
-pub fn push_events(
-    alloc: Global,
-    text: &mut Vec<u8>,
-    script: &Script,
-    segment: usize,
-    events: &[Event],
-) -> Result<(), AllocError>
-    requires segment { segment < length script.now.segments }
-    requires events { Each (NamesEvent script.now segment) events.now }
-    ensures { OnOk result
-        (text.new.items ≡ text.old.items ++ flat_map (event_line script.now segment) events.now) }
-{
-    let name = segment_name(script, segment);
-    let names = names_of_nodes(alloc, script, segment)?;
-    let names = names.as_slice();
-    let mut front = Front::new(alloc, name)?;
-    let mut ends = Ends::new(alloc, names.len())?;
-    for event in events {
-        push_event(
-            text, script, segment, name, names, &mut front, &mut ends, event,
-        )?;
-    }
-    Ok(())
 }

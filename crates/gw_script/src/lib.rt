@@ -2,6 +2,7 @@
 #![tactic(auto)]
 
 mod digits;
+mod event_lines;
 mod event_list;
 mod event_text;
 mod frame_text;

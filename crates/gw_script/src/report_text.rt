@@ -12,7 +12,7 @@ ghost use Rattle.gw_script.specs.ReportTexts.{segment_name, state_text, node_lin
 ghost use Rattle.gw_script.specs.ReportTexts.{segment_text, route_line, report_text};
 
 use crate::digits::push_decimal;
-use crate::event_text::push_events;
+use crate::event_lines::push_events;
 use crate::report::Report;
 use crate::report_names::{node_name, route_name, segment_name};
 use crate::route_report::RouteReport;

@@ -1,0 +1,92 @@
+//! The lines of a segment's events, one after another.
+
+ghost use Rattle.std.specs.Prelude.{◌≡◌, ◌<◌, ◌++◌, length, IfOk, OnOk};
+ghost use Rattle.std.specs.List.{flat_map};
+ghost use Rattle.bx_core.specs.Lists.{Each};
+ghost use Rattle.gw_script.specs.LineParts.{AreLines};
+ghost use Rattle.gw_script.specs.NamedPlaces.{NamesEvent};
+ghost use Rattle.gw_script.specs.ReportTexts.{event_line};
+
+use crate::event_text::{label_of, push_rest};
+use crate::repeats::{Ends, Front};
+use crate::report_names::{name_at, names_of_nodes, segment_name};
+use can_segment::Event;
+use gw_config::Script;
+use std::alloc::{AllocError, Global};
+
+/// What the lines of a segment's events are made of: its name, those of its nodes, and parts that stay the same in
+/// lines in a row.
+#[derive(Drop)]
+pub(crate) struct EventLines<'s> {
+    name: &'s str,
+    names: Vec<&'s str>,
+    front: Front,
+    ends: Ends,
+}
+
+impl<'s> EventLines<'s> {
+    /// Those of the segment at this place.
+    pub(crate) fn new(
+        alloc: Global,
+        script: &'s Script,
+        segment: usize,
+    ) -> Result<EventLines<'s>, AllocError>
+        requires { segment < length script.now.segments }
+        ensures { IfOk result (AreLines script.now segment) }
+    {
+        let name = segment_name(script, segment);
+        let names = names_of_nodes(alloc, script, segment)?;
+        let front = Front::new(alloc, name)?;
+        let ends = Ends::new(alloc, names.len())?;
+        Ok(EventLines {
+            name,
+            names,
+            front,
+            ends,
+        })
+    }
+
+    /// Adds the line of an event. The beginning and the end are those of the line before, where they are the same.
+    pub(crate) fn push(
+        &mut self,
+        text: &mut Vec<u8>,
+        script: &Script,
+        segment: usize,
+        event: &Event,
+    ) -> Result<(), AllocError>
+        requires lines { AreLines script.now segment self.old }
+        requires event { NamesEvent script.now segment event.now }
+        ensures lines { OnOk result (AreLines script.now segment self.new) }
+        ensures text { OnOk result
+            (text.new.items ≡ text.old.items ++ event_line script.now segment event.now) }
+    {
+        self.front.push(text, self.name, event.bit())?;
+        let node = event.node() as usize;
+        text.extend_from_slice(name_at(self.names.as_slice(), node).as_bytes())?;
+        let told = event.told();
+        match label_of(&told) {
+            None => self.ends.push(text, node, &told),
+            Some(_) => push_rest(text, script, segment, event),
+        }
+    }
+}
+
+/// Adds the lines of events.
+pub(crate) fn push_events(
+    alloc: Global,
+    text: &mut Vec<u8>,
+    script: &Script,
+    segment: usize,
+    events: &[Event],
+) -> Result<(), AllocError>
+    requires segment { segment < length script.now.segments }
+    requires events { Each (NamesEvent script.now segment) events.now }
+    ensures { OnOk result
+        (text.new.items ≡ text.old.items ++ flat_map (event_line script.now segment) events.now) }
+{
+    let mut lines = EventLines::new(alloc, script, segment)?;
+    for event in events {
+        lines.push(text, script, segment, event)?;
+    }
+    Ok(())
+}
