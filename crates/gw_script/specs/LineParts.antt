@@ -1,5 +1,6 @@
 -- Parts of the line of an event.
-use Rattle.std.specs.Prelude.{◌≡◌, ℕ, List, [], ◌∷◌, ◌++◌, All, length, map, vec_len, codes}
+use Rattle.std.specs.Prelude.{◌≡◌, ℕ, ◌+◌, ◌≤◌, List, [], ◌∷◌, ◌++◌, All, length, map, vec_len}
+use Rattle.std.specs.Prelude.{vec_capacity, codes}
 use Rattle.std.specs.Fmt.{decimal}
 use Rattle.can_station.specs.declared.event.Event.{Event}
 use Rattle.can_station.specs.declared.event.Told.{Told}
@@ -10,7 +11,7 @@ use Rattle.gw_script.specs.declared.repeats.Front.{Front}
 use Rattle.gw_script.specs.declared.repeats.End.{End}
 use Rattle.gw_script.specs.declared.repeats.Ends.{Ends}
 use Rattle.gw_config.specs.Nodes.{names_of_nodes}
-use Rattle.gw_script.specs.ReportTexts.{told_text, label_text, segment_name}
+use Rattle.gw_script.specs.ReportTexts.{told_text, label_text, node_name, route_name, segment_name}
 
 -- the beginning of the lines at a bit of the segment with this name
 abbrev pub front_text : List ℕ → ℕ → List ℕ
@@ -24,17 +25,37 @@ end_text told = codes " " ++ (told_text told ++ (10 ∷ []))
 abbrev pub rest_text : ScriptValue → ℕ → Event → List ℕ
 rest_text s segment e = codes " " ++ (told_text e.told ++ (label_text s segment e.node (label_of e.told) ++ (10 ∷ [])))
 
--- it has the text of its bit
-abbrev pub IsFront : List ℕ → Front → Type 0
-IsFront name front = front.text.items ≡ front_text name front.bit
+-- it has the text of its bit, and room for that of any other
+pub record IsFront (name : List ℕ) (front : Front) : Type 0 where
+  pub text_is : front.text.items ≡ front_text name front.bit
+  pub short : vec_len front.text ≤ length name + 22
+  pub room : length name + 22 ≤ vec_capacity front.text
 
--- it has the text of what it tells
-abbrev pub IsEnd : End → Type 0
-IsEnd end = end.text.items ≡ end_text end.told
+-- it has the text of what it tells, and room for that of any other thing
+pub record IsEnd (end : End) : Type 0 where
+  pub text_is : end.text.items ≡ end_text end.told
+  pub short : vec_len end.text ≤ 65
+  pub room : 65 ≤ vec_capacity end.text
 
 -- those of so many nodes
 abbrev pub AreEnds : ℕ → Ends → Type 0
 AreEnds nodes ends = (vec_len ends.started ≡ nodes) × All IsEnd ends.started.items × IsEnd ends.last
+
+-- the names of the routes have at most so many bytes
+abbrev pub AreRoutesWithin : ℕ → ScriptValue → Type 0
+AreRoutesWithin longest s = (route : ℕ) → length (route_name s route) ≤ longest
+
+-- so do those of the segment's nodes
+abbrev pub AreNodesWithin : ℕ → ScriptValue → ℕ → Type 0
+AreNodesWithin longest s segment = (node : ℕ) → length (node_name s segment node) ≤ longest
+
+-- no line of an event of this segment has more bytes
+pub record IsLongest (s : ScriptValue) (segment longest : ℕ) : Type 0 where
+  pub node : ℕ
+  pub nodes_within : AreNodesWithin node s segment
+  pub route : ℕ
+  pub routes_within : AreRoutesWithin route s
+  pub longest_is : length (segment_name s segment) + node + route + 109 ≤ longest
 
 -- so the lines of the segment at this place are made of these parts
 pub record AreLines (s : ScriptValue) (segment : ℕ) (lines : EventLines) : Type 0 where
@@ -42,3 +63,4 @@ pub record AreLines (s : ScriptValue) (segment : ℕ) (lines : EventLines) : Typ
   pub names_are : map (λ name. name.now) lines.names.items ≡ names_of_nodes s segment
   pub front_is : IsFront (segment_name s segment) lines.front
   pub ends_are : AreEnds (length (names_of_nodes s segment)) lines.ends
+  pub longest_is : IsLongest s segment lines.longest

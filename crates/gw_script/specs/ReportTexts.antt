@@ -10,6 +10,7 @@ use Rattle.can_node.specs.declared.outcome.ErrorKind.{ErrorKind}
 use Rattle.can_node.specs.declared.outcome.ErrorKind.TheVariants.{Bit, Stuff, Form, Ack, Crc}
 use Rattle.can_confinement.specs.Confinement.{Counts, state_of}
 use Rattle.can_confinement.specs.Counters.{counts_of}
+use Rattle.can_confinement.specs.declared.counters.Counters.{Counters}
 use Rattle.can_station.specs.declared.event.Event.{Event}
 use Rattle.can_station.specs.declared.event.Label.{Label}
 use Rattle.can_station.specs.declared.event.Told.{Told}
@@ -87,11 +88,15 @@ node_line s segment node counts = line (segment_name s segment ∷ codes " node 
     ∷ codes " tec " ∷ decimal counts.tec ∷ codes " rec " ∷ decimal counts.rec ∷ codes " "
     ∷ state_text (state_of counts) ∷ [])
 
--- what is told of the segment at this place
-abbrev pub segment_text : ScriptValue → ℕ → Record → List ℕ
-segment_text s segment of = flat_map (event_line s segment) of.events.items
-    ++ lines_from (λ node counters. node_line s segment node (counts_of counters)) 0 of.counters.items
+-- what is told behind its events of the segment at this place: its nodes, with these counters, and its end
+abbrev pub segment_end : ScriptValue → ℕ → List Counters → List ℕ
+segment_end s segment counters = lines_from (λ node one. node_line s segment node (counts_of one)) 0 counters
     ++ line (segment_name s segment ∷ codes " end " ∷ decimal s.bits ∷ [])
+
+-- what is told of it
+abbrev pub segment_text : ScriptValue → ℕ → Record → List ℕ
+segment_text s segment of =
+    flat_map (event_line s segment) of.events.items ++ segment_end s segment of.counters.items
 
 abbrev pub route_line : ScriptValue → ℕ → RouteReport → List ℕ
 route_line s route r = line (codes "route " ∷ route_name s route

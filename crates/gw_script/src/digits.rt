@@ -1,6 +1,6 @@
 //! A number's decimal digits.
 
-ghost use Rattle.std.specs.Prelude.{◌≡◌, ◌+◌, ◌/◌, ◌%◌, ◌<◌, ◌≤◌, ◌∷◌, ◌++◌, length, drop, codes, OnOk};
+ghost use Rattle.std.specs.Prelude.{◌≡◌, ◌+◌, ◌/◌, ◌%◌, ◌<◌, ◌≤◌, ◌∷◌, ◌++◌, length, drop, codes, OnOk, vec_len, vec_capacity, IsOk};
 ghost use Rattle.std.specs.Fmt.{decimal};
 
 use std::alloc::AllocError;
@@ -65,9 +65,12 @@ fn write_digits(digits: &mut [u8], end: usize, number: u64) -> usize
     write_first(digits, at, left)
 }
 
-/// Adds a number in decimal.
+/// Adds a number in decimal, of at most 20 digits.
 pub fn push_decimal(text: &mut Vec<u8>, number: u64) -> Result<(), AllocError>
-    ensures { OnOk result (text.new.items ≡ text.old.items ++ decimal number) }
+    ensures text { OnOk result (text.new.items ≡ text.old.items ++ decimal number) }
+    ensures room { vec_len text.old + 20 ≤ vec_capacity text.old → IsOk result }
+    ensures len { vec_len text.new ≤ vec_len text.old + 20 }
+    ensures capacity { vec_capacity text.old ≤ vec_capacity text.new }
 {
     let mut digits = [0; MOST_DIGITS];
     let start = write_digits(&mut digits, MOST_DIGITS, number);
@@ -76,7 +79,10 @@ pub fn push_decimal(text: &mut Vec<u8>, number: u64) -> Result<(), AllocError>
 
 /// Adds a number in decimal, and a space.
 pub fn push_decimal_and_space(text: &mut Vec<u8>, number: u64) -> Result<(), AllocError>
-    ensures { OnOk result (text.new.items ≡ text.old.items ++ (decimal number ++ codes " ")) }
+    ensures text { OnOk result (text.new.items ≡ text.old.items ++ (decimal number ++ codes " ")) }
+    ensures room { vec_len text.old + 21 ≤ vec_capacity text.old → IsOk result }
+    ensures len { vec_len text.new ≤ vec_len text.old + 21 }
+    ensures capacity { vec_capacity text.old ≤ vec_capacity text.new }
 {
     let mut digits = [b' '; MOST_DIGITS + 1];
     let start = write_digits(&mut digits, MOST_DIGITS, number);

@@ -1,9 +1,9 @@
 //! What the line of an event tells.
 
-ghost use Rattle.std.specs.Prelude.{◌≡◌, ◌++◌, codes, IfSome, OnOk};
+ghost use Rattle.std.specs.Prelude.{◌≡◌, ◌+◌, ◌≤◌, ◌++◌, ℕ, length, vec_len, vec_capacity, codes, IfSome, IsOk, OnOk};
 ghost use Rattle.std.specs.Fmt.{decimal};
 ghost use Rattle.gw_script.specs.FrameTexts.{frame_text};
-ghost use Rattle.gw_script.specs.LineParts.{rest_text};
+ghost use Rattle.gw_script.specs.LineParts.{rest_text, AreRoutesWithin};
 ghost use Rattle.gw_script.specs.NamedPlaces.{label_of, NamesRequest, NamesEvent};
 ghost use Rattle.gw_script.specs.ReportTexts.{kind_text, told_text, label_text};
 
@@ -17,7 +17,8 @@ use gw_config::Script;
 use std::alloc::{AllocError, Global};
 
 fn kind_text(kind: ErrorKind) -> &'static str
-    ensures { result.now ≡ kind_text kind }
+    ensures text { result.now ≡ kind_text kind }
+    ensures few { length result.now ≤ 5 }
 {
     match kind {
         ErrorKind::Bit => "bit",
@@ -30,7 +31,10 @@ fn kind_text(kind: ErrorKind) -> &'static str
 
 /// Adds a frame.
 fn push_frame(text: &mut Vec<u8>, frame: &Frame) -> Result<(), AllocError>
-    ensures { OnOk result (text.new.items ≡ text.old.items ++ frame_text frame.now) }
+    ensures text { OnOk result (text.new.items ≡ text.old.items ++ frame_text frame.now) }
+    ensures room { vec_len text.old + 32 ≤ vec_capacity text.old → IsOk result }
+    ensures len { vec_len text.new ≤ vec_len text.old + 32 }
+    ensures capacity { vec_capacity text.old ≤ vec_capacity text.new }
 {
     let mut bytes = FrameText::new();
     write_frame(&mut bytes, frame);
@@ -39,7 +43,10 @@ fn push_frame(text: &mut Vec<u8>, frame: &Frame) -> Result<(), AllocError>
 
 /// Adds a space and what happened at a node.
 pub(crate) fn push_told(text: &mut Vec<u8>, told: &Told) -> Result<(), AllocError>
-    ensures { OnOk result (text.new.items ≡ text.old.items ++ (codes " " ++ told_text told.now)) }
+    ensures text { OnOk result (text.new.items ≡ text.old.items ++ (codes " " ++ told_text told.now)) }
+    ensures room { vec_len text.old + 64 ≤ vec_capacity text.old → IsOk result }
+    ensures len { vec_len text.new ≤ vec_len text.old + 64 }
+    ensures capacity { vec_capacity text.old ≤ vec_capacity text.new }
 {
     let frame = match told {
         Told::Started { frame, .. } => {
@@ -92,8 +99,13 @@ fn push_label(
     label: Option<Label>,
 ) -> Result<(), AllocError>
     requires { IfSome label (NamesRequest script.now segment node) }
-    ensures { OnOk result
+    ensures text { OnOk result
         (text.new.items ≡ text.old.items ++ label_text script.now segment node label) }
+    ensures room { (longest : ℕ) → AreRoutesWithin longest script.now
+        → vec_len text.old + (longest + 22) ≤ vec_capacity text.old → IsOk result }
+    ensures len { (longest : ℕ) → AreRoutesWithin longest script.now
+        → vec_len text.new ≤ vec_len text.old + (longest + 22) }
+    ensures capacity { vec_capacity text.old ≤ vec_capacity text.new }
 {
     match label {
         None => Ok(()),
@@ -115,8 +127,13 @@ pub(crate) fn push_rest(
     event: &Event,
 ) -> Result<(), AllocError>
     requires { NamesEvent script.now segment event.now }
-    ensures { OnOk result
+    ensures text { OnOk result
         (text.new.items ≡ text.old.items ++ rest_text script.now segment event.now) }
+    ensures room { (longest : ℕ) → AreRoutesWithin longest script.now
+        → vec_len text.old + (longest + 87) ≤ vec_capacity text.old → IsOk result }
+    ensures len { (longest : ℕ) → AreRoutesWithin longest script.now
+        → vec_len text.new ≤ vec_len text.old + (longest + 87) }
+    ensures capacity { vec_capacity text.old ≤ vec_capacity text.new }
 {
     let told = event.told();
     push_told(text, &told)?;

@@ -1,6 +1,7 @@
 //! Parts of lines that stay the same in lines in a row.
 
-ghost use Rattle.std.specs.Prelude.{◌≡◌, ◌<◌, ◌++◌, true, None, vec_len, IfOk, OnOk};
+ghost use Rattle.std.specs.Prelude.{◌≡◌, ◌<◌, ◌≤◌, ◌+◌, ◌++◌, true, None, length, vec_len, vec_capacity};
+ghost use Rattle.std.specs.Prelude.{IfOk, IsOk, OnOk};
 ghost use Rattle.can_station.specs.declared.event.Told.TheVariants.{Started, Took, Lost};
 ghost use Rattle.gw_script.specs.LineParts.{front_text, end_text, IsFront, IsEnd, AreEnds};
 
@@ -19,7 +20,10 @@ pub(crate) struct Front {
 
 /// Writes the beginning of the lines at a bit in place of what is there.
 fn write_front(text: &mut Vec<u8>, name: &str, bit: u64) -> Result<(), AllocError>
-    ensures { OnOk result (text.new.items ≡ front_text name.now bit) }
+    ensures text { OnOk result (text.new.items ≡ front_text name.now bit) }
+    ensures room { length name.now + 22 ≤ vec_capacity text.old → IsOk result }
+    ensures len { vec_len text.new ≤ length name.now + 22 }
+    ensures capacity { vec_capacity text.old ≤ vec_capacity text.new }
 {
     text.clear();
     text.extend_from_slice(name.as_bytes())?;
@@ -32,7 +36,7 @@ impl Front {
     pub(crate) fn new(alloc: Global, name: &str) -> Result<Front, AllocError>
         ensures { IfOk result (IsFront name.now) }
     {
-        let mut text = Vec::new(alloc);
+        let mut text = Vec::with_capacity(alloc, name.len().saturating_add(22))?;
         write_front(&mut text, name, 0)?;
         Ok(Front { bit: 0, text })
     }
@@ -47,6 +51,9 @@ impl Front {
         requires { IsFront name.now self.old }
         ensures front { OnOk result (IsFront name.now self.new) }
         ensures text { OnOk result (text.new.items ≡ text.old.items ++ front_text name.now bit) }
+        ensures room { vec_len text.old + (length name.now + 22) ≤ vec_capacity text.old → IsOk result }
+        ensures len { vec_len text.new ≤ vec_len text.old + (length name.now + 22) }
+        ensures capacity { vec_capacity text.old ≤ vec_capacity text.new }
     {
         if self.bit != bit {
             write_front(&mut self.text, name, bit)?;
@@ -65,7 +72,10 @@ pub(crate) struct End {
 
 /// Writes the end of a line in place of what is there.
 fn write_end(text: &mut Vec<u8>, told: &Told) -> Result<(), AllocError>
-    ensures { OnOk result (text.new.items ≡ end_text told.now) }
+    ensures text { OnOk result (text.new.items ≡ end_text told.now) }
+    ensures room { 65 ≤ vec_capacity text.old → IsOk result }
+    ensures len { vec_len text.new ≤ 65 }
+    ensures capacity { vec_capacity text.old ≤ vec_capacity text.new }
 {
     text.clear();
     push_told(text, told)?;
@@ -123,7 +133,7 @@ impl End {
         ensures { IfOk result IsEnd }
     {
         let told = Told::Back;
-        let mut text = Vec::new(alloc);
+        let mut text = Vec::with_capacity(alloc, 65)?;
         write_end(&mut text, &told)?;
         Ok(End { told, text })
     }
@@ -133,6 +143,9 @@ impl End {
         requires { IsEnd self.old }
         ensures end { OnOk result (IsEnd self.new) }
         ensures text { OnOk result (text.new.items ≡ text.old.items ++ end_text told.now) }
+        ensures room { vec_len text.old + 65 ≤ vec_capacity text.old → IsOk result }
+        ensures len { vec_len text.new ≤ vec_len text.old + 65 }
+        ensures capacity { vec_capacity text.old ≤ vec_capacity text.new }
     {
         if !is_told_again(told, &self.told) {
             write_end(&mut self.text, told)?;
@@ -174,6 +187,9 @@ impl Ends {
         requires node { node < vec_len self.old.started }
         ensures ends { OnOk result (AreEnds (vec_len self.old.started) self.new) }
         ensures text { OnOk result (text.new.items ≡ text.old.items ++ end_text told.now) }
+        ensures room { vec_len text.old + 65 ≤ vec_capacity text.old → IsOk result }
+        ensures len { vec_len text.new ≤ vec_len text.old + 65 }
+        ensures capacity { vec_capacity text.old ≤ vec_capacity text.new }
     {
         match told {
             Told::Started { .. } => self.started[node].push(text, told),

@@ -9,7 +9,7 @@ ghost use Rattle.gw_script.specs.Lines.{line, lines_from};
 ghost use Rattle.gw_config.specs.Nodes.{names_of_nodes};
 ghost use Rattle.gw_script.specs.NamedPlaces.{NamesNodes, Names};
 ghost use Rattle.gw_script.specs.ReportTexts.{segment_name, state_text, node_line};
-ghost use Rattle.gw_script.specs.ReportTexts.{segment_text, route_line, report_text};
+ghost use Rattle.gw_script.specs.ReportTexts.{segment_end, segment_text, route_line, report_text};
 
 use crate::digits::push_decimal;
 use crate::event_lines::push_events;
@@ -101,6 +101,21 @@ fn push_end(text: &mut Vec<u8>, script: &Script, segment: usize) -> Result<(), A
     text.extend_from_slice(b"\n")
 }
 
+/// Adds what is told of a segment behind its events.
+pub(crate) fn push_segment_end(
+    text: &mut Vec<u8>,
+    script: &Script,
+    segment: usize,
+    counters: &[Counters],
+) -> Result<(), AllocError>
+    requires segment { segment < length script.now.segments }
+    requires nodes { length counters.now ≤ length (names_of_nodes script.now segment) }
+    ensures { OnOk result (text.new.items ≡ text.old.items ++ segment_end script.now segment counters.now) }
+{
+    push_nodes(text, script, segment, counters)?;
+    push_end(text, script, segment)
+}
+
 /// Adds what is told of a segment.
 pub fn push_segment(
     alloc: Global,
@@ -115,8 +130,7 @@ pub fn push_segment(
         (text.new.items ≡ text.old.items ++ segment_text script.now segment kept.now) }
 {
     push_events(alloc, text, script, segment, kept.events.as_slice())?;
-    push_nodes(text, script, segment, kept.counters.as_slice())?;
-    push_end(text, script, segment)
+    push_segment_end(text, script, segment, kept.counters.as_slice())
 }
 
 /// Adds what is told of the segments.

@@ -62,3 +62,26 @@ front_more said xs i x n lt is =
     sym (ap (take (length front + length begun)) all
     ∙ take-append-add front (begun ++ rest) (length begun)
     ∙ ap (λ ys. front ++ ys) (take-append_seam begun rest))
+
+-- what was written already, and a front of the text that follows it, is a front of the whole
+pub front_within : (front text rest whole : List ℕ) (n : ℕ) → front ++ (text ++ rest) ≡ whole →
+    front ++ take n text ≡ take (length front + length (take n text)) whole
+front_within front text rest whole n is =
+    let begun = take n text in
+    let left = drop n text ++ rest in
+    let all : front ++ (begun ++ left) ≡ whole =
+    ap (λ ys. front ++ ys) (sym (append_assoc begun (drop n text) rest))
+    ∙ ap (λ ys. front ++ (ys ++ rest)) (take-append-drop n text) ∙ is in
+    sym (ap (take (length front + length begun)) (sym all)
+    ∙ take-append-add front (begun ++ left) (length begun)
+    ∙ ap (λ ys. front ++ ys) (take-append_seam begun left))
+
+-- so the output grows by a front of the whole, where it grew by the one and then by the other
+pub front_written : (a b c : Option (List ℕ)) (front text rest whole : List ℕ) → Appends a b front →
+    ((n : ℕ) × Appends b c (take n text)) → front ++ (text ++ rest) ≡ whole →
+    (n : ℕ) × Appends a c (take n whole)
+front_written a b c front text rest whole before begun is = (
+  length front + length (take begun.0 text),
+  subst (Appends a c) (front_within front text rest whole begun.0 is)
+      (appends_on a b c front (take begun.0 text) before begun.1),
+)
