@@ -25,7 +25,7 @@ pub(crate) struct EventLines<'s> {
     front: Front,
     ends: Ends,
     // no line has more bytes
-    longest: usize,
+    pub(crate) longest: usize,
 }
 
 /// The greatest of the lengths of these names, in bytes.
@@ -81,7 +81,8 @@ impl<'s> EventLines<'s> {
         let front = Front::new(alloc, name)?;
         let ends = Ends::new(alloc, names.len())?;
         let nodes = longest_of(names.as_slice());
-        let Some(longest) = longest_line(name.len(), nodes, longest_of_routes(script.routes())) else {
+        let Some(longest) = longest_line(name.len(), nodes, longest_of_routes(script.routes()))
+        else {
             // there is no memory for such a line
             return Err(AllocError);
         };

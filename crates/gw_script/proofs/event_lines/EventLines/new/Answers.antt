@@ -1,6 +1,5 @@
 -- The names are those of the script, and none is longer than the longest.
-use Rattle.std.proofs.Common.{rules, ◌≡◌, ◌≤◌, ◌∙◌, ℕ, All, ap, sym, subst, length, map, arith}
-use Rattle.gw_config.specs.Nodes.{names_of_nodes}
+use Rattle.std.proofs.Common.{rules, ◌≤◌, ◌∙◌, All, ap, sym, subst, length, arith}
 use Rattle.gw_config.specs.Routes.{RouteValue}
 use Rattle.std.proofs.lemmas.List.{length-map}
 use Rattle.gw_script.specs.LineParts.{AreEnds, IsFront}
