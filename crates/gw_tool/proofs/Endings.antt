@@ -1,5 +1,5 @@
 -- From what a run read, answered and wrote to how it ends, and from the failure that it ends with to its status.
-use Rattle.std.proofs.Common.{◌≡◌, ◌∙◌, inl, inr, ℕ, List, Option, None, Some, Err, IfSome, ap, option_map, refl, subst}
+use Rattle.std.proofs.Common.{◌≡◌, ◌∙◌, inl, inr, ℕ, List, Option, None, Some, Ok, Err, IfSome, Result, ap, option_map, refl, subst}
 use Rattle.std.proofs.Common.{sym, take}
 use Rattle.std.specs.Prelude.{unwrap_or}
 use Rattle.std.proofs.lemmas.Option.{IfSome_then}
@@ -72,6 +72,19 @@ fails_on t bytes input known (failure.Script e) whole h =
 fails_on t bytes input known (failure.Run e) whole h = (h, keeps_all known)
 fails_on t bytes input known failure.Read whole h = absurd h
 fails_on t bytes input known failure.Write whole h = absurd h
+
+-- what is so of the bytes that were read is so of the whole input
+pub ends_whole : (t : Task) (bytes : List ℕ) (input old new : Option (List ℕ)) (r : Result (Unit {0}) Failure) →
+    IsWhole input bytes → Ends t (Some bytes) old new r → Ends t input old new r
+ends_whole t bytes input old new (Ok done) whole h =
+    IfSome_then input whole (λ xs is. subst (λ b. (text : List ℕ) × IsAnswer t b text × Appends old new text) is h)
+ends_whole t bytes input old new (Err (failure.Script e)) whole h =
+    (IfSome_then input whole (λ xs is. subst (λ b. UnlessMemory e (IsRefusal t b)) is h.0), h.1)
+ends_whole t bytes input old new (Err (failure.Run e)) whole h = h
+ends_whole t bytes input old new (Err failure.Read) whole h = h
+ends_whole t bytes input old new (Err failure.Write) whole h =
+    IfSome_then input whole (λ xs is. subst (λ b. (text : List ℕ) × IsAnswer t b text
+    × ((n : ℕ) × Appends old new (take n text))) is h)
 
 -- the input is refused for its first fault
 refused : (t : Task) (input old new : Option (List ℕ)) (status : ℕ) (f : Fault) → status ≡ 2 →

@@ -1,24 +1,23 @@
 //! The program over any reader and writers.
 
-ghost use Rattle.std.specs.Prelude.{◌≡◌, ◌≢◌, ◌⊎◌, ◌∷◌, [], List, ℕ, codes, map, IfOk, IfErr};
+ghost use Rattle.std.specs.Prelude.{◌≡◌, ◌≢◌, ◌⊎◌, ◌∷◌, [], List, ℕ, Some, codes, map};
 ghost use Rattle.std.specs.Fmt.{decimal};
 ghost use Rattle.std.specs.Io.KnownBytes.{Keeps};
 ghost use Rattle.std.specs.IoError.{error_kind};
 ghost use Rattle.std.specs.declared.io.ErrorKind.TheVariants.{OutOfMemory};
 ghost use Rattle.clap.specs.Words.{kind_of};
-ghost use Rattle.gw_streams.specs.Pieces.{whole_of};
-ghost use Rattle.gw_tool.specs.Outcomes.{IsAnswer, IsFailureOn, Ends, EndsWith, input_of};
+ghost use Rattle.gw_tool.specs.Outcomes.{Ends, EndsWith, input_of};
 ghost use Rattle.gw_command.specs.Words.{IsTurn, IsThreads, HasRanges, IsFileName, asked_of};
 
-use crate::core_command::core_text;
+use crate::core_command::core_to;
 use crate::failure::Failure;
-use crate::run_command::run_text;
-use crate::threads_command::threaded_text;
+use crate::run_command::run_to;
+use crate::threads_command::threads_to;
 use clap::error::ErrorKind;
 use gw_command::{Order, Task, task_of};
 use gw_run::RunFault;
 use gw_script::ScriptFault;
-use gw_streams::{Files, InputFault, NoFiles, WriteFault, read_input, write_pieces};
+use gw_streams::{Files, InputFault, NoFiles, read_input};
 use std::alloc::Global;
 use std::convert::AsStr;
 use std::io;
@@ -26,39 +25,21 @@ use std::io::{Read, Write};
 use std::sync::Wait;
 use std::thread::Threads;
 
-/// A text in one piece.
-fn in_one_piece(alloc: Global, text: Vec<u8>) -> Result<Vec<Vec<u8>>, Failure>
-    ensures ok { IfOk result (λ pieces. whole_of pieces.items ≡ text.items) }
-    ensures err { IfErr result (λ failure. failure ≡ Failure.Run RunFault.Memory) }
-{
-    let mut pieces = Vec::new(alloc);
-    match pieces.push(text) {
-        Ok(()) => Ok(pieces),
-        Err(_) => Err(Failure::Run(RunFault::Memory)),
-    }
-}
-
-/// The answer to the bytes of the input, in pieces.
-fn text_of<H: Threads + Wait + Copy + Send + Sync + 'static>(
+/// Writes the answer to the bytes of the input.
+fn answer_to<H: Threads + Wait + Copy + Send + Sync + 'static, W: Write>(
     rt: &H,
     alloc: Global,
     task: Task,
     bytes: &[u8],
-) -> Result<Vec<Vec<u8>>, Failure>
+    output: &mut W,
+) -> Result<(), Failure>
     requires { HasRanges task }
-    ensures ok { IfOk result (λ pieces. IsAnswer task bytes.now (whole_of pieces.items)) }
-    ensures err { IfErr result (IsFailureOn task bytes.now) }
+    ensures { Ends task (Some bytes.now) (W.contents output.old) (W.contents output.new) result }
 {
     match task {
-        Task::Core => match core_text(alloc, bytes) {
-            Ok(text) => in_one_piece(alloc, text),
-            Err(failure) => Err(failure),
-        },
-        Task::Run { turn } => match run_text(rt, alloc, bytes, turn) {
-            Ok(text) => in_one_piece(alloc, text),
-            Err(failure) => Err(failure),
-        },
-        Task::RunThreads { threads, slack } => threaded_text(rt, alloc, bytes, threads, slack),
+        Task::Core => core_to(alloc, bytes, output),
+        Task::Run { turn } => run_to(rt, alloc, bytes, turn, output),
+        Task::RunThreads { threads, slack } => threads_to(rt, alloc, bytes, threads, slack, output),
     }
 }
 
@@ -79,14 +60,7 @@ fn carry_out<H: Threads + Wait + Copy + Send + Sync + 'static, R: Read, W: Write
         Err(InputFault::Memory) => return Err(Failure::Run(RunFault::Memory)),
         Err(InputFault::Read) => return Err(Failure::Read),
     };
-    let text = match text_of(rt, alloc, task, bytes.as_slice()) {
-        Ok(text) => text,
-        Err(failure) => return Err(failure),
-    };
-    match write_pieces(output, text.as_slice()) {
-        Ok(()) => Ok(()),
-        Err(WriteFault) => Err(Failure::Write),
-    }
+    answer_to(rt, alloc, task, bytes.as_slice(), output)
 }
 
 /// Does the same with the input that is asked for. A file that can't be opened is a read fault.

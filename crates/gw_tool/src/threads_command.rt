@@ -1,9 +1,9 @@
 //! The command `run` with the option `--threads`.
 
-ghost use Rattle.std.specs.Prelude.{◌≡◌, IfOk, IfErr, length};
+ghost use Rattle.std.specs.Prelude.{◌≡◌, Some, IfOk, IfErr, length};
 ghost use Rattle.gw_config.specs.SoundScripts.{IsSound};
 ghost use Rattle.gw_streams.specs.Pieces.{whole_of};
-ghost use Rattle.gw_tool.specs.Outcomes.{IsAnswer, IsFailureOn, IsRunOf};
+ghost use Rattle.gw_tool.specs.Outcomes.{Ends, IsAnswer, IsFailureOn, IsRunOf};
 ghost use Rattle.gw_command.specs.Words.{IsSlack, IsThreads};
 ghost use Rattle.gw_command.specs.declared.task.Task.TheVariants.{RunThreads};
 
@@ -12,7 +12,9 @@ use bx_core::NoGate;
 use gw_print::print_in_threads;
 use gw_run::{RunFault, run_threads};
 use gw_script::{Report, Script, read};
+use gw_streams::{WriteFault, write_pieces};
 use std::alloc::{AllocError, Global};
+use std::io::Write;
 use std::sync::Wait;
 use std::thread::Threads;
 
@@ -44,7 +46,7 @@ fn threaded_report<H: Threads + Wait + Copy + Send + Sync + 'static>(
 
 /// The report on a run in threads of the script that the bytes are, in pieces: the routes by so many threads, and no
 /// segment more than so many bits ahead of another.
-pub fn threaded_text<H: Threads + Wait + Copy + Send + Sync + 'static>(
+fn threaded_text<H: Threads + Wait + Copy + Send + Sync + 'static>(
     rt: &H,
     alloc: Global,
     bytes: &[u8],
@@ -67,5 +69,28 @@ pub fn threaded_text<H: Threads + Wait + Copy + Send + Sync + 'static>(
     match print_in_threads(rt, alloc, &script, &report) {
         Ok(pieces) => Ok(pieces),
         Err(_) => Err(Failure::Run(RunFault::Memory)),
+    }
+}
+
+/// Writes that report.
+pub fn threads_to<H: Threads + Wait + Copy + Send + Sync + 'static, W: Write>(
+    rt: &H,
+    alloc: Global,
+    bytes: &[u8],
+    threads: u32,
+    slack: u32,
+    output: &mut W,
+) -> Result<(), Failure>
+    requires threads { IsThreads threads }
+    requires slack { IsSlack slack }
+    ensures { Ends (RunThreads threads slack) (Some bytes.now) (W.contents output.old) (W.contents output.new) result }
+{
+    let pieces = match threaded_text(rt, alloc, bytes, threads, slack) {
+        Ok(pieces) => pieces,
+        Err(failure) => return Err(failure),
+    };
+    match write_pieces(output, pieces.as_slice()) {
+        Ok(()) => Ok(()),
+        Err(WriteFault) => Err(Failure::Write),
     }
 }

@@ -4,8 +4,12 @@ use bx_core::Entry;
 use can_frame::{Frame, Id};
 use can_node::{Counters, ErrorEvent, ErrorKind};
 use can_segment::{Event, Label, Record, Told};
-use gw_script::{Memory, Report, RouteReport, Script, names_stand, print, read};
+use gw_script::{
+    Memory, PrintFault, Report, RouteReport, Script, names_stand, print, print_to, read,
+};
 use std::alloc::{AllocError, Global};
+use std::io;
+use std::io::Write;
 use std::test::Fail;
 
 /// A talker and a listener.
@@ -222,6 +226,25 @@ fn prints_each_kind_of_line(rt: HostRuntime) -> Result<(), Fail> {
     Ok(())
 }
 
+#[test]
+fn writes_what_it_prints(rt: HostRuntime) -> Result<(), Fail> {
+    let alloc = rt.alloc();
+    let script = read(alloc, THREE_ROUTES.as_bytes())?;
+    let long = Frame::remote(Id::extended(0x1ABC_DEF0)?, 3)?;
+    let short = Frame::with_bytes(Id::standard(0x7FF)?, [0, 10, 255].as_slice())?;
+    let small = Frame::with_bytes(Id::extended(1)?, [16].as_slice())?;
+    let report = each_kind_report(alloc, long, short, small)?;
+    assert!(rt; names_stand(&script, &report));
+    let mut output = Vec::new(alloc);
+    assert_eq!(rt; print_to(alloc, &script, &report, &mut output), Ok(()));
+    assert_eq!(rt; output.as_slice(), EACH_KIND_TEXT.as_bytes());
+    // of the text a front where the writer takes no more
+    let mut full = Counted { bytes: 0, room: 20 };
+    assert_eq!(rt; print_to(alloc, &script, &report, &mut full), Err(PrintFault::Write));
+    assert_eq!(rt; full.bytes, 20);
+    Ok(())
+}
+
 /// A report on one segment and no route, with this event alone.
 fn one_event_report(alloc: Global, told: Event) -> Result<Report, AllocError> {
     let events = vec![in alloc; told]?;
@@ -264,6 +287,25 @@ fn finds_nodes_and_routes_by_their_places(rt: HostRuntime) -> Result<(), Fail> {
     Ok(())
 }
 
+/// A writer that counts bytes, as many as there is room for.
+#[derive(Drop)]
+struct Counted {
+    bytes: usize,
+    room: usize,
+}
+
+impl Write for Counted {
+    fn write(&mut self, buf: &[u8]) -> io::Result<usize> {
+        let count = buf.len().min(self.room.saturating_sub(self.bytes));
+        self.bytes = self.bytes.saturating_add(count);
+        Ok(count)
+    }
+
+    fn flush(&mut self) -> io::Result<()> {
+        Ok(())
+    }
+}
+
 /// Accepts the text or the refusal of memory, and nothing else: for runs in which an allocation fails.
 #[test]
 fn prints_or_wants_memory(rt: HostRuntime) {
@@ -278,5 +320,17 @@ fn prints_or_wants_memory(rt: HostRuntime) {
     match print(alloc, &script, &report) {
         Ok(text) => assert_eq!(rt; text.as_slice(), ONE_FRAME_TEXT.as_bytes()),
         Err(why) => assert_eq!(rt; why, Memory),
+    }
+    // nothing is written where memory is refused
+    let mut written = Counted {
+        bytes: 0,
+        room: 1000,
+    };
+    match print_to(alloc, &script, &report, &mut written) {
+        Ok(()) => assert_eq!(rt; written.bytes, ONE_FRAME_TEXT.len()),
+        Err(why) => {
+            assert_eq!(rt; why, PrintFault::Memory);
+            assert_eq!(rt; written.bytes, 0);
+        }
     }
 }
