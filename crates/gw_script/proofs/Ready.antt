@@ -1,13 +1,19 @@
 -- What is needed for all segments, one after another.
 use Rattle.std.proofs.Common.{◌≡◌, ◌∙◌, sym, ap, subst, arith, ℕ, ◌+◌, ◌≤◌, inl, inr, List, [], ◌∷◌, ◌++◌, Some}
-use Rattle.std.proofs.Common.{All, length, length-append, length-set, set, slice_get}
-use Rattle.std.proofs.lemmas.Option.{get_or_from_slice_get, slice_get_within}
+use Rattle.std.proofs.Common.{◌<◌, All, get_or, refl, length, length-append, length-set, set, slice_get}
+use Rattle.std.proofs.lemmas.Option.{get_or_from_slice_get, slice_get_read, slice_get_within}
 use Rattle.bx_core.proofs.Words.{pushed}
 use Rattle.can_station.proofs.Places.{get_set_other, same_some}
 use Rattle.can_segment.specs.declared.record.Record.{Record}
 use Rattle.gw_config.specs.Scripts.{ScriptValue}
 use Rattle.gw_script.specs.declared.segment_lines.SegmentLines.{SegmentLines}
 use Rattle.gw_script.specs.SegmentLines.{IsReady, AreReady}
+
+-- a record that was read at its place stands there
+pub record-at : (shown kept : List Record) (i : ℕ) (x : Record) → shown ≡ kept → i < length shown →
+    x ≡ get_or shown i x → slice_get kept i ≡ Some x
+record-at shown kept i x same lt is =
+    ap (λ rs. slice_get rs i) (sym same) ∙ slice_get_read shown (length shown) i x refl lt is
 
 -- that of the first segments, so many of them
 pub record ReadyBelow (s : ScriptValue) (records : List Record) (all : List SegmentLines) (i : ℕ) : Type 0 where

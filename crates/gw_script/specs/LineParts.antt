@@ -25,13 +25,14 @@ end_text told = codes " " ++ (told_text told ++ (10 ∷ []))
 abbrev pub rest_text : ScriptValue → ℕ → Event → List ℕ
 rest_text s segment e = codes " " ++ (told_text e.told ++ (label_text s segment e.node (label_of e.told) ++ (10 ∷ [])))
 
--- it has the text of its bit, and room for that of any other
+-- it has the text of its bit, and room for that of any other: behind the name a space, 20 digits and a space
 pub record IsFront (name : List ℕ) (front : Front) : Type 0 where
   pub text_is : front.text.items ≡ front_text name front.bit
   pub short : vec_len front.text ≤ length name + 22
   pub room : length name + 22 ≤ vec_capacity front.text
 
--- it has the text of what it tells, and room for that of any other thing
+-- It has the text of what it tells, and room for that of any other thing. The longest is that a frame was completed: 11
+-- bytes, 20 digits and a space, 32 bytes of the frame, and a line feed.
 pub record IsEnd (end : End) : Type 0 where
   pub text_is : end.text.items ≡ end_text end.told
   pub short : vec_len end.text ≤ 65
@@ -49,7 +50,8 @@ AreRoutesWithin longest s = (route : ℕ) → length (route_name s route) ≤ lo
 abbrev pub AreNodesWithin : ℕ → ScriptValue → ℕ → Type 0
 AreNodesWithin longest s segment = (node : ℕ) → length (node_name s segment node) ≤ longest
 
--- no line of an event of this segment has more bytes
+-- No line of an event of this segment has more bytes: besides the names 22 at its beginning, 65 of what happened, and 22
+-- around the name of a request's route.
 pub record IsLongest (s : ScriptValue) (segment longest : ℕ) : Type 0 where
   pub node : ℕ
   pub nodes_within : AreNodesWithin node s segment

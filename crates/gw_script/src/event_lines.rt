@@ -16,6 +16,10 @@ use can_segment::Event;
 use gw_config::{Route, Script};
 use std::alloc::{AllocError, Global};
 
+/// Besides names, the line of an event takes as many bytes at most: 22 behind the segment's name, and behind the node's
+/// 65 of what happened and 22 around the route's, of a request.
+const BESIDE_NAMES: usize = 109;
+
 /// What the lines of a segment's events are made of: its name, those of its nodes, and parts that stay the same in
 /// lines in a row.
 #[derive(Drop)]
@@ -56,14 +60,14 @@ fn longest_of_routes(routes: &[Route]) -> usize
 }
 
 /// A length that no line of an event has more than, in bytes, where the names of the segment, its nodes and the routes
-/// have at most so many: 109 for all besides. `None` where there is no such number.
+/// have at most so many. `None` where there is no such number.
 fn longest_line(segment: usize, nodes: usize, routes: usize) -> Option<usize>
     ensures { IfSome result (λ longest. segment + nodes + routes + 109 ≤ longest) }
 {
     segment
         .checked_add(nodes)?
         .checked_add(routes)?
-        .checked_add(109)
+        .checked_add(BESIDE_NAMES)
 }
 
 impl<'s> EventLines<'s> {

@@ -11,6 +11,13 @@ use can_frame::Frame;
 use can_segment::Told;
 use std::alloc::{AllocError, Global};
 
+/// Of the beginning of a line what stands behind the segment's name takes as many bytes at most: a space, 20 digits and
+/// a space.
+const BEHIND_NAME: usize = 22;
+
+/// So many the end of a line that names no request: that it completed a frame, at a bit of 20 digits, which takes 32.
+const LONGEST_END: usize = 65;
+
 /// The beginning of the lines at a bit: the segment's name and the bit, with a space behind each.
 #[derive(Drop)]
 pub(crate) struct Front {
@@ -36,7 +43,7 @@ impl Front {
     pub(crate) fn new(alloc: Global, name: &str) -> Result<Front, AllocError>
         ensures { IfOk result (IsFront name.now) }
     {
-        let mut text = Vec::with_capacity(alloc, name.len().saturating_add(22))?;
+        let mut text = Vec::with_capacity(alloc, name.len().saturating_add(BEHIND_NAME))?;
         write_front(&mut text, name, 0)?;
         Ok(Front { bit: 0, text })
     }
@@ -133,7 +140,7 @@ impl End {
         ensures { IfOk result IsEnd }
     {
         let told = Told::Back;
-        let mut text = Vec::with_capacity(alloc, 65)?;
+        let mut text = Vec::with_capacity(alloc, LONGEST_END)?;
         write_end(&mut text, &told)?;
         Ok(End { told, text })
     }

@@ -1,10 +1,10 @@
 -- One segment more; where a write fails, a front of what is told of all was written.
-use Rattle.std.proofs.Common.{◌+◌, ◌<◌, ◌∙◌, [], ap, sym, arith, drop, length, slice_get, slice_index_or, refl}
-use Rattle.std.proofs.lemmas.Option.{slice_get_read, slice_get-get_or}
+use Rattle.std.proofs.Common.{◌+◌, ◌<◌, [], ap, arith, drop, length, slice_index_or, refl}
+use Rattle.std.proofs.lemmas.Option.{slice_get-get_or}
 use Rattle.gw_script.specs.Lines.{lines_from}
 use Rattle.gw_script.specs.ReportTexts.{segment_text}
 use Rattle.gw_script.proofs.Gathering.{at-err, gathered-front, gathered-next, gathered-none, gathered-written}
-use Rattle.gw_script.proofs.Ready.{ready-from, ready-next}
+use Rattle.gw_script.proofs.Ready.{ready-from, ready-next, record-at}
 use Rattle.gw_script.proofs.report_writer.write_segments.Goals as goal
 
 pub loop-segment-init : goal.loop-segment-init
@@ -24,8 +24,8 @@ write_segment-requires-clause-ready g c =
     let i = c.loop-segment.segment in
     let all = c.loop-segment.all in
     let lines = slice_index_or all i c.index-all-segment.result in
-    let here = ap (λ rs. slice_get rs i) (sym c.deref-kept-items.ensures.value)
-    ∙ slice_get_read records (length records) i c.kept-item.result refl c.loop-segment-test.true c.kept-item.is in
+    let here = record-at records c.args.report.now.segments.items i c.kept-item.result c.deref-kept-items.ensures.value
+    c.loop-segment-test.true c.kept-item.is in
     let within : i < length all = omega (
       arith,
       c.loop-segment.invariant.ready.count,
@@ -40,8 +40,8 @@ write_segment-requires-clause-names g c =
     let records = c.deref-kept-items.result.now in
     let i = c.loop-segment.segment in
     c.requires.names.records i c.kept-item.result
-    (ap (λ rs. slice_get rs i) (sym c.deref-kept-items.ensures.value)
-    ∙ slice_get_read records (length records) i c.kept-item.result refl c.loop-segment-test.true c.kept-item.is)
+    (record-at records c.args.report.now.segments.items i c.kept-item.result c.deref-kept-items.ensures.value
+    c.loop-segment-test.true c.kept-item.is)
 
 pub write_segment-requires-clause-room : goal.write_segment-requires-clause-room
 write_segment-requires-clause-room g c =
@@ -68,8 +68,8 @@ returns-in_err-write_segment-clause-front g c =
     let old = g.W.Write.contents c.args.output.now in
     let now = g.W.Write.contents c.loop-segment.output in
     let whole = lines_from (segment_text s) 0 kept in
-    let here = ap (λ rs. slice_get rs i) (sym c.deref-kept-items.ensures.value)
-    ∙ slice_get_read records (length records) i of refl c.loop-segment-test.true c.kept-item.is in
+    let here = record-at records c.args.report.now.segments.items i of c.deref-kept-items.ensures.value
+    c.loop-segment-test.true c.kept-item.is in
     at-err c.from_residual.result _
     (gathered-front old now (g.W.Write.contents c.write_segment.new.output) (segment_text s i of)
     (lines_from (segment_text s) (i + 1) (drop (i + 1) kept)) whole
@@ -86,8 +86,8 @@ loop-segment-preserved g c =
     let old = g.W.Write.contents c.args.output.now in
     let now = g.W.Write.contents c.loop-segment.output in
     let whole = lines_from (segment_text s) 0 kept in
-    let here = ap (λ rs. slice_get rs i) (sym c.deref-kept-items.ensures.value)
-    ∙ slice_get_read records (length records) i of refl c.loop-segment-test.true c.kept-item.is in
+    let here = record-at records c.args.report.now.segments.items i of c.deref-kept-items.ensures.value
+    c.loop-segment-test.true c.kept-item.is in
     record {
       gathered = gathered-written old now (g.W.Write.contents c.write_segment.new.output) (segment_text s i of)
           (lines_from (segment_text s) (i + 1) (drop (i + 1) kept)) whole
