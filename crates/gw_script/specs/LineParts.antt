@@ -50,8 +50,8 @@ AreRoutesWithin longest s = (route : ℕ) → length (route_name s route) ≤ lo
 abbrev pub AreNodesWithin : ℕ → ScriptValue → ℕ → Type 0
 AreNodesWithin longest s segment = (node : ℕ) → length (node_name s segment node) ≤ longest
 
--- No line of an event of this segment has more bytes: besides the names 22 at its beginning, 65 of what happened, and 22
--- around the name of a request's route.
+-- No line of an event of this segment has more bytes: besides the names 22 at its beginning, 65 of what happened, and
+-- 22 around the name of a request's route.
 pub record IsLongest (s : ScriptValue) (segment longest : ℕ) : Type 0 where
   pub node : ℕ
   pub nodes_within : AreNodesWithin node s segment

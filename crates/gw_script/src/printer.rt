@@ -32,13 +32,13 @@ pub fn print(alloc: Global, script: &Script, report: &Report) -> Result<Vec<u8>,
     }
 }
 
-/// How many bytes of a report are gathered before they are written, but for the last line: so few that they stay in the
-/// processor's cache.
+/// How many bytes of a report are gathered before they are written, but for the last line: so few that they stay in
+/// the processor's cache.
 const GATHERED: usize = 65_536;
 
-/// Writes the text of a report, as `print` gives it, while it is made, so that never all of it is kept. Each request for
-/// memory comes before the first write: `Memory` only where one was refused, and then nothing was written. `Write` where
-/// a write failed: then a front of the text was written, and nothing else.
+/// Writes the text of a report, as `print` gives it, while it is made, so that never all of it is kept. Each request
+/// for memory comes before the first write: `Memory` only where one was refused, and then nothing was written. `Write`
+/// where a write failed: then a front of the text was written, and nothing else.
 pub fn print_to<W: Write>(
     alloc: Global,
     script: &Script,

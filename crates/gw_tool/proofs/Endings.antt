@@ -1,5 +1,6 @@
 -- From what a run read, answered and wrote to how it ends, and from the failure that it ends with to its status.
-use Rattle.std.proofs.Common.{◌≡◌, ◌∙◌, inl, inr, ℕ, List, Option, None, Some, Ok, Err, IfSome, Result, ap, option_map, refl, subst}
+use Rattle.std.proofs.Common.{◌≡◌, ◌∙◌, inl, inr, ℕ, List, Option, None, Some, Ok, Err, IfSome, Result, ap}
+use Rattle.std.proofs.Common.{option_map, refl, subst}
 use Rattle.std.proofs.Common.{sym, take}
 use Rattle.std.specs.Prelude.{unwrap_or}
 use Rattle.std.proofs.lemmas.Option.{IfSome_then}
@@ -7,9 +8,12 @@ use Rattle.std.specs.Io.KnownBytes.{Appends, Keeps}
 use Rattle.gw_fields.specs.declared.script_fault.ScriptFault.TheVariants as fault
 use Rattle.gw_fields.specs.Faults.{Fault, UnlessMemory, not_json, missing, wrong_kind, out_of_range, unknown_name}
 use Rattle.gw_fields.specs.Faults.{double_name, fifo_twice, too_many, wrong_version}
-use Rattle.gw_fields.specs.Documents.{IsNoDocument, in_text}
+use Rattle.gw_fields.specs.Documents.{IsNoDocument, IsTextOf, in_text}
 use Rattle.gw_tool.specs.Outcomes.{Answers, Begins, Ends, EndsWith, IsAnswer, IsFailureOn, IsRefusal, IsWant, input_of}
-use Rattle.gw_tool.specs.Outcomes.{status_of}
+use Rattle.gw_tool.specs.Outcomes.{status_of, IsRunAnswer, IsRunOf}
+use Rattle.gw_config.specs.Scripts.{ScriptValue, script_of}
+use Rattle.gw_script.specs.ReportTexts.{report_text}
+use Rattle.gw_script.specs.declared.report.Report.{Report}
 use Rattle.gw_command.specs.Words.{Asked, asked_of}
 use Rattle.gw_command.specs.declared.order.Order.{Order}
 use Rattle.gw_run.specs.declared.run_fault.RunFault.{RunFault}
@@ -85,6 +89,11 @@ ends_whole t bytes input old new (Err failure.Read) whole h = h
 ends_whole t bytes input old new (Err failure.Write) whole h =
     IfSome_then input whole (λ xs is. subst (λ b. (text : List ℕ) × IsAnswer t b text
     × ((n : ℕ) × Appends old new (take n text))) is h)
+
+-- the text of a report on a run is an answer to the script that the run is of
+pub run_answer : (bytes : List ℕ) (s : ScriptValue) (report : Report) → IsTextOf script_of bytes s → IsRunOf s report →
+    IsRunAnswer bytes (report_text s report)
+run_answer bytes s report reads run = record { script = s; reads = reads; report = report; run = run; text_is = refl }
 
 -- the input is refused for its first fault
 refused : (t : Task) (input old new : Option (List ℕ)) (status : ℕ) (f : Fault) → status ≡ 2 →

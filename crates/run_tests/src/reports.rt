@@ -223,18 +223,6 @@ fn prints_each_kind_of_line(rt: HostRuntime) -> Result<(), Fail> {
     let report = each_kind_report(alloc, long, short, small)?;
     assert!(rt; names_stand(&script, &report));
     assert!(rt; is_printed(alloc, &script, &report, EACH_KIND_TEXT)?);
-    Ok(())
-}
-
-#[test]
-fn writes_what_it_prints(rt: HostRuntime) -> Result<(), Fail> {
-    let alloc = rt.alloc();
-    let script = read(alloc, THREE_ROUTES.as_bytes())?;
-    let long = Frame::remote(Id::extended(0x1ABC_DEF0)?, 3)?;
-    let short = Frame::with_bytes(Id::standard(0x7FF)?, [0, 10, 255].as_slice())?;
-    let small = Frame::with_bytes(Id::extended(1)?, [16].as_slice())?;
-    let report = each_kind_report(alloc, long, short, small)?;
-    assert!(rt; names_stand(&script, &report));
     let mut output = Vec::new(alloc);
     assert_eq!(rt; print_to(alloc, &script, &report, &mut output), Ok(()));
     assert_eq!(rt; output.as_slice(), EACH_KIND_TEXT.as_bytes());
