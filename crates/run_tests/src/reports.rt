@@ -228,7 +228,10 @@ fn prints_each_kind_of_line(rt: HostRuntime) -> Result<(), Fail> {
     assert_eq!(rt; output.as_slice(), EACH_KIND_TEXT.as_bytes());
     // of the text a front where the writer takes no more
     let mut full = Counted { bytes: 0, room: 20 };
-    assert_eq!(rt; print_to(alloc, &script, &report, &mut full), Err(PrintFault::Write));
+    assert_eq!(rt;
+        print_to(alloc, &script, &report, &mut full),
+        Err(PrintFault::Write)
+    );
     assert_eq!(rt; full.bytes, 20);
     Ok(())
 }
