@@ -43,7 +43,7 @@ as_spent rest = record {
   settled = rest.settled;
   asleep = rest.asleep;
   steady = rest.steady;
-  leader = rest.leader;
+  apart = rest.apart;
 }
 
 spent_rests : (rest : Rest) (bit : ℕ) (members : List Member) → AreResting rest bit members →

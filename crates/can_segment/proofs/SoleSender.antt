@@ -113,7 +113,7 @@ with_listener rest listener = record {
   settled = rest.settled;
   asleep = rest.asleep;
   steady = rest.steady;
-  leader = rest.leader;
+  apart = rest.apart;
 }
 
 pub rests_through : (rest : Rest) (bit : ℕ) (after : Listener) (level : Bool) →

@@ -59,10 +59,10 @@ impl Awake {
         self.nodes.saturating_sub(self.awake)
     }
 
-    /// Whether more of both listen that are awake than rest.
+    /// Whether of both more than twice as many listen that are awake as rest.
     pub(crate) fn outnumber(&self, other: &Awake) -> bool {
-        self.resting().saturating_add(other.resting())
-            < self.listening.saturating_add(other.listening)
+        let resting = self.resting().saturating_add(other.resting());
+        resting < self.listening.saturating_add(other.listening) / 2
     }
 }
 

@@ -1,47 +1,57 @@
-//! After which node others come to rest.
+//! After which node others come to rest. Nothing rests on it that it is the one that is said here: nodes come to rest
+//! only where they have come as far as the listener.
 
 use can_node::Listener;
 use can_station::Member;
 
-/// One that listens.
-#[derive(Drop)]
-pub(crate) struct Leader {
-    pub(crate) listener: Listener,
-    // of the talker whose listener it is; without meaning where it is a controller's
-    pub(crate) place: usize,
-}
-
-impl Leader {
-    /// The first that listens before this bit: of the talkers from this place on, of those before, or of the
-    /// controllers. Nothing rests on it that it is so: nodes come to rest only where they have come as far as the
-    /// listener.
-    pub(crate) fn from_place(
-        place: usize,
-        talkers: &[Member],
-        controllers: &[Member],
-        bit: u64,
-    ) -> Option<Leader> {
-        if let Some(leader) = first_of(talkers, place, bit) {
-            return Some(leader);
-        }
-        match first_of(talkers, 0, bit) {
-            Some(leader) => Some(leader),
-            None => first_of(controllers, 0, bit),
-        }
-    }
-}
-
-/// The first of these from a place on that listens before this bit.
-fn first_of(members: &[Member], from: usize, bit: u64) -> Option<Leader> {
-    for (place, member) in members.iter().enumerate() {
-        if from <= place && member.listens_at(bit) {
-            return Some(Leader {
-                listener: member.station.node.listener(),
-                place,
-            });
+/// That of the first of these nodes that listens before this bit.
+fn first_of(members: &[Member], bit: u64) -> Option<Listener> {
+    for member in members {
+        if member.listens_at(bit) {
+            return Some(member.station.node.listener());
         }
     }
     None
+}
+
+/// That of the first talker that listens before this bit, or of the first controller.
+pub(crate) fn first_listener(
+    talkers: &[Member],
+    controllers: &[Member],
+    bit: u64,
+) -> Option<Listener> {
+    match first_of(talkers, bit) {
+        Some(listener) => Some(listener),
+        None => first_of(controllers, bit),
+    }
+}
+
+/// That as far as which a third of those nodes have come that listen before this bit, the first such; where there is
+/// none, one as far as which most of them have.
+pub(crate) fn listener_of_many(
+    talkers: &[Member],
+    controllers: &[Member],
+    bit: u64,
+) -> Option<Listener> {
+    let mut chosen = None;
+    let mut most = 0;
+    for member in talkers.iter().chain(controllers) {
+        if !member.listens_at(bit) {
+            continue;
+        }
+        let listener = member.station.node.listener();
+        let mut votes = Votes::none();
+        votes.count(talkers, &listener, bit);
+        votes.count(controllers, &listener, bit);
+        if votes.alike >= votes.listening / 3 {
+            return Some(listener);
+        }
+        if votes.alike > most {
+            most = votes.alike;
+            chosen = Some(listener);
+        }
+    }
+    chosen
 }
 
 /// How many listen, and how many of them have come as far as a listener.

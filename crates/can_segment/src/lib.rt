@@ -7,6 +7,7 @@ mod counts_shown;
 mod grow;
 mod idle_run;
 mod leader;
+mod lull;
 mod make_bit;
 mod opening;
 mod record;

@@ -1,17 +1,11 @@
 //! Nodes that are left alone while a listener follows the line for them.
 
 ghost use Rattle.std.specs.Prelude.{◌≡◌, ◌+◌, ◌≤◌, true, false, ℕ, length};
-ghost use Rattle.can_station.specs.RestingNodes.{IsWhole, LeavesResting, MayLieDown, NoneRests, Undisturbed};
-ghost use Rattle.can_segment.specs.Rests.{AreResting, AreSpent, Chooses, ComesToRest, Drives, GoesThrough};
-ghost use Rattle.can_segment.specs.Rests.{IsLess, IsSame, Lulls, RestHolds, RestsThrough, StartsNone, members_at};
-ghost use Rattle.can_station.specs.Places.{AtPlaces};
+ghost use Rattle.can_station.specs.RestingNodes.{IsWhole, LeavesResting, NoneRests, Undisturbed};
+ghost use Rattle.can_segment.specs.Rests.{Drives, GoesThrough, IsSame, RestHolds, RestsThrough, StartsNone, members_at};
 
-use crate::awake::{Awake, asks_at_each_bit, nodes_within};
-use crate::leader::{Leader, Votes};
 use can_node::{KnownCounts, Listener, Node};
-use can_station::{
-    Member, NodeFault, Span, Talker, fall_silent, wake_all, wake_disturbed, wake_unspent,
-};
+use can_station::{Member, NodeFault, Span, Talker, wake_all, wake_disturbed, wake_unspent};
 
 /// What is held alike for all nodes that rest: which those are each node tells itself. A listener has come as far as
 /// each of them would have.
@@ -30,12 +24,12 @@ pub(crate) struct Rest {
     // each of these spans has one place at most
     pub(crate) few: bool,
     // none woke since these spans were taken, and so many rested then
-    settled: bool,
-    asleep: usize,
+    pub(crate) settled: bool,
+    pub(crate) asleep: usize,
     // those that rest read on in the stuffed region at the last bit, and before it
-    steady: bool,
-    // the place from which on the next listener is looked for
-    leader: usize,
+    pub(crate) steady: bool,
+    // all woke since a listener was chosen, so that they may have come apart
+    pub(crate) apart: bool,
 }
 
 impl Rest {
@@ -57,7 +51,7 @@ impl Rest {
             settled: false,
             asleep: 0,
             steady: false,
-            leader: 0,
+            apart: false,
         }
     }
 
@@ -173,6 +167,7 @@ impl Rest {
         wake_all(talkers, &self.listener, bit);
         wake_all(controllers, &self.listener, bit);
         self.resting = false;
+        self.apart = true;
         self.look_everywhere(talkers, controllers);
     }
 
@@ -213,175 +208,5 @@ impl Rest {
             return;
         }
         self.wake(plan, talkers, controllers, bit);
-    }
-
-    /// Nodes come to rest before this bit that listen and have come equally far, and nothing is told any more of those
-    /// that don't. At the bit before something was told of a node, or nothing. Controllers that want to start may come
-    /// to rest where it idles.
-    pub(crate) fn come_to_rest(
-        &mut self,
-        plan: &[Talker],
-        talkers: &mut [Member],
-        controllers: &mut [Member],
-        bit: u64,
-        told: bool,
-        idles: bool,
-    )
-        requires plan { length plan.now ≡ length talkers.old }
-        requires holds { RestHolds self.old bit plan.now talkers.old controllers.old }
-        ensures { ComesToRest bit plan.now self.old self.new talkers.old talkers.new controllers.old controllers.new }
-    {
-        fall_silent(talkers, told, self.talkers);
-        fall_silent(controllers, told, self.controllers);
-        self.lull_alike(plan, talkers, controllers, bit, told, idles);
-    }
-
-    /// Nodes come to rest before this bit that listen and have come equally far.
-    fn lull_alike(
-        &mut self,
-        plan: &[Talker],
-        talkers: &mut [Member],
-        controllers: &mut [Member],
-        bit: u64,
-        told: bool,
-        idles: bool,
-    )
-        requires plan { length plan.now ≡ length talkers.old }
-        requires holds { RestHolds self.old bit plan.now talkers.old controllers.old }
-        ensures { ComesToRest bit plan.now self.old self.new talkers.old talkers.new controllers.old controllers.new }
-    {
-        if !idles && self.stays_so(talkers, controllers, bit, told) {
-            return;
-        }
-        self.choose(talkers, controllers, bit);
-        if !self.resting {
-            return;
-        }
-        self.lull_talkers(plan, talkers, bit);
-        self.lull_controllers(controllers, bit, idles);
-        self.settle(plan, talkers, controllers, bit);
-    }
-
-    /// Whether none comes to rest: ports are asked at each bit, or none that is awake can have come as far as the
-    /// listener at the last bit, as far as that is seen at once.
-    fn stays_so(&self, talkers: &[Member], controllers: &[Member], bit: u64, told: bool) -> bool {
-        if asks_at_each_bit(controllers) {
-            return true;
-        }
-        // where one has woken, or something was told, it is looked once more at which places they are awake
-        if told || !self.settled {
-            return false;
-        }
-        if self.steady {
-            return true;
-        }
-        if !self.resting {
-            return false;
-        }
-        let mut votes = Votes::none();
-        votes.count(nodes_within(talkers, self.talkers), &self.listener, bit);
-        votes.count(
-            nodes_within(controllers, self.controllers),
-            &self.listener,
-            bit,
-        );
-        votes.alike == 0 && votes.listening <= self.asleep
-    }
-
-    /// Where none rests, those may come to rest that have come as far as one that listens.
-    fn choose(&mut self, talkers: &[Member], controllers: &[Member], bit: u64)
-        ensures { Chooses self.old self.new }
-    {
-        self.few = false;
-        if self.resting {
-            return;
-        }
-        let Some(leader) = Leader::from_place(self.leader, talkers, controllers, bit) else {
-            return;
-        };
-        self.listener = leader.listener;
-        // where most have come elsewhere they wake at once (`settle`), and the next one leads
-        self.leader = leader.place.saturating_add(1);
-        self.resting = true;
-        self.known = KnownCounts::Zero;
-        self.spent = true;
-    }
-
-    /// The node comes to rest before this bit if it may. It is told whether it has nothing to start, and whether it is
-    /// given nothing.
-    fn lull(&mut self, member: &mut Member, spent: bool, idles: bool, bit: u64)
-        ensures { Lulls bit spent self.old self.new member.old member.new }
-    {
-        if !self.resting || !member.may_rest(&self.listener, bit) {
-            return;
-        }
-        // it would wake at once
-        if !spent && !idles && self.listener.wants_start() {
-            return;
-        }
-        self.known = self.known.and(member.known_counts());
-        self.spent &= spent;
-        member.lie_down();
-    }
-
-    /// Talkers come to rest before this bit.
-    fn lull_talkers(&mut self, plan: &[Talker], members: &mut [Member], bit: u64)
-        requires plan { length plan.now ≡ length members.old }
-        requires within { self.old.talkers.to ≤ length members.old }
-        requires rests { AreResting self.old bit members.old }
-        requires spent { AreSpent self.old plan.now members.old }
-        ensures less { IsLess self.old self.new }
-        ensures lie { AtPlaces (λ k. MayLieDown self.old.listener bit) members.old members.new }
-        ensures rests { AreResting self.new bit members.new }
-        ensures spent { AreSpent self.new plan.now members.new }
-    {
-        for place in self.talkers.from..self.talkers.to {
-            let spent = members[place].is_spent(plan[place].frames.as_slice());
-            self.lull(&mut members[place], spent, false, bit);
-        }
-    }
-
-    /// So do controllers, where it idles also such as want to start.
-    fn lull_controllers(&mut self, members: &mut [Member], bit: u64, idles: bool)
-        requires within { self.old.controllers.to ≤ length members.old }
-        requires rests { AreResting self.old bit members.old }
-        requires spent { self.old.spent ≡ true → NoneRests members.old }
-        ensures less { IsLess self.old self.new }
-        ensures lie { AtPlaces (λ k. MayLieDown self.old.listener bit) members.old members.new }
-        ensures rests { AreResting self.new bit members.new }
-        ensures spent { self.new.spent ≡ true → NoneRests members.new }
-    {
-        for place in self.controllers.from..self.controllers.to {
-            self.lull(&mut members[place], false, idles, bit);
-        }
-    }
-
-    /// Keeps where nodes are awake. Where more listen that are awake than rest, all wake, so that another listener is
-    /// chosen.
-    fn settle(
-        &mut self,
-        plan: &[Talker],
-        talkers: &mut [Member],
-        controllers: &mut [Member],
-        bit: u64,
-    )
-        requires holds { RestHolds self.old bit plan.now talkers.old controllers.old }
-        ensures talkers { members_at self.new bit talkers.new ≡ members_at self.old bit talkers.old }
-        ensures controllers { members_at self.new bit controllers.new ≡ members_at self.old bit controllers.old }
-        ensures holds { RestHolds self.new bit plan.now talkers.new controllers.new }
-    {
-        let awake_talkers = Awake::of(talkers, self.talkers, bit);
-        let awake_controllers = Awake::of(controllers, self.controllers, bit);
-        if awake_talkers.outnumber(&awake_controllers) {
-            self.wake(plan, talkers, controllers, bit);
-            return;
-        }
-        self.talkers = awake_talkers.span;
-        self.controllers = awake_controllers.span;
-        self.few = self.talkers.is_one_at_most() && self.controllers.is_one_at_most();
-        self.settled = true;
-        self.asleep = awake_talkers
-            .resting()
-            .saturating_add(awake_controllers.resting());
     }
 }

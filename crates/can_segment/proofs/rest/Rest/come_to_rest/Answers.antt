@@ -7,11 +7,11 @@ use Rattle.can_segment.proofs.Holds.{left_holds}
 use Rattle.can_segment.proofs.Woken.{left_places}
 use Rattle.can_segment.proofs.rest.Rest.come_to_rest.Goals as goal
 
-pub lull_alike-requires-clause-plan : goal.lull_alike-requires-clause-plan
-lull_alike-requires-clause-plan c = omega (arith, c.requires.plan, c.fall_silent.ensures.size)
+pub lull_nodes-requires-clause-plan : goal.lull_nodes-requires-clause-plan
+lull_nodes-requires-clause-plan c = omega (arith, c.requires.plan, c.fall_silent.ensures.size)
 
-pub lull_alike-requires-clause-holds : goal.lull_alike-requires-clause-holds
-lull_alike-requires-clause-holds c =
+pub lull_nodes-requires-clause-holds : goal.lull_nodes-requires-clause-holds
+lull_nodes-requires-clause-holds c =
     let t0 = c.args.talkers.now in
     let t1 = c.fall_silent.new.members in
     let c0 = c.args.controllers.now in
@@ -29,14 +29,14 @@ returns c =
       talkers =
           all_alike_on (members_at rest c.args.bit c.args.talkers.now)
           (members_at rest c.args.bit c.fall_silent.new.members)
-          (members_at c.lull_alike.new.self c.args.bit c.lull_alike.new.talkers)
+          (members_at c.lull_nodes.new.self c.args.bit c.lull_nodes.new.talkers)
           (all_silent rest.listener c.args.bit c.args.talkers.now c.fall_silent.new.members c.fall_silent.ensures)
-          c.lull_alike.ensures.talkers;
+          c.lull_nodes.ensures.talkers;
       controllers =
           all_alike_on (members_at rest c.args.bit c.args.controllers.now)
           (members_at rest c.args.bit c.fall_silent-2.new.members)
-          (members_at c.lull_alike.new.self c.args.bit c.lull_alike.new.controllers)
+          (members_at c.lull_nodes.new.self c.args.bit c.lull_nodes.new.controllers)
           (all_silent rest.listener c.args.bit c.args.controllers.now c.fall_silent-2.new.members
-          c.fall_silent-2.ensures) c.lull_alike.ensures.controllers;
-      holds = c.lull_alike.ensures.holds;
+          c.fall_silent-2.ensures) c.lull_nodes.ensures.controllers;
+      holds = c.lull_nodes.ensures.holds;
     }

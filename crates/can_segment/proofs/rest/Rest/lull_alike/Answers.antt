@@ -116,7 +116,7 @@ returns c = record {
         settled = mid.settled;
         asleep = mid.asleep;
         steady = mid.steady;
-        leader = mid.leader;
+        apart = mid.apart;
       }) c.args.bit
       c.args.controllers.now) c.lull_talkers.ensures.less.listener_is
       ∙ chosen_same c.args.self.now c.choose.new.self c.args.bit c.args.controllers.now c.choose.ensures
