@@ -61,6 +61,22 @@ same_rests old new bit members same rests k m e is =
       listening = subst IsListening (sym same.listener_is) h.listening;
     }
 
+pub same_holds : (old new : Rest) (bit : ℕ) (plan : List Talker) (talkers controllers : List Member) → IsSame old new →
+    new.talkers ≡ old.talkers → new.controllers ≡ old.controllers → new.few ≡ old.few →
+    RestHolds old bit plan talkers controllers → RestHolds new bit plan talkers controllers
+same_holds old new bit plan talkers controllers same talkers_is controllers_is few_is h = record {
+  talkers_rest = same_rests old new bit talkers same h.talkers_rest;
+  controllers_rest = same_rests old new bit controllers same h.controllers_rest;
+  talkers_spent = λ s. h.talkers_spent (sym same.spent_is ∙ s);
+  controllers_awake = λ s. h.controllers_awake (sym same.spent_is ∙ s);
+  talkers_within = subst (λ span. AwakeWithin span talkers) (sym talkers_is) h.talkers_within;
+  controllers_within = subst (λ span. AwakeWithin span controllers) (sym controllers_is) h.controllers_within;
+  few_are = λ few. let are = h.few_are (sym few_is ∙ few) in record {
+    talkers = subst (λ span. span.to ≤ span.from + 1) (sym talkers_is) are.talkers;
+    controllers = subst (λ span. span.to ≤ span.from + 1) (sym controllers_is) are.controllers;
+  };
+}
+
 pub left_rests : (rest : Rest) (bit : ℕ) (old new : List Member) → LeavesResting old new → AreResting rest bit old →
     AreResting rest bit new
 left_rests rest bit old new left rests k m e is = rests k m (left k m e is) is

@@ -108,7 +108,7 @@ impl Rest {
     }
 
     /// Where none rests, those may come to rest that have come as far as one that listens: as far as many have, where
-    /// they may have come apart.
+    /// too few had come as far as the first.
     fn choose(&mut self, talkers: &[Member], controllers: &[Member], bit: u64)
         ensures { Chooses self.old self.new }
     {
@@ -197,6 +197,7 @@ impl Rest {
         let awake_talkers = Awake::of(talkers, self.talkers, bit);
         let awake_controllers = Awake::of(controllers, self.controllers, bit);
         if awake_talkers.outnumber(&awake_controllers) {
+            self.apart = true;
             self.wake(plan, talkers, controllers, bit);
             return;
         }

@@ -28,7 +28,7 @@ pub(crate) struct Rest {
     pub(crate) asleep: usize,
     // those that rest read on in the stuffed region at the last bit, and before it
     pub(crate) steady: bool,
-    // all woke since a listener was chosen, so that they may have come apart
+    // too few had come as far as the listener, so that all woke
     pub(crate) apart: bool,
 }
 
@@ -167,7 +167,6 @@ impl Rest {
         wake_all(talkers, &self.listener, bit);
         wake_all(controllers, &self.listener, bit);
         self.resting = false;
-        self.apart = true;
         self.look_everywhere(talkers, controllers);
     }
 

@@ -1,5 +1,13 @@
-use Rattle.std.proofs.Common.{rules}
+use Rattle.std.proofs.Common.{refl, rules}
+use Rattle.can_segment.proofs.Holds.{same_holds}
 use Rattle.can_segment.proofs.rest.Rest.settle.Goals as goal
+
+pub wake-requires : goal.wake-requires
+wake-requires c = record {
+  holds = same_holds c.args.self.now _ c.args.bit c.args.plan.now c.args.talkers.now c.args.controllers.now
+      (record { listener_is = refl; resting_is = refl; known_is = refl; spent_is = refl }) refl refl refl
+      c.requires.holds;
+}
 
 pub returns-then-outnumber-clause-holds : goal.returns-then-outnumber-clause-holds
 returns-then-outnumber-clause-holds c = c.wake.ensures.holds c.args.bit
