@@ -14,6 +14,8 @@ use Rattle.can_confinement.specs.declared.known_counts.KnownCounts.{KnownCounts}
 use Rattle.can_confinement.specs.declared.known_counts.KnownCounts.TheVariants.{Zero}
 use Rattle.can_confinement.specs.KnownCounts.{Knows}
 use Rattle.can_confinement.specs.declared.counters.Counters.{Counters}
+use Rattle.can_node.specs.declared.outcome.Outcome.{Outcome}
+use Rattle.can_node.specs.declared.shared_sample.HeardLevel.{HeardLevel}
 use Rattle.can_node.specs.declared.outcome.Outcome.TheVariants.{Nothing, Took}
 use Rattle.can_node.specs.declared.state.State.{State}
 use Rattle.can_node.specs.declared.state.State.TheVariants.{Closing, Idling, Taking, Sending}
@@ -25,11 +27,13 @@ use Rattle.can_node.specs.declared.node.Node.{Node}
 use Rattle.can_node.specs.declared.listener.Listener.{Listener}
 use Rattle.can_confinement.specs.Confinement.{no_counts, is_off, after_event, counts_after, state_of}
 use Rattle.can_confinement.specs.Counters.{StandsAfter as CountersStandAfter, counts_of}
-use Rattle.can_node.specs.Machine.{Advances, behind_end, Counts, Goes, GoesReading, ReaderStands, Steps, is_in_region}
+use Rattle.can_node.specs.Machine.{Advances, behind_end, Counts, Goes, GoesReading, IsMade, ReaderStands, Steps}
+use Rattle.can_node.specs.Machine.{is_in_region}
 use Rattle.can_node.specs.Machine.{is_sending, is_taking, level_in, may_start, quiet}
 use Rattle.can_frame.specs.Sending.{level_at}
 use Rattle.can_node.specs.Machine.LeadsTo.{stays_on}
-use Rattle.can_node.specs.Listener.{AllTake, Follows, Idles, IsUnseen, ReadsAlong, SendsTo, StandsWith}
+use Rattle.can_node.specs.Node.{IsSample}
+use Rattle.can_node.specs.Listener.{AllHear, AllTake, Follows, Idles, IsUnseen, ReadsAlong, SendsTo, StandsWith}
 use Rattle.can_node.specs.Listener.{caught_up, taken_up}
 use Rattle.can_node.proofs.Samples.{counts_none, quiet_steps, samples}
 use Rattle.can_node.specs.PlainBits.{LeavesPlainly}
@@ -301,3 +305,36 @@ all_take listener start may stage level frame new here push node bit =
           (λ may. take_taken start may stage (state_of (counts_of node.counters)) level frame));
       is_made = record { off = false; counts = counts_none node.counters None refl; ends_in = (refl, refl) };
     })) refl refl
+
+-- One that reads a frame as all do: where it reads on its reader is that of all, and else it has done its work.
+heard_advances : (start : ℕ) (may : Bool) (stage : Stage) (old new own : Reader) (spelling : Spelling) (now : ℕ)
+    (errors : ErrorState) (level : Bool) (step : Step) (turn : Turn) (taking : Bool) → is_taking turn.state ≡ taking →
+    (taking ≡ true → own ≡ new) → IsPush old level step new →
+    ((may : Bool) → GoesReading (Taking start may stage) errors step level turn) →
+    Advances (Taking start may stage) old spelling now errors level turn own
+heard_advances start may stage old new own spelling now errors level step turn true is copied push goes =
+    subst (Advances (Taking start may stage) old spelling now errors level turn) (sym (copied refl))
+    (reading_advances start may stage old new spelling now errors level step turn push goes)
+heard_advances start may stage old new own spelling now errors level step turn false is copied push goes =
+    other_reader (Taking start may stage) old new own spelling now errors level turn is
+    (reading_advances start may stage old new spelling now errors level step turn push goes)
+
+pub all_hear : (listener : Listener) (bit : ℕ) (level : Bool) (heard : HeardLevel) (turn : Turn) (outcome : Outcome)
+    (old new : Node) (taking : Bool) → AllHear listener level heard →
+    ((may : Bool) →
+    GoesReading (Taking heard.start may heard.stage) (state_of (counts_of old.counters)) heard.step level turn) →
+    is_taking turn.state ≡ taking → (taking ≡ true → new.reader ≡ heard.reader) →
+    IsMade turn old.counters new.counters new.state outcome → new.spelling ≡ old.spelling → new.clock ≡ bit + 1 →
+    IsSample (caught_up old listener bit) level outcome new
+all_hear listener bit level heard turn outcome old new taking all goes is copied made same clock_is =
+    let errors = state_of (counts_of old.counters) in
+    samples (caught_up old listener bit) new level outcome
+    (subst (λ state. Steps state old.counters listener.reader old.spelling bit level outcome new.state new.counters
+    new.reader) (sym all.state_is) (record {
+      turn = turn;
+      errors = errors;
+      shows = λ events h. ap state_of h;
+      advances = heard_advances heard.start all.may_begin heard.stage listener.reader heard.reader new.reader
+          old.spelling bit errors level heard.step turn taking is copied all.push goes;
+      is_made = made;
+    })) same clock_is

@@ -1,11 +1,15 @@
 -- One that follows a line in place of nodes that listen to it and have come equally far.
-use Rattle.std.specs.Prelude.{◌≡◌, ◌⊎◌, ℕ, ◌+◌, ◌||◌, Bool, true, false, None, Some, List, [], ◌∷◌}
+use Rattle.std.specs.Prelude.{◌≡◌, ◌⊎◌, ℕ, ◌+◌, ◌||◌, Bool, true, false, None, Some, IfSome, List, [], ◌∷◌}
 use Rattle.can_confinement.specs.declared.confinement.ErrorEvent.TheVariants.{Received}
 use Rattle.can_node.specs.declared.outcome.Outcome.TheVariants.{Nothing, Took}
 use Rattle.can_node.specs.declared.state.State.{State}
 use Rattle.can_node.specs.declared.state.State.TheVariants.{Closing, Taking}
 use Rattle.can_node.specs.declared.state.Stage.TheVariants.{AfterSlot}
+use Rattle.can_node.specs.declared.shared_sample.HeardLevel.{HeardLevel}
+use Rattle.can_node.specs.declared.shared_sample.SharedSample.{SharedSample}
+use Rattle.can_node.specs.declared.shared_sample.SharedSample.TheVariants.{Takes, Hears}
 use Rattle.can_node.specs.declared.taken_frame.TakenFrame.{TakenFrame}
+use Rattle.can_frame.specs.Reading.{IsPush}
 use Rattle.can_node.specs.declared.state.Turn.{Turn}
 use Rattle.can_node.specs.declared.node.Node.{Node}
 use Rattle.can_node.specs.declared.listener.Listener.{Listener}
@@ -13,7 +17,8 @@ use Rattle.can_confinement.specs.KnownCounts.{Knows}
 use Rattle.can_confinement.specs.declared.known_counts.KnownCounts.{KnownCounts}
 use Rattle.can_confinement.specs.declared.known_counts.KnownCounts.TheVariants.{Zero}
 use Rattle.can_node.specs.Histories.{Past, IsHistory}
-use Rattle.can_node.specs.Machine.{is_in_region, is_sending, listens}
+use Rattle.can_confinement.specs.declared.confinement.ErrorState.{ErrorState}
+use Rattle.can_node.specs.Machine.{GoesReading, is_in_region, is_sending, listens}
 use Rattle.can_node.specs.Node.{StandsAfter, IsSample, bit_of, counters_in, driven_by, may_begin}
 use Rattle.can_node.specs.PlainBits.{stays_out}
 
@@ -121,3 +126,20 @@ taken_up node bit = record {
 abbrev pub AllTake : Listener → Bool → TakenFrame → Type 0
 AllTake listener level taken = (node : Node) (bit : ℕ) →
     IsSample (caught_up node listener bit) level (Took taken.start taken.frame) (taken_up node bit)
+
+-- the turn that is kept of a level is that in each error state
+abbrev pub IsHeard : Bool → HeardLevel → Type 0
+IsHeard level heard = IfSome heard.turn (λ turn. (errors : ErrorState) (may : Bool) →
+    GoesReading (Taking heard.start may heard.stage) errors heard.step level turn)
+
+-- What this level is to each node for which a listener stands, where those read a frame: the reader of each answers so.
+pub record AllHear (listener : Listener) (level : Bool) (heard : HeardLevel) : Type 0 where
+  pub may_begin : Bool
+  pub state_is : listener.state ≡ Taking heard.start may_begin heard.stage
+  pub push : IsPush listener.reader level heard.step heard.reader
+  pub is_heard : IsHeard level heard
+
+-- either of them
+abbrev pub AllShare : Listener → Bool → SharedSample → Type 0
+AllShare listener level (Takes taken) = AllTake listener level taken
+AllShare listener level (Hears heard) = AllHear listener level heard

@@ -1,10 +1,10 @@
 //! One that follows the line in place of the nodes that listen to it.
 
-ghost use Rattle.std.specs.Prelude.{◌≡◌, ◌≤◌, ℕ, Bool, true, false, IfSome, length, take};
+ghost use Rattle.std.specs.Prelude.{◌≡◌, ◌≤◌, ℕ, Bool, true, false, IfSome, IfNone, length, take};
 ghost use Rattle.can_node.specs.declared.node.Node.{Node};
 ghost use Rattle.can_node.specs.Machine.{GoesReading, is_sending, is_taking};
 ghost use Rattle.can_node.specs.Node.{driven_by, may_begin};
-ghost use Rattle.can_node.specs.Listener.{AllTake, IsListening, IsUnseen, Follows, ReadsAlong, ReadsAlongBy};
+ghost use Rattle.can_node.specs.Listener.{AllHear, AllTake, IsListening, IsUnseen, Follows, ReadsAlong, ReadsAlongBy};
 ghost use Rattle.can_node.specs.Listener.{Idles, caught_up, is_reading, may_follow_by};
 ghost use Rattle.can_confinement.specs.declared.known_counts.KnownCounts.{KnownCounts as KnownCountsValue};
 ghost use Rattle.can_confinement.specs.declared.confinement.ErrorState.{ErrorState as ErrorStateValue};
@@ -15,6 +15,7 @@ use crate::machine::{
 };
 use crate::outcome::Outcome;
 use crate::plain_bits::{count_on, out_behind};
+use crate::shared_sample::HeardLevel;
 use crate::state::{Stage, State, Turn};
 use crate::stays::stay_out;
 use crate::taken_frame::TakenFrame;
@@ -164,6 +165,21 @@ impl Listener {
         };
         let frame = self.reader.takes(level)?;
         Some(TakenFrame { start, frame })
+    }
+
+    /// What this level is to each of them at the next bit, whatever it brings: an acknowledgement that is counted, or an
+    /// error. `None` where they read no frame.
+    #[inline(never)]
+    pub fn hears(&self, level: bool) -> Option<HeardLevel>
+        ensures some { IfSome result (AllHear self.now level) }
+        ensures none { IfNone result (is_taking self.now.state ≡ false) }
+    {
+        let State::Taking(start, _, stage) = self.state else {
+            return None;
+        };
+        let mut reader = self.reader.copy();
+        let step = reader.push(level);
+        Some(HeardLevel::of(start, stage, step, reader, level))
     }
 
     /// So behind the stuffed region.

@@ -230,7 +230,7 @@ fn count(counters: &mut Counters, event: Option<ErrorEvent>) -> bool
 }
 
 /// Makes a turn, and tells its outcome: bus off, if its event leads there.
-fn make(turn: Turn, state: &mut State, counters: &mut Counters) -> Outcome
+pub(crate) fn make(turn: Turn, state: &mut State, counters: &mut Counters) -> Outcome
     ensures { IsMade turn counters.old counters.new state.new result }
 {
     let went_off = count(counters, turn.event);

@@ -4,16 +4,21 @@ ghost use Rattle.std.specs.Prelude.{◌≡◌, ℕ, ◌+◌, ◌<◌, ◌≤◌,
 ghost use Rattle.std.specs.Prelude.{length, min, take};
 ghost use Rattle.can_confinement.specs.Counters.{StandsAfter as CountersStandAfter, counts_of};
 ghost use Rattle.can_node.specs.Histories.{Past, no_past, IsHistory};
-ghost use Rattle.can_node.specs.Listener.{SendsTo, StandsWith, caught_up, listener_of, listens_in, taken_up};
+ghost use Rattle.can_node.specs.Listener.{AllHear, SendsTo, StandsWith};
+ghost use Rattle.can_node.specs.Listener.{caught_up, listener_of, listens_in, taken_up};
+ghost use Rattle.can_node.specs.declared.listener.Listener.{Listener as ListenerValue};
 ghost use Rattle.can_confinement.specs.KnownCounts.{Knows, known_of};
 ghost use Rattle.can_node.specs.PlainBits.{EndsOut, GoesOn, GoesOnBy, MayGoOn, MayGoOnBy, count_ahead};
 ghost use Rattle.can_node.specs.Node.{StandsAfter, IsSample, IsWanting, IsSending, bit_of, counters_in};
 ghost use Rattle.can_node.specs.Node.{driven_by, may_begin, sends_from, with_begin};
 
 use crate::listener::Listener;
-use crate::machine::{advance, begin, is_in_region, level_in, listens, may_start, sof_of};
+use crate::machine::{
+    advance, begin, is_in_region, is_taking, level_in, listens, make, may_start, sof_of,
+};
 use crate::outcome::Outcome;
 use crate::plain_bits::{go_plainly, is_plain};
+use crate::shared_sample::HeardLevel;
 use crate::state::State;
 use crate::stays::{count_out, out_behind_all};
 use can_confinement::{Counters, KnownCounts};
@@ -133,6 +138,26 @@ impl Node {
     {
         self.state = State::Closing;
         self.clock = bit + 1;
+    }
+
+    /// The node, for which a listener stood up to this bit, samples this level of a frame that it reads as each does for
+    /// which that stands (`Listener::hears`): what `catch_up` and `sample` do, in one step. It tells what this bit
+    /// brings to an end.
+    pub fn hear(&mut self, heard: &HeardLevel, bit: u64, level: bool) -> Outcome
+        requires { bit < u64.MAX }
+        ensures bit { bit_of self.new ≡ bit + 1 }
+        ensures samples { (listener : ListenerValue) → AllHear listener level heard.now
+            → IsSample (caught_up self.old listener bit) level result self.new }
+        ensures history { (past : Past) → StandsAfter self.new past → IsHistory past }
+    {
+        self.clock = bit + 1;
+        let turn = heard.turn(&self.counters, level);
+        if is_taking(turn.state) {
+            self.reader = heard.reader.copy();
+            return make(turn, &mut self.state, &mut self.counters);
+        }
+        // its reader has done its work
+        make(turn, &mut self.state, &mut self.counters)
     }
 
     /// The node begins to send this frame at the next bit: with its SOF where the bus is idle, and with its

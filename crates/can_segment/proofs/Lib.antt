@@ -32,4 +32,4 @@ pub mod SendRuns
 pub mod IdleRuns
 pub mod QuietRuns
 pub mod IdleBits
-pub mod Taken
+pub mod Sharing

@@ -13,7 +13,7 @@ ghost use Rattle.can_segment.specs.Rests.{RestHolds, members_at};
 ghost use Rattle.can_station.specs.declared.member.Member.{Member};
 
 use crate::rest::Rest;
-use crate::taking::take_all;
+use crate::taking::sample_together;
 use can_station::{
     FaultOrder, Member, NodeFault, RxSink, SegmentPlan, Talker, driven_by_all, sample_controllers,
     sample_nodes, start_controllers, start_talkers,
@@ -55,8 +55,8 @@ fn start_all<R, P: RxSink<R>>(
     )
 }
 
-/// All nodes sample the line, each with its own faults: those that rest take a frame together, do so as long as the
-/// listener can follow for them, or wake. Whether something may be told of one of them.
+/// All nodes sample the line, each with its own faults: those that rest as long as the listener can follow for them,
+/// or together, or they wake. Whether something may be told of one of them.
 fn sample_all<R, P: RxSink<R>>(
     rt: &R,
     faults: &[NodeFault],
@@ -87,8 +87,8 @@ fn sample_all<R, P: RxSink<R>>(
 {
     let first = talkers.len() as u32;
     rest.disturb(faults, plan, talkers, controllers, bit);
-    if let Some(taken) = rest.taken(bit, level) {
-        take_all(
+    if let Some(shared) = rest.go_through(plan, talkers, controllers, bit, level) {
+        return sample_together(
             rt,
             faults,
             talkers,
@@ -97,11 +97,9 @@ fn sample_all<R, P: RxSink<R>>(
             rest,
             bit,
             level,
-            &taken,
+            &shared,
         );
-        return true;
     }
-    rest.go_through(plan, talkers, controllers, bit, level);
     let talkers_told = sample_nodes(talkers, faults, 0, bit, level, rest.talkers);
     let controllers_told = sample_controllers(
         rt,

@@ -1,10 +1,11 @@
 //! Nodes that are left alone while a listener follows the line for them.
 
-ghost use Rattle.std.specs.Prelude.{◌≡◌, ◌+◌, ◌≤◌, true, false, ℕ, length};
+ghost use Rattle.std.specs.Prelude.{◌≡◌, ◌+◌, ◌<◌, ◌≤◌, true, false, ℕ, IfNone, IfSome, length};
+ghost use Rattle.can_node.specs.Listener.{AllShare};
 ghost use Rattle.can_station.specs.RestingNodes.{IsWhole, LeavesResting, NoneRests, Undisturbed};
 ghost use Rattle.can_segment.specs.Rests.{Drives, GoesThrough, IsSame, RestHolds, RestsThrough, StartsNone, members_at};
 
-use can_node::{KnownCounts, Listener, Node};
+use can_node::{KnownCounts, Listener, Node, SharedSample};
 use can_station::{Member, NodeFault, Span, Talker, wake_all, wake_disturbed, wake_unspent};
 
 /// What is held alike for all nodes that rest: which those are each node tells itself. A listener has come as far as
@@ -187,8 +188,8 @@ impl Rest {
         true
     }
 
-    /// The listener follows through a bit at which those that rest sample this level; where it can't, they wake before
-    /// it.
+    /// The listener follows through a bit at which those that rest sample this level. Where it can't, what that level is
+    /// to each of them; or they wake before it, where that is not known.
     #[inline(always)]
     pub(crate) fn go_through(
         &mut self,
@@ -197,15 +198,25 @@ impl Rest {
         controllers: &mut [Member],
         bit: u64,
         level: bool,
-    )
+    ) -> Option<SharedSample>
         requires holds { RestHolds self.old bit plan.now talkers.old controllers.old }
-        ensures talkers { GoesThrough self.old self.new bit level talkers.old talkers.new }
-        ensures controllers { GoesThrough self.old self.new bit level controllers.old controllers.new }
-        ensures holds { RestHolds self.new (bit + 1) plan.now talkers.new controllers.new }
+        ensures shares { IfSome result (λ shared. AllShare self.old.listener level shared × (bit < u64.MAX)) }
+        ensures same { IfSome result (λ shared. (self.new ≡ self.old) × (talkers.new ≡ talkers.old)
+            × (controllers.new ≡ controllers.old)) }
+        ensures talkers { IfNone result (GoesThrough self.old self.new bit level talkers.old talkers.new) }
+        ensures controllers { IfNone result (GoesThrough self.old self.new bit level controllers.old controllers.new) }
+        ensures holds { IfNone result (RestHolds self.new (bit + 1) plan.now talkers.new controllers.new) }
     {
+        if let Some(taken) = self.taken(bit, level) {
+            return Some(SharedSample::Takes(taken));
+        }
         if self.follows(bit, level) {
-            return;
+            return None;
+        }
+        if let Some(heard) = self.heard(bit, level) {
+            return Some(SharedSample::Hears(heard));
         }
         self.wake(plan, talkers, controllers, bit);
+        None
     }
 }

@@ -1,7 +1,8 @@
-//! The bit at which all nodes that rest take a frame.
+//! Bits at which all nodes that rest take a frame, or count something of it, or see an error.
 
-ghost use Rattle.std.specs.Prelude.{◌≡◌, ◌≤◌, ◌<◌, ◌+◌, false, IfSome, length};
-ghost use Rattle.can_node.specs.Listener.{AllTake};
+ghost use Rattle.std.specs.Prelude.{◌≡◌, ◌≤◌, ◌<◌, ◌+◌, true, false, IfSome, length};
+ghost use Rattle.can_node.specs.Listener.{AllHear, AllShare, AllTake};
+ghost use Rattle.can_station.specs.Deeds.{AreQuiet};
 ghost use Rattle.can_station.specs.Faults.{sampled_level};
 ghost use Rattle.can_station.specs.Members.{NodeSamples, PortSettles};
 ghost use Rattle.can_station.specs.Places.{AtBoth, AtPlaces};
@@ -9,20 +10,37 @@ ghost use Rattle.can_station.specs.RestingNodes.{AwakeWithin, HasRoom, IsWhole, 
 ghost use Rattle.can_segment.specs.Rests.{AreResting, members_at};
 
 use crate::rest::Rest;
-use can_node::TakenFrame;
+use can_node::{HeardLevel, SharedSample, TakenFrame};
 use can_station::{
-    Member, NodeFault, RxSink, Span, sample_controllers, sample_nodes, take_up_all, wake_all,
+    Member, NodeFault, RxSink, Span, sample_controllers, sample_nodes, share_all, wake_all,
 };
 
 impl Rest {
+    /// Whether nodes rest, and another bit comes behind this one.
+    fn may_share(&self, bit: u64) -> bool
+        ensures { result ≡ true → bit < u64.MAX }
+    {
+        self.resting && bit < u64::MAX
+    }
+
     /// The frame that each node that rests takes at this bit, if it samples this level.
     pub(crate) fn taken(&self, bit: u64, level: bool) -> Option<TakenFrame>
         ensures { IfSome result (λ taken. AllTake self.now.listener level taken × (bit < u64.MAX)) }
     {
-        if !self.resting || bit == u64::MAX {
+        if !self.may_share(bit) {
             return None;
         }
         self.listener.takes(level)
+    }
+
+    /// What this level is to each node that rests, if it samples it at this bit.
+    pub(crate) fn heard(&self, bit: u64, level: bool) -> Option<HeardLevel>
+        ensures { IfSome result (λ heard. AllHear self.now.listener level heard × (bit < u64.MAX)) }
+    {
+        if !self.may_share(bit) {
+            return None;
+        }
+        self.listener.hears(level)
     }
 
     /// None rests any more.
@@ -36,9 +54,10 @@ impl Rest {
     }
 }
 
-/// All nodes sample the line, which has this level, each with its own faults: those that rest take this frame, and
-/// wake. A talker that rests takes it in one step; a controller does so by itself, for its port is offered the frame.
-pub(crate) fn take_all<R, P: RxSink<R>>(
+/// All nodes sample the line, which has this level, each with its own faults, and those that rest wake. A talker that
+/// rests does so in one step, as the others that rest; a controller by itself, for its port learns what became of it.
+/// Whether something may be told of one of them.
+pub(crate) fn sample_together<R, P: RxSink<R>>(
     rt: &R,
     faults: &[NodeFault],
     talkers: &mut [Member],
@@ -47,12 +66,12 @@ pub(crate) fn take_all<R, P: RxSink<R>>(
     rest: &mut Rest,
     bit: u64,
     level: bool,
-    taken: &TakenFrame,
-)
+    shared: &SharedSample,
+) -> bool
     requires bit { bit < u64.MAX }
     requires ports { length ports.old ≡ length controllers.old }
     requires few { length talkers.old + length controllers.old ≤ 1000 }
-    requires takes { AllTake rest.old.listener level taken.now }
+    requires shares { AllShare rest.old.listener level shared.now }
     requires resting { AreResting rest.old bit talkers.old }
     requires undisturbed { Undisturbed faults.now 0 bit talkers.old }
     requires within { AwakeWithin rest.old.talkers talkers.old }
@@ -65,16 +84,28 @@ pub(crate) fn take_all<R, P: RxSink<R>>(
         (sampled_level faults.now (length talkers.old + k) bit level))
         (members_at rest.old bit controllers.old) (members_at rest.new (bit + 1) controllers.new)
         ports.old ports.new }
+    ensures quiet { result ≡ false → AreQuiet bit (members_at rest.new (bit + 1) talkers.new)
+        × AreQuiet bit (members_at rest.new (bit + 1) controllers.new) }
     ensures awake { NoneRests talkers.new × NoneRests controllers.new }
     ensures few { rest.new.few ≡ false }
     ensures whole { IsWhole (length talkers.new) rest.new.talkers
         × IsWhole (length controllers.new) rest.new.controllers }
 {
     let first = talkers.len() as u32;
-    let _ = sample_nodes(talkers, faults, 0, bit, level, rest.talkers);
-    take_up_all(talkers, taken, bit);
+    let awake_told = sample_nodes(talkers, faults, 0, bit, level, rest.talkers);
+    let resting_told = share_all(talkers, shared, bit, level);
     wake_all(controllers, &rest.listener, bit);
     let all = Span::whole(controllers.len());
-    let _ = sample_controllers(rt, controllers, ports, faults, first, bit, level, all);
+    let controllers_told = sample_controllers(
+        rt,
+        controllers,
+        ports,
+        faults,
+        first,
+        bit,
+        level,
+        all,
+    );
     rest.end(talkers, controllers);
+    awake_told | resting_told | controllers_told
 }

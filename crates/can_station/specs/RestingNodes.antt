@@ -3,10 +3,10 @@ use Rattle.std.specs.Prelude.{◌≡◌, ◌≢◌, ◌⊎◌, ℕ, ◌+◌, ◌
 use Rattle.std.specs.Prelude.{Option, None, Some, List, [], ◌∷◌, length, slice_get, if◌then◌else◌}
 use Rattle.bx_core.specs.TxBus.{Item}
 use Rattle.can_node.specs.Histories.{Past, IsHistory}
-use Rattle.can_node.specs.Listener.{SendsTo, StandsWith, caught_up as node_caught_up, taken_up as node_taken_up}
+use Rattle.can_node.specs.Listener.{AllShare, SendsTo, StandsWith, caught_up as node_caught_up}
 use Rattle.can_node.specs.Node.{IsSample, StandsAfter, bit_of, counters_in, may_begin}
-use Rattle.can_node.specs.declared.outcome.Outcome.TheVariants.{Nothing, Took}
-use Rattle.can_node.specs.declared.taken_frame.TakenFrame.{TakenFrame}
+use Rattle.can_node.specs.declared.outcome.Outcome.TheVariants.{Nothing}
+use Rattle.can_node.specs.declared.shared_sample.SharedSample.{SharedSample}
 use Rattle.can_node.specs.PlainBits.{MayGoOn, MayGoOnBy}
 use Rattle.can_node.specs.declared.listener.Listener.{Listener}
 use Rattle.can_station.specs.declared.member.Member.{Member}
@@ -15,7 +15,7 @@ use Rattle.can_station.specs.declared.plan.Talker.{Talker}
 use Rattle.can_station.specs.declared.span.Span.{Span}
 use Rattle.can_station.specs.Faults.{is_inverted}
 use Rattle.can_station.specs.Deeds.{IsQuiet, no_deed}
-use Rattle.can_station.specs.Members.{drives_at}
+use Rattle.can_station.specs.Members.{Samples, drives_at}
 use Rattle.can_station.specs.Places.{AtPlaces, MovesOne}
 use Rattle.can_station.specs.Ports.{item_of}
 
@@ -46,28 +46,17 @@ woken listener bit member = record {
   deed = member.deed;
 }
 
--- the member that rested up to this bit, at which it took this frame
-abbrev pub taken_up : TakenFrame → ℕ → Member → Member
-taken_up taken bit member = record {
-  on = member.on;
-  rests = false;
-  station = record {
-    node = node_taken_up member.station.node bit;
-    sending = member.station.sending;
-    completed = member.station.completed;
-  };
-  deed = record {
-    began = false;
-    sent = member.station.sending;
-    outcome = Took taken.start taken.frame;
-    reaped = None;
-  };
-}
-
--- one that rested has woken so; any other is as it was
-pub record TakesUp (taken : TakenFrame) (bit : ℕ) (old new : Member) : Type 0 where
+-- One that rested up to this bit samples this level as each does for which its listener stands, and has woken; any other
+-- is as it was.
+pub record Shares (shared : SharedSample) (bit : ℕ) (level : Bool) (old new : Member) : Type 0 where
   pub was_awake : old.rests ≡ false → new ≡ old
-  pub takes : old.rests ≡ true → new ≡ taken_up taken bit old
+  pub wakes : new.rests ≡ false
+  pub samples : old.rests ≡ true → old.on ≤ bit → IsQuiet old.deed → (listener : Listener) →
+      AllShare listener level shared → Samples bit level (caught_up listener bit old) new
+
+-- nothing is told of it if it rested before
+abbrev pub TellsNone : Member → Member → Type 0
+TellsNone old new = old.rests ≡ true → IsQuiet new.deed
 
 -- a step of one that is awake, and stays it; one that rests is left as it is
 pub record IfAwake (Step : Member → Member → Type 0) (old new : Member) : Type 0 where

@@ -8,9 +8,10 @@ ghost use Rattle.can_confinement.specs.KnownCounts.{Knows};
 ghost use Rattle.can_node.specs.Node.{bit_of, counters_in};
 ghost use Rattle.can_station.specs.Ports.{item_of, Undone, Asks, started, started_item};
 ghost use Rattle.can_station.specs.Fresh.{IsFresh};
-ghost use Rattle.can_station.specs.Deeds.{IsQuiet, no_deed};
+ghost use Rattle.can_station.specs.Deeds.{IsQuiet, Names, no_deed};
+ghost use Rattle.can_station.specs.Outcomes.{sending_after, completed_by};
 ghost use Rattle.can_station.specs.RestingNodes.{GoesAsItMay, MayFallSilent, MayGo, MayGoBy, MayRest, MayWake};
-ghost use Rattle.can_station.specs.RestingNodes.{MemberGoes, MemberSends, TakesUp, laid_down, woken};
+ghost use Rattle.can_station.specs.RestingNodes.{MemberGoes, MemberSends, Shares, laid_down, woken};
 ghost use Rattle.can_station.specs.Members.{
   AreOf,
   is_on,
@@ -31,7 +32,7 @@ use crate::rx_sink::RxSink;
 use crate::station::Station;
 use crate::transmission::Transmission;
 use can_frame::Frame;
-use can_node::{Counters, KnownCounts, Listener, Outcome, TakenFrame};
+use can_node::{Counters, KnownCounts, Listener, Outcome, SharedSample};
 
 /// What a node did at the last bit. What it sent is kept up only at bits of which something is told.
 #[derive(Clone, Copy)]
@@ -150,25 +151,37 @@ impl Member {
         self.wake(listener, bit);
     }
 
-    /// If it rests it wakes behind this bit, at which it took this frame (`Node::take_up`).
-    pub(crate) fn take_up(&mut self, taken: &TakenFrame, bit: u64)
-        requires { bit < u64.MAX }
-        ensures { TakesUp taken.now bit self.old self.new }
+    /// If it rests it samples this level as each does for which its listener stands (`Node::take_up`, `Node::hear`), and
+    /// wakes. Whether something may be told of it then.
+    pub(crate) fn share(&mut self, shared: &SharedSample, bit: u64, level: bool) -> bool
+        requires bit { bit < u64.MAX }
+        requires room { self.old.rests ≡ true → self.old.station.completed < u64.MAX }
+        ensures shares { Shares shared.now bit level self.old self.new }
+        ensures quiet { result ≡ false → self.old.rests ≡ true → IsQuiet self.new.deed }
     {
         if !self.rests {
-            return;
+            return false;
         }
         self.rests = false;
-        self.station.node.take_up(bit);
-        self.deed = Deed {
-            began: false,
-            sent: self.station.sending,
-            outcome: Outcome::Took {
-                start: taken.start,
-                frame: taken.frame,
-            },
-            reaped: None,
-        };
+        match shared {
+            SharedSample::Takes(taken) => {
+                self.station.node.take_up(bit);
+                self.deed = Deed {
+                    began: false,
+                    sent: self.station.sending,
+                    outcome: Outcome::Took {
+                        start: taken.start,
+                        frame: taken.frame,
+                    },
+                    reaped: None,
+                };
+                true
+            }
+            SharedSample::Hears(heard) => {
+                let outcome = self.station.node.hear(heard, bit, level);
+                self.note(outcome)
+            }
+        }
     }
 
     /// It comes to rest, and nothing is told any more of what it did.
@@ -275,17 +288,34 @@ impl Member {
         if self.rests || bit < self.on {
             return false;
         }
-        match self.station.node.sample(level) {
-            // as at most bits: the deed says so already, and need not name what it sends
-            Outcome::Nothing if self.deed.is_quiet() => false,
-            outcome => {
-                self.deed.sent = self.station.sending;
-                self.deed.outcome = outcome;
-                self.deed.reaped = None;
-                self.station.conclude(&self.deed.outcome);
-                true
-            }
+        let outcome = self.station.node.sample(level);
+        self.note(outcome)
+    }
+
+    /// What a bit that it has sampled brought to an end. Whether something may be told of it.
+    #[inline(always)]
+    fn note(&mut self, outcome: Outcome) -> bool
+        requires { self.old.station.completed < u64.MAX }
+        ensures rests { self.new.rests ≡ self.old.rests }
+        ensures on { self.new.on ≡ self.old.on }
+        ensures node { self.new.station.node ≡ self.old.station.node }
+        ensures began { self.new.deed.began ≡ self.old.deed.began }
+        ensures names { Names self.new.deed self.old.station.sending }
+        ensures outcome { self.new.deed.outcome ≡ outcome }
+        ensures sending { self.new.station.sending ≡ sending_after self.old.station.sending outcome }
+        ensures completed { self.new.station.completed ≡ self.old.station.completed + completed_by outcome }
+        ensures reaped { self.new.deed.reaped ≡ None }
+        ensures quiet { result ≡ false → IsQuiet self.new.deed }
+    {
+        // as at most bits: the deed says so already, and need not name what it sends
+        if matches!(outcome, Outcome::Nothing) && self.deed.is_quiet() {
+            return false;
         }
+        self.deed.sent = self.station.sending;
+        self.deed.outcome = outcome;
+        self.deed.reaped = None;
+        self.station.conclude(&self.deed.outcome);
+        true
     }
 
     /// The port of a controller that is awake, and has sampled this bit, learns what became of it.

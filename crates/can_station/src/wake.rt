@@ -1,15 +1,16 @@
 //! Nodes that wake, and such of which nothing is told any more.
 
-ghost use Rattle.std.specs.Prelude.{◌≡◌, ◌+◌, ◌<◌, ◌≤◌, length};
+ghost use Rattle.std.specs.Prelude.{◌≡◌, ◌+◌, ◌<◌, ◌≤◌, ℕ, true, false, Some, length, slice_get};
 ghost use Rattle.can_station.specs.Places.{AtPlaces};
-ghost use Rattle.can_station.specs.RestingNodes.{AwakeWithin, IfAwake, MayFallSilent, TakesUp};
+ghost use Rattle.can_station.specs.RestingNodes.{AwakeWithin, IfAwake, MayFallSilent, Shares, TellsNone};
 ghost use Rattle.can_station.specs.RestingNodes.{WakesDisturbed, WakesUnspent, woken};
+ghost use Rattle.can_station.specs.declared.member.Member.{Member as MemberValue};
 
 use crate::faults::is_inverted;
 use crate::member::Member;
 use crate::plan::{NodeFault, Talker};
 use crate::span::Span;
-use can_node::{Listener, TakenFrame};
+use can_node::{Listener, SharedSample};
 
 /// Nothing is told any more of what those that are awake did at the last bit, if something may have been. All but those
 /// at the places of the span rest.
@@ -34,14 +35,20 @@ pub fn wake_all(members: &mut [Member], listener: &Listener, bit: u64)
     }
 }
 
-/// All of these wake behind this bit that rest: each took this frame at it.
-pub fn take_up_all(members: &mut [Member], taken: &TakenFrame, bit: u64)
-    requires { bit < u64.MAX }
-    ensures { AtPlaces (λ k. TakesUp taken.now bit) members.old members.new }
+/// All of these that rest sample this level as each does for which their listener stands, and wake. Whether something may
+/// be told of one of them.
+pub fn share_all(members: &mut [Member], shared: &SharedSample, bit: u64, level: bool) -> bool
+    requires bit { bit < u64.MAX }
+    requires room { (k : ℕ) (m : MemberValue) → slice_get members.old k ≡ Some m → m.rests ≡ true
+        → m.station.completed < u64.MAX }
+    ensures shares { AtPlaces (λ k. Shares shared.now bit level) members.old members.new }
+    ensures quiet { result ≡ false → AtPlaces (λ k. TellsNone) members.old members.new }
 {
+    let mut told = false;
     for place in 0..members.len() {
-        members[place].take_up(taken, bit);
+        told |= members[place].share(shared, bit, level);
     }
+    told
 }
 
 /// Before this bit those talkers that rest wake that have a frame left. Each stands at the place of its plan.

@@ -32,6 +32,21 @@ fn go_on(node: &mut Node, level: bool) -> Option<Outcome> {
     Some(Outcome::Nothing)
 }
 
+/// What a node tells that samples this level as all do that this one stands for, if they read a frame, and whether it
+/// has come as far then as one that has caught up and samples it by itself.
+fn heard(listener: &Listener, bit: u64, level: bool) -> Option<(Outcome, bool)> {
+    let heard = listener.hears(level)?;
+    if bit == u64::MAX {
+        return None;
+    }
+    let mut together = synchronized();
+    let outcome = together.hear(&heard, bit, level);
+    let mut alone = synchronized();
+    alone.catch_up(listener, bit);
+    sample(&mut alone, level)?;
+    Some((outcome, together.stands_with(&alone.listener())))
+}
+
 /// The node goes on with these levels, one after another, if they are the next that it drives in a frame, and it has
 /// the bits left.
 fn send_on(node: &mut Node, levels: &[bool]) -> bool {
@@ -88,6 +103,7 @@ fn one_follows_for_those_that_listen(rt: HostRuntime) {
     let mut receiver = synchronized();
     let mut listener = receiver.listener();
     assert!(rt; listener.wants_start());
+    assert!(rt; listener.hears(true).is_none());
     assert!(rt; !sender.is_listening());
     for (place, byte) in FRAME.as_bytes().iter().enumerate() {
         let level = *byte == b'1';
@@ -105,8 +121,13 @@ fn one_follows_for_those_that_listen(rt: HostRuntime) {
                 assert_eq!(rt; listener.drive(), place != 41);
                 assert_eq!(rt; listener.is_reading(), place == 39);
                 assert_eq!(rt; send_to(&mut sender, &mut listener), None);
+                // a level that none answers is a bit error, and a sixth equal one a stuff error
+                let wrong = if place == 41 { ErrorKind::Bit } else { ErrorKind::Stuff };
+                let bit = sender.bit();
+                assert_eq!(rt; heard(&listener, bit, level), Some((Outcome::Nothing, true)));
+                assert_eq!(rt; heard(&listener, bit, !level), Some((Outcome::Errored(wrong), true)));
                 assert_eq!(rt; sample(&mut sender, level), Some(Outcome::Nothing));
-                assert!(rt; listener.follow(sender.bit(), level, receiver.known_counts()));
+                assert!(rt; listener.follow(bit, level, receiver.known_counts()));
             }
             // the sixth bit of EOF, at which a receiver takes the frame
             48 => {

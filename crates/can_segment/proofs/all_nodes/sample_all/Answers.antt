@@ -4,7 +4,7 @@ use Rattle.can_station.specs.Faults.{sampled_level}
 use Rattle.can_station.specs.Members.{NodeSamples, PortSettles}
 use Rattle.can_station.specs.Places.{AtBoth, AtPlaces}
 use Rattle.can_station.specs.RestingNodes.{HasRoom, TransmitsAll}
-use Rattle.can_segment.specs.Rests.{members_at}
+use Rattle.can_segment.specs.Rests.{AreResting, members_at}
 use Rattle.can_segment.proofs.Holds.{left_holds, left_rests, none_rests}
 use Rattle.can_segment.proofs.Rests.{all_quiet, controllers_sample, members_length, members_sample, room_real}
 use Rattle.can_segment.proofs.Rests.{transmits_real}
@@ -15,14 +15,14 @@ use Rattle.can_segment.proofs.all_nodes.sample_all.Goals as goal
 pub sample_nodes-talkers_told-requires-clause-room : goal.sample_nodes-talkers_told-requires-clause-room
 sample_nodes-talkers_told-requires-clause-room g c =
     room_real _ c.disturb.new.self c.args.bit c.go_through.new.talkers
-    (subst (HasRoom _ c.args.bit) (sym (c.go_through.ensures.talkers.same ∙ c.disturb.ensures.talkers))
+    (subst (HasRoom _ c.args.bit) (sym (c.in_default.ensures.talkers.same ∙ c.disturb.ensures.talkers))
     c.requires.talker_room)
 
 pub sample_controllers-controllers_told-requires-clause-room :
     goal.sample_controllers-controllers_told-requires-clause-room
 sample_controllers-controllers_told-requires-clause-room g c =
     room_real _ c.disturb.new.self c.args.bit c.go_through.new.controllers
-    (subst (HasRoom _ c.args.bit) (sym (c.go_through.ensures.controllers.same ∙ c.disturb.ensures.controllers))
+    (subst (HasRoom _ c.args.bit) (sym (c.in_default.ensures.controllers.same ∙ c.disturb.ensures.controllers))
     c.requires.room)
 
 pub sample_controllers-controllers_told-requires-clause-port :
@@ -30,14 +30,14 @@ pub sample_controllers-controllers_told-requires-clause-port :
 sample_controllers-controllers_told-requires-clause-port g c =
     transmits_real g.P.TxBus.transmitting c.disturb.new.self c.args.bit c.go_through.new.controllers c.args.ports.now
     (subst (λ ms. TransmitsAll g.P.TxBus.transmitting ms c.args.ports.now)
-    (sym (c.go_through.ensures.controllers.same ∙ c.disturb.ensures.controllers)) c.requires.port)
+    (sym (c.in_default.ensures.controllers.same ∙ c.disturb.ensures.controllers)) c.requires.port)
 
 pub returns-clause-talkers : goal.returns-clause-talkers
 returns-clause-talkers g c =
     let before = c.disturb.new.self in
     let after = c.go_through.new.self in
     let t = c.go_through.new.talkers in
-    let goes = c.go_through.ensures.talkers in
+    let goes = c.in_default.ensures.talkers in
     subst (λ ms. AtPlaces (NodeSamples 0 c.args.bit c.args.level c.args.faults.now) ms
     (members_at after (c.args.bit + 1) c.sample_nodes-talkers_told.new.members))
     (goes.same ∙ c.disturb.ensures.talkers)
@@ -51,7 +51,7 @@ returns-clause-controllers g c =
     let before = c.disturb.new.self in
     let after = c.go_through.new.self in
     let cs = c.go_through.new.controllers in
-    let goes = c.go_through.ensures.controllers in
+    let goes = c.in_default.ensures.controllers in
     let first = length c.args.talkers.now in
     let same = goes.same ∙ c.disturb.ensures.controllers in
     let size : length c.args.ports.now ≡ length cs = c.requires.ports
@@ -80,7 +80,7 @@ returns-clause-rests g c =
     let cs = c.go_through.new.controllers in
     let samples = c.sample_nodes-talkers_told.ensures.samples in
     let settles = c.sample_controllers-controllers_told.ensures.settles in
-    let same = c.go_through.ensures.controllers.same ∙ c.disturb.ensures.controllers in
+    let same = c.in_default.ensures.controllers.same ∙ c.disturb.ensures.controllers in
     let size : length c.args.ports.now ≡ length cs = c.requires.ports
     ∙ sym (members_length c.args.rest.now c.args.bit c.args.controllers.now) ∙ ap length (sym same)
     ∙ members_length before c.args.bit cs in
@@ -92,7 +92,7 @@ returns-clause-rests g c =
     (λ span. within_places _ span t c.sample_nodes-talkers_told.new.members samples)
     (λ span. within_both _ span cs c.sample_controllers-controllers_told.new.members c.args.ports.now
     c.sample_controllers-controllers_told.new.ports size settles)
-    c.go_through.ensures.holds
+    c.in_default.ensures.holds
 
 pub returns-clause-quiet : goal.returns-clause-quiet
 returns-clause-quiet g c none =
@@ -108,7 +108,7 @@ returns-clause-quiet g c none =
 pub returns-clause-left : goal.returns-clause-left
 returns-clause-left g c =
     let before = c.disturb.new.self in
-    let goes = c.go_through.ensures in
+    let goes = c.in_default.ensures in
     let cs = c.go_through.new.controllers in
     let same = goes.controllers.same ∙ c.disturb.ensures.controllers in
     let size : length c.args.ports.now ≡ length cs = c.requires.ports
@@ -126,26 +126,38 @@ returns-clause-left g c =
           c.sample_controllers-controllers_told.ensures.settles)),
     )
 
+pub sample_together-requires-clause-resting : goal.sample_together-requires-clause-resting
+sample_together-requires-clause-resting g c =
+    let same = c.in-Some.ensures.same in
+    subst (λ rest. AreResting rest c.args.bit c.go_through.new.talkers) (sym same.0)
+    (subst (AreResting c.disturb.new.self c.args.bit) (sym same.1) c.disturb.ensures.holds.talkers_rest)
+
 pub returns-in-Some-clause-controllers : goal.returns-in-Some-clause-controllers
 returns-in-Some-clause-controllers g c =
-    let first : length c.disturb.new.talkers ≡ length c.args.talkers.now =
-    sym (members_length c.disturb.new.self c.args.bit c.disturb.new.talkers) ∙ ap length c.disturb.ensures.talkers
-    ∙ members_length c.args.rest.now c.args.bit c.args.talkers.now in
-    let after = members_at c.take_all.new.rest (c.args.bit + 1) c.take_all.new.controllers in
+    let same = c.in-Some.ensures.same in
+    let first : length c.go_through.new.talkers ≡ length c.args.talkers.now =
+    ap length same.1 ∙ sym (members_length c.disturb.new.self c.args.bit c.disturb.new.talkers)
+    ∙ ap length c.disturb.ensures.talkers ∙ members_length c.args.rest.now c.args.bit c.args.talkers.now in
+    let before : members_at c.go_through.new.self c.args.bit c.go_through.new.controllers
+    ≡ members_at c.args.rest.now c.args.bit c.args.controllers.now =
+    ap (λ rest. members_at rest c.args.bit c.go_through.new.controllers) same.0
+    ∙ ap (members_at c.disturb.new.self c.args.bit) same.2 ∙ c.disturb.ensures.controllers in
+    let after = members_at c.sample_together.new.rest (c.args.bit + 1) c.sample_together.new.controllers in
     subst (λ n. AtBoth (λ k. PortSettles g.P.TxBus.bus_after g.P.TxBus.bus_asked g.P.TxBus.transmitting
     g.P.RxSink.sink_after g.P.RxSink.port_stays c.args.bit
     (sampled_level c.args.faults.now (n + k) c.args.bit c.args.level))
-    (members_at c.args.rest.now c.args.bit c.args.controllers.now) after c.args.ports.now c.take_all.new.ports) first
+    (members_at c.args.rest.now c.args.bit c.args.controllers.now) after c.args.ports.now
+    c.sample_together.new.ports) first
     (subst (λ ms. AtBoth (λ k. PortSettles g.P.TxBus.bus_after g.P.TxBus.bus_asked g.P.TxBus.transmitting
     g.P.RxSink.sink_after g.P.RxSink.port_stays c.args.bit
-    (sampled_level c.args.faults.now (length c.disturb.new.talkers + k) c.args.bit c.args.level)) ms after
-    c.args.ports.now c.take_all.new.ports) c.disturb.ensures.controllers c.take_all.ensures.controllers)
+    (sampled_level c.args.faults.now (length c.go_through.new.talkers + k) c.args.bit c.args.level)) ms after
+    c.args.ports.now c.sample_together.new.ports) before c.sample_together.ensures.controllers)
 
 pub returns-in-Some-clause-rests : goal.returns-in-Some-clause-rests
 returns-in-Some-clause-rests g c =
-    let made = c.take_all.new in
-    let whole = c.take_all.ensures.whole in
-    none_rests made.rest (c.args.bit + 1) c.args.plan.now made.talkers made.controllers c.take_all.ensures.few
+    let made = c.sample_together.new in
+    let whole = c.sample_together.ensures.whole in
+    none_rests made.rest (c.args.bit + 1) c.args.plan.now made.talkers made.controllers c.sample_together.ensures.few
     (whole_within made.rest.talkers _ made.talkers whole.0 refl)
-    (whole_within made.rest.controllers _ made.controllers whole.1 refl) c.take_all.ensures.awake.0
-    c.take_all.ensures.awake.1
+    (whole_within made.rest.controllers _ made.controllers whole.1 refl) c.sample_together.ensures.awake.0
+    c.sample_together.ensures.awake.1
