@@ -121,11 +121,19 @@ fn one_follows_for_those_that_listen(rt: HostRuntime) {
                 assert_eq!(rt; listener.drive(), place != 41);
                 assert_eq!(rt; listener.is_reading(), place == 39);
                 assert_eq!(rt; send_to(&mut sender, &mut listener), None);
-                // a level that none answers is a bit error, and a sixth equal one a stuff error
-                let wrong = if place == 41 { ErrorKind::Bit } else { ErrorKind::Stuff };
+                // a CRC that is wrong is told behind the ACK slot; that one's own dominant level is missing is a bit
+                // error
+                let wrong = if place == 41 {
+                    Outcome::Errored(ErrorKind::Bit)
+                } else {
+                    Outcome::Nothing
+                };
                 let bit = sender.bit();
-                assert_eq!(rt; heard(&listener, bit, level), Some((Outcome::Nothing, true)));
-                assert_eq!(rt; heard(&listener, bit, !level), Some((Outcome::Errored(wrong), true)));
+                assert_eq!(rt;
+                    heard(&listener, bit, level),
+                    Some((Outcome::Nothing, true))
+                );
+                assert_eq!(rt; heard(&listener, bit, !level), Some((wrong, true)));
                 assert_eq!(rt; sample(&mut sender, level), Some(Outcome::Nothing));
                 assert!(rt; listener.follow(bit, level, receiver.known_counts()));
             }
