@@ -51,6 +51,10 @@ pub fn all_stay_out(members: &[Member], bit: u64, levels: &[bool], awake: Span, 
         if place != but {
             count = members[place].stays_out(bit, &levels[..count]);
         }
+        // as where another one sends
+        if count == 0 {
+            return 0;
+        }
     }
     count
 }
