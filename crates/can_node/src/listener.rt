@@ -210,7 +210,11 @@ impl Listener {
                 if self.reads_end(level) {
                     return true;
                 }
-                self.read_on(start, stage, level, known)
+                match stage {
+                    Stage::Region => self.read_on(start, stage, level, known),
+                    // in the ACK slot; elsewhere behind the region the frame ends with this level
+                    _ => self.read_tail(start, stage, level, known),
+                }
             }
             State::Sending(_, _) => false,
             _ => {
@@ -222,16 +226,13 @@ impl Listener {
         }
     }
 
-    /// So where they read a frame.
+    /// So in the stuffed region of a frame.
     fn read_on(&mut self, start: u64, stage: Stage, level: bool, known: KnownCounts) -> bool
         ensures follows { result ≡ true → (bit : ℕ) (may : Bool) → self.old.state ≡ State.Taking start may stage
             → Follows known self.old bit level self.new }
         ensures listens { IsListening self.old → IsListening self.new }
         ensures other { result ≡ false → self.new ≡ self.old }
     {
-        if self.read_tail(start, stage, level, known) {
-            return true;
-        }
         let mut reader = self.reader.copy();
         let step = reader.push(level);
         let Some(turn) = reading_turn(start, stage, &step, level, known) else {

@@ -1,13 +1,11 @@
-use Rattle.std.proofs.Common.{ap, subst, ◌∙◌}
+use Rattle.std.proofs.Common.{subst}
 use Rattle.can_frame.specs.Reading.{IsPush}
 use Rattle.can_node.proofs.Listens.{reading_follows}
 use Rattle.can_node.proofs.listener.Listener.read_on.Goals as goal
 
 pub returns-clause-follows : goal.returns-clause-follows
 returns-clause-follows c followed bit may here =
-    let same = c.read_tail.ensures.other c.if-read_tail.false in
     reading_follows c.args.known c.args.self.now c.args.start may c.args.stage c.push-step.new.self bit c.args.level
     c.push-step.result c.in-Some.turn here
-    (subst (λ r. IsPush r c.args.level c.push-step.result c.push-step.new.self)
-    (c.copy-reader.ensures ∙ ap (λ listener. listener.reader) same) c.push-step.ensures)
-    c.in-Some.ensures.goes c.in-Some.ensures.unseen
+    (subst (λ r. IsPush r c.args.level c.push-step.result c.push-step.new.self) c.copy-reader.ensures
+    c.push-step.ensures) c.in-Some.ensures.goes c.in-Some.ensures.unseen
