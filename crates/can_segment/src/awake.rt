@@ -62,7 +62,8 @@ impl Awake {
     /// Whether of both more than twice as many listen that are awake as rest.
     pub(crate) fn outnumber(&self, other: &Awake) -> bool {
         let resting = self.resting().saturating_add(other.resting());
-        resting < self.listening.saturating_add(other.listening) / 2
+        let listening = self.listening.saturating_add(other.listening);
+        resting.saturating_mul(2) < listening
     }
 }
 

@@ -49,8 +49,9 @@ impl Rest {
         requires holds { RestHolds self.old bit plan.now talkers.old controllers.old }
         ensures { ComesToRest bit plan.now self.old self.new talkers.old talkers.new controllers.old controllers.new }
     {
+        let were_apart = self.apart;
         self.lull_alike(plan, talkers, controllers, bit, told, idles);
-        if self.apart {
+        if self.apart && !were_apart {
             self.lull_alike(plan, talkers, controllers, bit, true, idles);
         }
     }
