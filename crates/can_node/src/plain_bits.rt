@@ -134,6 +134,37 @@ pub(crate) fn out_behind(state: State, level: bool) -> Option<State>
     }
 }
 
+/// Goes on with this level in such a state (`out_behind`), in place: whether it does. Elsewhere nothing is changed.
+#[inline(always)]
+pub(crate) fn stay_on(state: &mut State, level: bool) -> bool
+    ensures stays { result ≡ true → (stays_out level state.old ≡ true) × (state.new ≡ out_behind state.old level) }
+    ensures ends { result ≡ false → stays_out level state.old ≡ false }
+    ensures other { result ≡ false → state.new ≡ state.old }
+{
+    // most wait with a recessive level in one of these
+    if level {
+        if let State::Delimiting(_role, ones) = state {
+            if *ones <= 6 {
+                *ones += 1;
+                return true;
+            }
+            return false;
+        }
+        if let State::Resting(_role, ones) = state {
+            if *ones <= 1 {
+                *ones += 1;
+                return true;
+            }
+            return false;
+        }
+    }
+    let Some(next) = out_behind(*state, level) else {
+        return false;
+    };
+    *state = next;
+    true
+}
+
 /// One bit of a node in such a state, at which it samples this level.
 #[inline(always)]
 pub(crate) fn go_plainly(state: &mut State, counters: &Counters, now: u64, level: bool)

@@ -4,7 +4,7 @@ ghost use Rattle.std.specs.Prelude.{◌≡◌, ◌<◌, ◌≤◌, ◌+◌, ◌*
 ghost use Rattle.can_confinement.specs.declared.confinement.Role.{Role as RoleValue};
 ghost use Rattle.can_node.specs.PlainBits.{StaysBy, StaysNoLonger, StaysOut, out_behind_all, stays_out};
 
-use crate::plain_bits::out_behind;
+use crate::plain_bits::stay_on;
 use crate::state::State;
 use can_confinement::Role;
 
@@ -94,13 +94,12 @@ fn stay_waiting(state: State, levels: &[bool]) -> Stay
 {
     let mut state = state;
     for (place, level) in levels.iter().enumerate() {
-        let Some(next) = out_behind(state, *level) else {
+        if !stay_on(&mut state, *level) {
             return Stay {
                 count: place,
                 state,
             };
-        };
-        state = next;
+        }
     }
     Stay {
         count: levels.len(),

@@ -6,6 +6,6 @@ loop-place-init c = stays_none c.args.state c.args.levels.now
 
 pub loop-place-preserved : goal.loop-place-preserved
 loop-place-preserved c =
-    let next = c.in-Some.ensures.stays in
-    stays_more c.args.state c.loop-place.state c.in-Some.next c.args.levels.now c.loop-place.place
+    let next = c.stay_on.ensures.stays c.if-not-stay_on.false in
+    stays_more c.args.state c.loop-place.state c.stay_on.new.state c.args.levels.now c.loop-place.place
     c.loop-place-test.true c.loop-place.invariant next.0 next.1
