@@ -37,8 +37,8 @@ pub(crate) fn is_plain(state: State, level: bool) -> bool
     }
 }
 
-/// Counts a dominant level of a flag that drives dominant, and tells whether it did. Where the flag ends with this bit,
-/// and elsewhere, nothing is changed.
+/// Counts a dominant level of a flag that drives dominant, or one behind it that counts no error and is not the first,
+/// and tells whether it did. Where the flag ends with this bit, and elsewhere, nothing is changed.
 fn flag_on(state: &mut State) -> bool
     ensures counted { result ≡ true → (counters : CountersValue) (now : ℕ)
         → LeavesPlainly state.old counters now false state.new }
@@ -51,12 +51,21 @@ fn flag_on(state: &mut State) -> bool
             *until = until.saturating_sub(1);
             return true;
         }
+        return false;
+    }
+    // where it waits for the flags of others to end
+    if let State::Waiting(_kind, _role, until, first) = state {
+        if !*first && *until >= 2 {
+            *until -= 1;
+            return true;
+        }
     }
     false
 }
 
-/// Counts a dominant level of a flag that drives dominant, or a recessive one of a delimiter, of the intermission or of
-/// suspend transmission, and tells whether it did. Where that ends with this bit, and elsewhere, nothing is changed.
+/// Counts a dominant level of a flag that drives dominant or behind it, or a recessive one of a delimiter, of the
+/// intermission or of suspend transmission, and tells whether it did. Where that ends with this bit, and elsewhere,
+/// nothing is changed.
 pub(crate) fn count_on(state: &mut State, level: bool) -> bool
     ensures counted { result ≡ true → (counters : CountersValue) (now : ℕ)
         → LeavesPlainly state.old counters now level state.new }
