@@ -167,8 +167,8 @@ impl Listener {
         Some(TakenFrame { start, frame })
     }
 
-    /// What this level is to each of them at the next bit, whatever it brings: an acknowledgement that is counted, or an
-    /// error. `None` where they read no frame.
+    /// What this level is to each of them at the next bit, whatever it brings: an acknowledgement that is counted, or
+    /// an error. `None` where they read no frame.
     #[inline(never)]
     pub fn hears(&self, level: bool) -> Option<HeardLevel>
         ensures some { IfSome result (AllHear self.now level) }

@@ -140,8 +140,8 @@ impl Node {
         self.clock = bit + 1;
     }
 
-    /// The node, for which a listener stood up to this bit, samples this level of a frame that it reads as each does for
-    /// which that stands (`Listener::hears`): what `catch_up` and `sample` do, in one step. It tells what this bit
+    /// The node, for which a listener stood up to this bit, samples this level of a frame that it reads as each does
+    /// for which that stands (`Listener::hears`): what `catch_up` and `sample` do, in one step. It tells what this bit
     /// brings to an end.
     pub fn hear(&mut self, heard: &HeardLevel, bit: u64, level: bool) -> Outcome
         requires { bit < u64.MAX }

@@ -88,7 +88,8 @@ pub shared_quiet : (rest : Rest) (shared : SharedSample) (bit : ℕ) (level : Bo
     AtPlaces (λ k. Shares shared bit level) mid after → AtPlaces (λ k. TellsNone) mid after →
     AwakeAreQuiet bit mid → AreQuiet bit (members_at rest (bit + 1) after)
 shared_quiet rest shared bit level mid after shares tells quiet =
-    subst (AreQuiet bit) (sym (none_resting rest.listener (bit + 1) after (none_left shared bit level mid after shares)))
+    subst (AreQuiet bit)
+    (sym (none_resting rest.listener (bit + 1) after (none_left shared bit level mid after shares)))
     (λ k m e on.
     let b = some_there mid k (let within = slice_get_within after k m e in omega (arith, within, shares.size)) in
     one_quiet shared bit level b.0 m (shares.at k b.0 m b.1 e) (tells.at k b.0 m b.1 e) (quiet k b.0 b.1) on)
@@ -97,4 +98,5 @@ shared_quiet rest shared bit level mid after shares tells quiet =
 pub awake_quiet : (rest : Rest) (bit : ℕ) (members : List Member) → NoneRests members → AwakeAreQuiet bit members →
     AreQuiet bit (members_at rest (bit + 1) members)
 awake_quiet rest bit members none quiet =
-    subst (AreQuiet bit) (sym (none_resting rest.listener (bit + 1) members none)) (λ k m e on. quiet k m e (none k m e) on)
+    subst (AreQuiet bit) (sym (none_resting rest.listener (bit + 1) members none))
+    (λ k m e on. quiet k m e (none k m e) on)

@@ -188,8 +188,8 @@ impl Rest {
         true
     }
 
-    /// The listener follows through a bit at which those that rest sample this level. Where it can't, what that level is
-    /// to each of them; or they wake before it, where that is not known.
+    /// The listener follows through a bit at which those that rest sample this level. Where it can't, what that level
+    /// is to each of them; or they wake before it, where that is not known.
     #[inline(always)]
     pub(crate) fn go_through(
         &mut self,

@@ -46,8 +46,8 @@ woken listener bit member = record {
   deed = member.deed;
 }
 
--- One that rested up to this bit samples this level as each does for which its listener stands, and has woken; any other
--- is as it was.
+-- One that rested up to this bit samples this level as each does for which its listener stands, and has woken; any
+-- other is as it was.
 pub record Shares (shared : SharedSample) (bit : ℕ) (level : Bool) (old new : Member) : Type 0 where
   pub was_awake : old.rests ≡ false → new ≡ old
   pub wakes : new.rests ≡ false

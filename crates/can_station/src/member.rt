@@ -151,8 +151,8 @@ impl Member {
         self.wake(listener, bit);
     }
 
-    /// If it rests it samples this level as each does for which its listener stands (`Node::take_up`, `Node::hear`), and
-    /// wakes. Whether something may be told of it then.
+    /// If it rests it samples this level as each does for which its listener stands (`Node::take_up`, `Node::hear`),
+    /// and wakes. Whether something may be told of it then.
     pub(crate) fn share(&mut self, shared: &SharedSample, bit: u64, level: bool) -> bool
         requires bit { bit < u64.MAX }
         requires room { self.old.rests ≡ true → self.old.station.completed < u64.MAX }

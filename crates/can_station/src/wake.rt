@@ -35,8 +35,8 @@ pub fn wake_all(members: &mut [Member], listener: &Listener, bit: u64)
     }
 }
 
-/// All of these that rest sample this level as each does for which their listener stands, and wake. Whether something may
-/// be told of one of them.
+/// All of these that rest sample this level as each does for which their listener stands, and wake. Whether something
+/// may be told of one of them.
 pub fn share_all(members: &mut [Member], shared: &SharedSample, bit: u64, level: bool) -> bool
     requires bit { bit < u64.MAX }
     requires room { (k : ℕ) (m : MemberValue) → slice_get members.old k ≡ Some m → m.rests ≡ true

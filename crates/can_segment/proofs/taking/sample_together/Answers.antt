@@ -22,18 +22,21 @@ share_all-resting_told-requires-clause-room g c =
     (left_places _ c.args.talkers.now c.sample_nodes-awake_told.new.members c.sample_nodes-awake_told.ensures.samples)
     c.requires.resting c.requires.talker_room
 
-pub sample_controllers-controllers_told-requires-clause-awake : goal.sample_controllers-controllers_told-requires-clause-awake
+pub sample_controllers-controllers_told-requires-clause-awake :
+    goal.sample_controllers-controllers_told-requires-clause-awake
 sample_controllers-controllers_told-requires-clause-awake g c =
     whole_within c.whole-all.result _ c.wake_all.new.members c.whole-all.ensures refl
 
-pub sample_controllers-controllers_told-requires-clause-room : goal.sample_controllers-controllers_told-requires-clause-room
+pub sample_controllers-controllers_told-requires-clause-room :
+    goal.sample_controllers-controllers_told-requires-clause-room
 sample_controllers-controllers_told-requires-clause-room g c =
     let rest = c.args.rest.now in
     let same = wakes_same _ rest.listener c.args.bit c.args.controllers.now c.wake_all.new.members (λ k a b h. inr h)
     c.wake_all.ensures in
     room_real _ rest c.args.bit c.wake_all.new.members (subst (HasRoom _ c.args.bit) (sym same) c.requires.room)
 
-pub sample_controllers-controllers_told-requires-clause-port : goal.sample_controllers-controllers_told-requires-clause-port
+pub sample_controllers-controllers_told-requires-clause-port :
+    goal.sample_controllers-controllers_told-requires-clause-port
 sample_controllers-controllers_told-requires-clause-port g c =
     let rest = c.args.rest.now in
     let same = wakes_same _ rest.listener c.args.bit c.args.controllers.now c.wake_all.new.members (λ k a b h. inr h)
@@ -63,14 +66,17 @@ returns-clause-controllers g c =
     subst
     (λ ms. AtBoth (λ k. PortSettles g.P.TxBus.bus_after g.P.TxBus.bus_asked g.P.TxBus.transmitting
     g.P.RxSink.sink_after g.P.RxSink.port_stays bit (sampled_level c.args.faults.now (first + k) bit c.args.level)) ms
-    (members_at after (bit + 1) c.sample_controllers-controllers_told.new.members) c.args.ports.now c.sample_controllers-controllers_told.new.ports) same
+    (members_at after (bit + 1) c.sample_controllers-controllers_told.new.members) c.args.ports.now
+    c.sample_controllers-controllers_told.new.ports) same
     (controllers_sample g.P.TxBus.bus_after g.P.TxBus.bus_asked g.P.TxBus.transmitting g.P.RxSink.sink_after
-    g.P.RxSink.port_stays before after bit first c.args.level c.args.faults.now cs c.sample_controllers-controllers_told.new.members
+    g.P.RxSink.port_stays before after bit first c.args.level c.args.faults.now cs
+    c.sample_controllers-controllers_told.new.members
     c.args.ports.now c.sample_controllers-controllers_told.new.ports
     (λ x. g.met.P.RxSink.port_of_bus x x (g.met.P.TxBus.bus_stays_self x))
     (λ k m e is. absurd (let on = awake k m e in cc (is, on)))
     (λ k m e is. absurd (let on = awake k m e in cc (is, on)))
-    (λ k m e is. absurd (let on = awake k m e in cc (is, on))) sends size c.sample_controllers-controllers_told.ensures.settles)
+    (λ k m e is. absurd (let on = awake k m e in cc (is, on))) sends size
+    c.sample_controllers-controllers_told.ensures.settles)
 
 pub returns-clause-awake : goal.returns-clause-awake
 returns-clause-awake g c =
