@@ -1,5 +1,5 @@
 -- Nodes that rest and sample a level together.
-use Rattle.std.proofs.Common.{◌≡◌, ℕ, ◌+◌, ◌<◌, ◌≤◌, Bool, true, false, List, Some, slice_get, refl}
+use Rattle.std.proofs.Common.{inr, ◌≡◌, ℕ, ◌+◌, ◌<◌, ◌≤◌, Bool, true, false, List, Some, slice_get, refl}
 use Rattle.std.proofs.Common.{sym, subst, arith, ◌∙◌}
 use Rattle.std.proofs.lemmas.List.{length-map}
 use Rattle.std.proofs.lemmas.Option.{slice_get_within}
@@ -19,7 +19,12 @@ use Rattle.can_segment.specs.declared.rest.Rest.{Rest}
 use Rattle.can_segment.specs.Rests.{AreResting, members_at}
 use Rattle.can_segment.proofs.Rests.{undisturbed_level}
 use Rattle.can_segment.proofs.Shown.{map_at, map_there}
-use Rattle.can_segment.proofs.Woken.{awake_woken, none_resting, resting_woken}
+use Rattle.can_segment.proofs.Woken.{awake_woken, none_resting, resting_woken, wakes_same}
+
+-- all that have woken are those for which they stood
+pub all_woken_same : (rest : Rest) (bit : ℕ) (old new : List Member) →
+    AtPlaces (λ k a b. b ≡ woken rest.listener bit a) old new → members_at rest bit new ≡ members_at rest bit old
+all_woken_same rest bit old new woke = wakes_same _ rest.listener bit old new (λ k a b is. inr is) woke
 
 -- none of them rests then
 pub none_left : (shared : SharedSample) (bit : ℕ) (level : Bool) (mid after : List Member) →

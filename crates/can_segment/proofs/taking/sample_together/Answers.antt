@@ -1,4 +1,4 @@
-use Rattle.std.proofs.Common.{◌≡◌, ◌+◌, ◌||◌, length, inr, refl, sym, subst, ◌∙◌}
+use Rattle.std.proofs.Common.{◌≡◌, ◌+◌, ◌||◌, length, refl, sym, subst, ◌∙◌}
 use Rattle.std.proofs.lemmas.Bool.{or_parts}
 use Rattle.can_station.specs.Faults.{sampled_level}
 use Rattle.can_station.specs.Members.{PortSettles}
@@ -8,8 +8,8 @@ use Rattle.can_station.proofs.Spans.{whole_within}
 use Rattle.can_segment.specs.Rests.{members_at}
 use Rattle.can_segment.proofs.Holds.{left_awake}
 use Rattle.can_segment.proofs.Rests.{controllers_sample, room_real, transmits_real}
-use Rattle.can_segment.proofs.Sharing.{all_share, awake_quiet, completed_room, none_left, shared_quiet}
-use Rattle.can_segment.proofs.Woken.{all_woken, left_both, left_places, wakes_same}
+use Rattle.can_segment.proofs.Sharing.{all_share, all_woken_same, awake_quiet, completed_room, none_left, shared_quiet}
+use Rattle.can_segment.proofs.Woken.{all_woken, left_both, left_places}
 use Rattle.can_segment.proofs.taking.sample_together.Goals as goal
 
 pub sample_nodes-awake_told-requires-clause-room : goal.sample_nodes-awake_told-requires-clause-room
@@ -31,16 +31,14 @@ pub sample_controllers-controllers_told-requires-clause-room :
     goal.sample_controllers-controllers_told-requires-clause-room
 sample_controllers-controllers_told-requires-clause-room g c =
     let rest = c.args.rest.now in
-    let same = wakes_same _ rest.listener c.args.bit c.args.controllers.now c.wake_all.new.members (λ k a b h. inr h)
-    c.wake_all.ensures in
+    let same = all_woken_same rest c.args.bit c.args.controllers.now c.wake_all.new.members c.wake_all.ensures in
     room_real _ rest c.args.bit c.wake_all.new.members (subst (HasRoom _ c.args.bit) (sym same) c.requires.room)
 
 pub sample_controllers-controllers_told-requires-clause-port :
     goal.sample_controllers-controllers_told-requires-clause-port
 sample_controllers-controllers_told-requires-clause-port g c =
     let rest = c.args.rest.now in
-    let same = wakes_same _ rest.listener c.args.bit c.args.controllers.now c.wake_all.new.members (λ k a b h. inr h)
-    c.wake_all.ensures in
+    let same = all_woken_same rest c.args.bit c.args.controllers.now c.wake_all.new.members c.wake_all.ensures in
     transmits_real g.P.TxBus.transmitting rest c.args.bit c.wake_all.new.members c.args.ports.now
     (subst (λ ms. TransmitsAll g.P.TxBus.transmitting ms c.args.ports.now) (sym same) c.requires.port)
 
@@ -59,7 +57,7 @@ returns-clause-controllers g c =
     let cs = c.wake_all.new.members in
     let first = length c.args.talkers.now in
     let awake = all_woken before.listener bit c.args.controllers.now cs c.wake_all.ensures in
-    let same = wakes_same _ before.listener bit c.args.controllers.now cs (λ k a b h. inr h) c.wake_all.ensures in
+    let same = all_woken_same before bit c.args.controllers.now cs c.wake_all.ensures in
     let size : length c.args.ports.now ≡ length cs = c.requires.ports ∙ sym c.wake_all.ensures.size in
     let sends = transmits_real g.P.TxBus.transmitting before bit cs c.args.ports.now
     (subst (λ ms. TransmitsAll g.P.TxBus.transmitting ms c.args.ports.now) (sym same) c.requires.port) in
