@@ -115,24 +115,24 @@ stops-keep p slots id n v s k long me fits =
       refl,
     )
 
-pub ticks-keep : (p : Pace) (slots id : ℕ) (v : Pacer) → v.first < p.segments → MayTick p v →
-    Allows (Kept p) slots id (clock_of v) (word_of v.first) (λ n. (n + 1) % 2 ^ 64)
-    (Ticks (step slots (word_of v.first) 1 0 none) (clock_of v))
-ticks-keep p slots id v inside may s k long me fits =
+pub ticks-keep : (p : Pace) (slots id bits : ℕ) (v : Pacer) → v.first < p.segments → MayTick p bits v →
+    Allows (Kept p) slots id (clock_of v) (word_of v.first) (λ n. (n + bits) % 2 ^ 64)
+    (Ticks (step slots (word_of v.first) bits 0 none) (clock_of v))
+ticks-keep p slots id bits v inside may s k long me fits =
     let i = v.first in
     let mine = (k.knows id v me).mine i (omega arith) (let o = may.one in omega arith) in
     let n = get_or s.words (word_of i) 0 in
     let is : n ≡ v.made = mine.1 in
-    let next : (n + 1) % 2 ^ 64 ≡ n + 1 = mod-eq_of_lt (let a = k.short in let b = may.short in omega arith) in
-    let ws = set s.words (word_of i) (n + 1) in
-    let at : get_or ws (word_of i) 0 ≡ n + 1 =
-    get_or-set_same s.words (word_of i) (n + 1) 0 (let w = k.wide in omega arith) in
+    let next : (n + bits) % 2 ^ 64 ≡ n + bits = mod-eq_of_lt (let a = k.short in let b = may.short in omega arith) in
+    let ws = set s.words (word_of i) (n + bits) in
+    let at : get_or ws (word_of i) 0 ≡ n + bits =
+    get_or-set_same s.words (word_of i) (n + bits) 0 (let w = k.wide in omega arith) in
     let else : (j : ℕ) → ¬ (j ≡ i) → get_or ws (word_of j) 0 ≡ get_or s.words (word_of j) 0 =
-    λ j a. get_or-set_other s.words (word_of i) (word_of j) (n + 1) 0 (λ e. a (same_clock j i e)) in
+    λ j a. get_or-set_other s.words (word_of i) (word_of j) (n + bits) 0 (λ e. a (same_clock j i e)) in
     let rises : (j : ℕ) → get_or s.words (word_of j) 0 ≤ get_or ws (word_of j) 0 =
     λ j. dite (ℕ_discrete j i) (λ e. subst (λ (q : ℕ). get_or s.words (word_of q) 0 ≤ get_or ws (word_of q) 0) (sym e)
     (omega arith)) (λ a. let g = else j a in omega arith) in
-    let w = ticked v in (
+    let w = ticked bits v in (
       w,
       keeps,
       tt,
@@ -140,14 +140,14 @@ ticks-keep p slots id v inside may s k long me fits =
           (λ (x : ℕ). Kept p (record { words = set s.words (word_of i) x; homes = s.homes; views = set s.views id w }))
           (sym next) (record {
             owner = k.owner;
-            wide = length-set s.words (word_of i) (n + 1) ∙ k.wide;
+            wide = length-set s.words (word_of i) (n + bits) ∙ k.wide;
             pace = λ a b la lb. dite (ℕ_discrete a i)
                 (λ e. dite (ℕ_discrete b i) (λ f. let g : get_or ws (word_of a) 0 ≡ get_or ws (word_of b) 0 =
                 ap (λ q. get_or ws (word_of q) 0) (e ∙ sym f) in omega arith)
                 (λ f. let near = may.near b lb f in let low = (k.knows id v me).seen b lb in let g = else b f in
-                let h : get_or ws (word_of a) 0 ≡ n + 1 = ap (λ q. get_or ws (word_of q) 0) e ∙ at in omega arith))
+                let h : get_or ws (word_of a) 0 ≡ n + bits = ap (λ q. get_or ws (word_of q) 0) e ∙ at in omega arith))
                 (λ e. let g = else a e in let h = rises b in let o = k.pace a b la lb in omega arith);
-            done = λ a la. dite (ℕ_discrete a i) (λ e. let h : get_or ws (word_of a) 0 ≡ n + 1 =
+            done = λ a la. dite (ℕ_discrete a i) (λ e. let h : get_or ws (word_of a) 0 ≡ n + bits =
                 ap (λ q. get_or ws (word_of q) 0) e ∙ at in let b = may.short in omega arith) (λ e. let g = else a e in
                 let o = k.done a la in omega arith);
             short = k.short;
@@ -161,7 +161,7 @@ ticks-keep p slots id v inside may s k long me fits =
                 (let g = k.knows id v me in record {
                   seen = λ q l. let o = g.seen q l in let h = rises q in omega arith;
                   mine = λ q b c. let m = g.mine q b c in let one = may.one in let f : q ≡ i = omega arith in
-                      (m.0, ap (λ q. get_or ws (word_of q) 0) f ∙ at ∙ ap (λ x. x + 1) is);
+                      (m.0, ap (λ q. get_or ws (word_of q) 0) f ∙ at ∙ ap (λ x. x + bits) is);
                   few = g.few;
                 })
                 e;

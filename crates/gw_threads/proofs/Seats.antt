@@ -1,42 +1,35 @@
 -- A seat that ticks a clock as far as it may go.
-use Rattle.std.proofs.Common.{◌≡◌, ℕ, ◌+◌, ◌<◌, ◌≤◌, refl, sym, ap, subst, ◌∙◌, arith, slice_index}
+use Rattle.std.proofs.Common.{◌≡◌, ℕ, ◌+◌, ◌-◌, ◌<◌, ◌≤◌, refl, sym, ap, subst, ◌∙◌, arith, slice_index}
 use Rattle.gw_threads.specs.declared.views.Pace.{Pace}
 use Rattle.gw_threads.specs.declared.views.Pacer.{Pacer}
 use Rattle.gw_threads.specs.Clocks.{ClockPlace, one_of, rest_of, ticked, MayTick, TicksAt, Deals, MayGo, SameClocks}
 
--- it may tick as long as it hasn't come so far
-pub may_tick : (bits made limit : ℕ) (c : ClockPlace) → TicksAt bits made c → MayGo limit c → made < limit →
-    MayTick c.pace c.view
-may_tick bits made limit c t may left = record {
+-- it may tick up to where it may go
+pub may_tick : (bits made now limit : ℕ) (c : ClockPlace) → TicksAt bits made c → MayGo limit c → made ≤ now →
+    now ≤ limit → MayTick c.pace (now - made) c.view
+may_tick bits made now limit c t may on within = record {
   one = t.one;
-  short = omega (arith, t.made_is, may.most, left);
-  near = λ j l n. let near = may.near j l n in omega (arith, t.made_is, near, left);
-}
-
--- one that may go far may go less far
-pub less_far : (now limit : ℕ) (c : ClockPlace) → now ≤ limit → MayGo limit c → MayGo now c
-less_far now limit c less may = record {
-  near = λ j l n. (let near = may.near j l n in omega (arith, near, less));
-  most = omega (arith, may.most, less);
+  short = omega (arith, t.made_is, may.most, on, within);
+  near = λ j l n. let near = may.near j l n in omega (arith, t.made_is, near, on, within);
 }
 
 -- no clock may go nowhere
 pub may_stay : (c : ClockPlace) → MayGo 0 c
 may_stay c = record { near = λ j l n. omega arith; most = omega arith }
 
--- a tick behind
-pub ticked_on : (bits made : ℕ) (c d : ClockPlace) → d.pace ≡ c.pace → d.view ≡ ticked c.view → TicksAt bits made c →
-    TicksAt bits (made + 1) d
-ticked_on bits made c d same e t = record {
+-- then it has come so far
+pub ticked_on : (bits made now : ℕ) (c d : ClockPlace) → d.pace ≡ c.pace → d.view ≡ ticked (now - made) c.view →
+    made ≤ now → TicksAt bits made c → TicksAt bits now d
+ticked_on bits made now c d same e on t = record {
   one = ap (λ (v : Pacer). v.end) e ∙ t.one ∙ sym (ap (λ (v : Pacer). v.first + 1) e);
-  made_is = ap (λ (v : Pacer). v.made) e ∙ ap (λ n. n + 1) t.made_is;
+  made_is = (let is = ap (λ (v : Pacer). v.made) e in omega (arith, is, t.made_is, on));
   bits_is = ap (λ (p : Pace). p.bits) same ∙ t.bits_is;
 }
 
 -- it may still go as far
-pub may_go_on : (limit : ℕ) (c d : ClockPlace) → d.pace ≡ c.pace → d.view ≡ ticked c.view → MayGo limit c →
+pub may_go_on : (limit bits : ℕ) (c d : ClockPlace) → d.pace ≡ c.pace → d.view ≡ ticked bits c.view → MayGo limit c →
     MayGo limit d
-may_go_on limit c d same e may = record {
+may_go_on limit bits c d same e may = record {
   near = λ j l n. (
       let first = ap (λ (v : Pacer). v.first) e in
       let seen = ap (λ (v : Pacer). slice_index v.seen j) e in

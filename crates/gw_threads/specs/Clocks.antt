@@ -59,15 +59,16 @@ pacer_of m = m.0
 abbrev pub looked_at : Pacer → ℕ → ℕ → Pacer
 looked_at v i n = pacer v.first v.end v.made (slice_set v.seen i n)
 
--- the seat's clocks went on by one
-abbrev pub ticked : Pacer → Pacer
-ticked v = pacer v.first v.end (v.made + 1) v.seen
+-- the seat's clocks went on by so many bits
+abbrev pub ticked : ℕ → Pacer → Pacer
+ticked bits v = pacer v.first v.end (v.made + bits) v.seen
 
--- the seat ticks one clock, which is below the run's bits, and has seen every other clock within the slack
-pub record MayTick (p : Pace) (v : Pacer) : Type 0 where
+-- The seat ticks one clock, which comes to the run's bits at most, and has seen every other clock within the slack of
+-- where it comes.
+pub record MayTick (p : Pace) (bits : ℕ) (v : Pacer) : Type 0 where
   pub one : v.end ≡ v.first + 1
-  pub short : v.made < p.bits
-  pub near : (j : ℕ) → j < p.segments → ¬ (j ≡ v.first) → v.made + 1 ≤ slice_index v.seen j + p.slack
+  pub short : v.made + bits ≤ p.bits
+  pub near : (j : ℕ) → j < p.segments → ¬ (j ≡ v.first) → v.made + bits ≤ slice_index v.seen j + p.slack
 
 -- a seat of this table, which has the words of all clocks, and one behind them
 pub record IsAtTable (table : TableId) (p : Pace) (theirs : TableId) (me : Me (Unit {0}) Pacer) : Type 0 where
@@ -83,9 +84,9 @@ Play = Step (Unit {0}) → Me (Unit {0}) Pacer → ℕ → Me (Unit {0}) Pacer �
 abbrev pub Looks : Play
 Looks st m r n = (i : ℕ) → st.word ≡ word_of i → n ≡ clock_of (looked_at (pacer_of m) i r)
 
--- its clock went on
+-- its clock went on by what was added
 abbrev pub Ticks : Play
-Ticks st m r n = n ≡ clock_of (ticked (pacer_of m))
+Ticks st m r n = n ≡ clock_of (ticked st.first (pacer_of m))
 
 -- it knows what it knew
 abbrev pub Stays : Play

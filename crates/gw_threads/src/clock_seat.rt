@@ -108,13 +108,13 @@ impl ClockSeat {
         })
     }
 
-    /// The seat's clock goes on by one.
-    pub(crate) fn tick(&mut self)
-        requires { MayTick self.old.pace self.old.view }
+    /// The seat's clock goes on by so many bits, in one step.
+    pub(crate) fn tick(&mut self, bits: u64)
+        requires { MayTick self.old.pace bits self.old.view }
         ensures same { self.new.pace ≡ self.old.pace }
-        ensures ticked { self.new.view ≡ ticked self.old.view }
+        ensures ticked { self.new.view ≡ ticked bits self.old.view }
     {
-        tick(&self.clocks, &mut self.seat, self.first);
+        tick(&self.clocks, &mut self.seat, self.first, bits);
     }
 
     /// All threads of the run are to stop.

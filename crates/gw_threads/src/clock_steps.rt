@@ -34,17 +34,19 @@ pub(crate) fn look(clocks: &ClockTable, seat: &mut Seat, segment: usize) -> u64
     clocks.shared.load::<Look>(seat, word_of(segment))
 }
 
-/// The seat's own clock goes on by one.
-pub(crate) fn tick(clocks: &ClockTable, seat: &mut Seat, segment: usize)
+/// The seat's own clock goes on by so many bits.
+pub(crate) fn tick(clocks: &ClockTable, seat: &mut Seat, segment: usize, bits: u64)
     requires table { IsAtTable clocks.now.shared.table_id clocks.now.shared.key seat.old.table_id seat.old.me }
     requires segment { segment < clocks.now.shared.key.segments }
     requires few { segment < 8 }
     requires own { (pacer_of seat.old.me).first ≡ segment }
-    requires pace { MayTick clocks.now.shared.key (pacer_of seat.old.me) }
+    requires pace { MayTick clocks.now.shared.key bits (pacer_of seat.old.me) }
     ensures table { seat.new.table_id ≡ seat.old.table_id }
-    ensures ticked { seat.new.me ≡ clock_of (ticked (pacer_of seat.old.me)) }
+    ensures ticked { seat.new.me ≡ clock_of (ticked bits (pacer_of seat.old.me)) }
 {
-    clocks.shared.fetch_add::<Tick>(seat, word_of(segment), 1);
+    clocks
+        .shared
+        .fetch_add::<Tick>(seat, word_of(segment), bits);
 }
 
 /// Sets the stop word, which stands behind the clocks.

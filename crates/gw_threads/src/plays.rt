@@ -20,7 +20,7 @@ impl Play<(), Pacer> for Look {
     ghost then = { Looks };
 }
 
-/// A clock goes on by one.
+/// A clock goes on.
 pub struct Tick;
 
 impl Play<(), Pacer> for Tick {

@@ -52,23 +52,9 @@ fn wait_for_others<R: Wait>(
     unreachable!()
 }
 
-/// The clock goes on from `made` to `now`, tick by tick.
-fn tick_up(clock: &mut ClockSeat, made: u64, now: u64)
-    requires order { made ≤ now }
-    requires ticks { TicksAt clock.old.pace.bits made clock.old }
-    requires go { MayGo now clock.old }
-    ensures same { clock.new.pace ≡ clock.old.pace }
-    ensures ticks { TicksAt clock.old.pace.bits now clock.new }
-    ensures go { (limit : ℕ) → MayGo limit clock.old → MayGo limit clock.new }
-{
-    for _ in made..now {
-        clock.tick();
-    }
-}
-
-/// All bits of a segment with its controllers, each followed by a tick of its clock, unless a stop is called. Bits that
-/// need no port are made one after another, as far as the clock may go, before it ticks for them. The others are looked
-/// at only where it has come as far as it may go.
+/// All bits of a segment with its controllers, unless a stop is called. Behind a bit come those that need no port, as far
+/// as the clock may go, and then it ticks for them all. The others are looked at only where it has come as far as it may
+/// go.
 fn make_all_bits<R: Wait, P: RxSink<R>>(
     rt: &R,
     segment: &mut Segment,
@@ -92,7 +78,7 @@ fn make_all_bits<R: Wait, P: RxSink<R>>(
         let Ok(now) = make_bits(rt, segment, ports, limit) else {
             return Err(ThreadFault::Memory);
         };
-        tick_up(clock, made, now);
+        clock.tick(now - made);
         made = now;
     }
     Ok(())

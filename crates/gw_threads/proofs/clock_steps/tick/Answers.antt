@@ -12,9 +12,9 @@ fetch_add-requires c = let h = c.args.clocks.now.shared in let t = h.table_id in
     c.requires.own in let word = c.word_of.ensures in (
       c.requires.table.same,
       omega arith,
-      subst (λ (m : Me (Unit {0}) Pacer). Allows (Kept h.key) t.slots id m i (λ n. (n + 1) % 2 ^ 64)
-          (Ticks (step t.slots i 1 0 none) m)) (sym c.requires.table.alone)
-          (subst (λ (w : ℕ). Allows (Kept h.key) t.slots id (clock_of v) w (λ n. (n + 1) % 2 ^ 64)
-          (Ticks (step t.slots w 1 0 none) (clock_of v))) (ap word_of c.requires.own ∙ sym c.word_of.ensures)
-          (ticks-keep h.key t.slots id v (omega arith) c.requires.pace)),
+      subst (λ (m : Me (Unit {0}) Pacer). Allows (Kept h.key) t.slots id m i (λ n. (n + c.args.bits) % 2 ^ 64)
+          (Ticks (step t.slots i c.args.bits 0 none) m)) (sym c.requires.table.alone)
+          (subst (λ (w : ℕ). Allows (Kept h.key) t.slots id (clock_of v) w (λ n. (n + c.args.bits) % 2 ^ 64)
+          (Ticks (step t.slots w c.args.bits 0 none) (clock_of v))) (ap word_of c.requires.own ∙ sym c.word_of.ensures)
+          (ticks-keep h.key t.slots id c.args.bits v (omega arith) c.requires.pace)),
     )

@@ -1,7 +1,6 @@
-use Rattle.std.proofs.Common.{length, ap, arith, refl, sym, subst, ◌∙◌}
+use Rattle.std.proofs.Common.{length, ap, arith, refl, sym, ◌-◌, ◌∙◌}
 use Rattle.gw_site.proofs.Sites.{leave-self, leave-on}
-use Rattle.gw_threads.specs.Clocks.{TicksAt}
-use Rattle.gw_threads.proofs.Seats.{less_far, looked_on, may_stay, same-self, same-on}
+use Rattle.gw_threads.proofs.Seats.{looked_on, may_go_on, may_stay, may_tick, same-self, same-on, ticked_on}
 use Rattle.gw_threads.proofs.site_run.make_all_bits.Goals as goal
 
 pub loop-made-init : goal.loop-made-init
@@ -16,17 +15,15 @@ loop-made-init g c = (
   omega arith,
 )
 
-pub tick_up-requires-clause-ticks : goal.tick_up-requires-clause-ticks
-tick_up-requires-clause-ticks g c =
+pub tick-requires : goal.tick-requires
+tick-requires g c =
     let l = c.loop-made in
     let looked = same-on l.clock c.is_stopped.new.self c.wait_for_others.new.clock
     (same-self l.clock c.is_stopped.new.self c.is_stopped.ensures) c.in_ok-limit.ensures.same in
     let at = looked_on c.args.bits l.made l.clock c.wait_for_others.new.clock looked l.invariant.4 in
-    subst (λ bits. TicksAt bits l.made c.wait_for_others.new.clock) (sym at.bits_is) at
-
-pub tick_up-requires-clause-go : goal.tick_up-requires-clause-go
-tick_up-requires-clause-go g c = less_far c.in-Ok.now c.in_ok-limit.limit c.wait_for_others.new.clock
-    (omega (arith, c.in-Ok.ensures.made, c.in-Ok.ensures.most)) c.in_ok-limit.ensures.go
+    may_tick c.args.bits l.made c.in-Ok.now c.in_ok-limit.limit c.wait_for_others.new.clock at c.in_ok-limit.ensures.go
+    (omega (arith, c.in-Ok.ensures.longer, l.invariant.2, c.in-Ok.ensures.made))
+    (omega (arith, c.in-Ok.ensures.made, c.in-Ok.ensures.most))
 
 pub loop-made-preserved : goal.loop-made-preserved
 loop-made-preserved g c =
@@ -40,7 +37,9 @@ loop-made-preserved g c =
       sym c.in-Ok.ensures.made,
       leave-on g.P.RxSink.port_stays c.args.ports.now l.ports c.make_bits.new.ports
           (λ x y z. g.met.P.RxSink.port_stays_on x y z) was.3 c.in-Ok.ensures.ports,
-      subst (λ bits. TicksAt bits c.in-Ok.now c.tick_up.new.clock) at.bits_is c.tick_up.ensures.ticks,
-      c.tick_up.ensures.go c.in_ok-limit.limit c.in_ok-limit.ensures.go,
+      ticked_on c.args.bits l.made c.in-Ok.now c.wait_for_others.new.clock c.tick.new.self c.tick.ensures.same
+          c.tick.ensures.ticked (omega (arith, c.in-Ok.ensures.longer, was.2, c.in-Ok.ensures.made)) at,
+      may_go_on c.in_ok-limit.limit (c.in-Ok.now - l.made) c.wait_for_others.new.clock c.tick.new.self
+          c.tick.ensures.same c.tick.ensures.ticked c.in_ok-limit.ensures.go,
       omega (arith, c.in-Ok.ensures.made, c.in-Ok.ensures.most, c.in_ok-limit.ensures.go.most, at.bits_is),
     )
