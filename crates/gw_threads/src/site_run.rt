@@ -52,9 +52,9 @@ fn wait_for_others<R: Wait>(
     unreachable!()
 }
 
-/// All bits of a segment with its controllers, unless a stop is called. Behind a bit come those that need no port, as far
-/// as the clock may go, and then it ticks for them all. The others are looked at only where it has come as far as it may
-/// go.
+/// All bits of a segment with its controllers, unless a stop is called. Behind each bit come those that need no port,
+/// as far as the clock may go, and then it goes on by all of them. The other clocks are looked at only where it has come
+/// as far as it may go.
 fn make_all_bits<R: Wait, P: RxSink<R>>(
     rt: &R,
     segment: &mut Segment,
