@@ -140,15 +140,21 @@ impl Reader {
     pub fn copy(&self) -> Reader
         ensures { result ≡ self.now }
     {
-        let mut levels = ArrayVec::new();
+        let mut reader = Reader::new();
+        reader.copy_from(self);
+        reader
+    }
+
+    /// It becomes the same as another one, in place.
+    pub fn copy_from(&mut self, other: &Reader)
+        ensures { self.new ≡ other.now }
+    {
+        self.run = other.run;
+        self.levels.clear();
         // it has the same room
-        let _ = levels.try_extend_from_slice(self.levels.as_slice());
-        Reader {
-            run: self.run,
-            levels,
-            place: self.place,
-            told: self.told,
-        }
+        let _ = self.levels.try_extend_from_slice(other.levels.as_slice());
+        self.place = other.place;
+        self.told = other.told;
     }
 
     /// Whether both have read the same of a frame: then either may read on for the other. It tells so of none that has

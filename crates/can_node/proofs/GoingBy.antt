@@ -1,26 +1,30 @@
 -- Bits with which a node goes on, one after another.
 use Rattle.std.proofs.Common.{◌≡◌, ℕ, zero, suc, ◌+◌, ◌<◌, ◌≤◌, ◌++◌, min, nat_le, Bool, true, false, List, [], ◌∷◌}
-use Rattle.std.proofs.Common.{length, take, get_or, inl, inr, refl, sym, ap, arith, cond, not, subst, ◌∙◌}
+use Rattle.std.proofs.Common.{◌||◌, length, take, get_or, inl, inr, refl, sym, ap, arith, cond, not, subst, ◌∙◌}
 use Rattle.std.proofs.lemmas.Bool.Decides.{leb_tells}
 use Rattle.std.proofs.lemmas.List.{length-take, take_all, take_more}
 use Rattle.can_frame.specs.Sending.{StandAhead}
 use Rattle.can_frame.specs.Sending.SendsOn.{echoed}
 use Rattle.can_frame.specs.declared.spelling.Spelling.{Spelling}
+use Rattle.can_confinement.specs.declared.confinement.ErrorState.{ErrorState}
 use Rattle.can_confinement.specs.declared.confinement.Role.{Role}
+use Rattle.can_confinement.specs.declared.confinement.Role.TheVariants.{Receiver, Sender}
 use Rattle.can_confinement.specs.declared.counters.Counters.{Counters}
 use Rattle.can_node.specs.declared.node.Node.{Node}
 use Rattle.can_node.specs.declared.state.State.{State}
 use Rattle.can_confinement.specs.Confinement.{state_of}
 use Rattle.can_confinement.specs.Counters.{counts_of}
-use Rattle.can_node.specs.declared.state.State.TheVariants.{Delimiting, PassiveFlagging, Recovering}
-use Rattle.can_node.specs.declared.state.State.TheVariants.{Resting, Sending, Suspending}
+use Rattle.can_node.specs.declared.state.State.TheVariants.{Delimiting, Idling, PassiveFlagging, Recovering}
+use Rattle.can_node.specs.declared.state.State.TheVariants.{Resting, Sending, Suspending, Waiting}
 use Rattle.can_frame.proofs.ReadingOn.{goes_on-take}
-use Rattle.can_node.specs.Machine.{is_in_region, is_sending, level_in, may_start}
+use Rattle.can_node.specs.Machine.{Goes, is_in_region, is_sending, is_taking, level_in, may_start, quiet}
+use Rattle.can_node.specs.Phases.{suspends}
 use Rattle.can_node.specs.PlainBits.{GoesOnBy, LeavesPlainly, MayGoOnBy, StaysOut, is_plain, out_behind, out_behind_all}
 use Rattle.can_node.specs.PlainBits.{StaysBy, StaysNoLonger, stays_out}
 use Rattle.can_node.specs.PlainBits.MayGoOnBy.{reads_on, sends_on, waits_on}
-use Rattle.can_node.proofs.ErrorMoves.{delimit_on}
-use Rattle.can_node.proofs.Moves.{rest_on, suspend_on}
+use Rattle.can_node.proofs.ErrorMoves.{delimit_ends, delimit_on}
+use Rattle.can_node.proofs.FlagMoves.{wait_over}
+use Rattle.can_node.proofs.Moves.{rest_ends, rest_on, suspend_ends, suspend_on}
 use Rattle.can_node.proofs.PassiveMoves.{passive_dominant, passive_recessive}
 use Rattle.can_node.proofs.PlainBits.{behind, goes_plainly, goes_sending, not_the_last, off_broken_plain}
 use Rattle.can_node.proofs.PlainBits.{off_counts_plain, off_longer_plain}
@@ -166,19 +170,52 @@ pub record IsOut (state : State) (level : Bool) : Type 0 where
 few_of : (n most : ℕ) → nat_le n most ≡ true → n ≤ most
 few_of n most h = elim (leb_tells n most) [ inl is ↦ is.1 | inr not ↦ absurd (let no = not.0 in cc (no, h)) ]
 
+one_out : (state : State) (level : Bool) (next : State) → is_plain level state ≡ true →
+    ((spelling : Spelling) → level_in state spelling ≡ true) → may_start state ≡ false → is_sending state ≡ false →
+    out_behind state level ≡ next → is_sending next ≡ false →
+    ((counters : Counters) (now : ℕ) → LeavesPlainly state counters now level next) → IsOut state level
+one_out state level next plain drives begins sends next_is sends_then leaves = record {
+  plain = plain;
+  leaves = λ counters now. subst (LeavesPlainly state counters now level) (sym next_is) (leaves counters now);
+  drives = drives;
+  begins = begins;
+  sends = sends;
+  sends_then = ap is_sending next_is ∙ sends_then;
+}
+
+-- in bus off
 off_out : (runs ones : ℕ) (level : Bool) (next : State) → stays_out level (Recovering runs ones) ≡ true →
     out_behind (Recovering runs ones) level ≡ next → is_sending next ≡ false →
     ((counters : Counters) (now : ℕ) → LeavesPlainly (Recovering runs ones) counters now level next) →
     IsOut (Recovering runs ones) level
-off_out runs ones level next h next_is sends leaves = record {
-  plain = h;
-  leaves = λ counters now.
-      subst (LeavesPlainly (Recovering runs ones) counters now level) (sym next_is) (leaves counters now);
-  drives = λ spelling. refl;
-  begins = refl;
-  sends = refl;
-  sends_then = ap is_sending next_is ∙ sends;
-}
+off_out runs ones level next h next_is sends leaves =
+    one_out (Recovering runs ones) level next h (λ spelling. refl) refl refl next_is sends leaves
+
+-- with a recessive level that makes a turn which is the same in each error state
+waits_out : (state next : State) → is_plain true state ≡ true → ((spelling : Spelling) → level_in state spelling ≡
+    true) →
+    may_start state ≡ false → is_sending state ≡ false → out_behind state true ≡ next → is_sending next ≡ false →
+    is_taking next ≡ false → ((now : ℕ) (e : ErrorState) → Goes state now e true (quiet next)) → IsOut state true
+waits_out state next plain drives begins sends next_is sends_then reads goes =
+    one_out state true next plain drives begins sends next_is sends_then (λ counters now. record {
+      goes = goes now (state_of (counts_of counters));
+      reads_none = reads;
+    })
+
+-- in the intermission, behind a frame that it read where that ends
+rests_out : (role : Role) (ones : ℕ) → (nat_le ones 1 ≡ false → role ≡ Receiver) → IsOut (Resting role ones) true
+rests_out role ones receiver = elim (leb_tells ones 1) [
+  | inl few ↦
+      let least = few.1 in
+      waits_out (Resting role ones) (Resting role (ones + 1)) refl (λ spelling. refl) refl refl
+      (ap (λ b. cond b (Resting role (ones + 1)) Idling) few.0) refl refl
+      (λ now e. rest_on role ones now e (omega (arith, least)))
+  | inr many ↦
+      let more = many.1 in
+      waits_out (Resting role ones) Idling refl (λ spelling. refl) refl refl
+      (ap (λ b. cond b (Resting role (ones + 1)) Idling) many.0) refl refl
+      (λ now e. rest_ends role ones now e (omega (arith, more)) (ap (λ r. suspends r e) (receiver many.0)))
+]
 
 pub is_out : (state : State) (level : Bool) → stays_out level state ≡ true → IsOut state level
 is_out (Recovering runs ones) true h = elim (leb_tells ones 9) [
@@ -193,64 +230,49 @@ is_out (Recovering runs ones) true h = elim (leb_tells ones 9) [
 ]
 is_out (Recovering runs ones) false h =
     off_out runs ones false (Recovering runs 0) h refl refl (λ counters now. off_broken_plain runs ones counters now)
-is_out (PassiveFlagging role owes ones zeros) true h = record {
-  plain = refl;
-  leaves = λ counters now. record {
-    goes = passive_recessive role owes ones zeros now (state_of (counts_of counters))
-        (let few = few_of ones 4 h in omega (arith, few));
-    reads_none = refl;
-  };
-  drives = λ spelling. refl;
-  begins = refl;
-  sends = refl;
-  sends_then = refl;
-}
+is_out (PassiveFlagging role owes ones zeros) true h =
+    waits_out (PassiveFlagging role owes ones zeros) (PassiveFlagging role owes (ones + 1) 0) refl (λ spelling. refl)
+    refl
+    refl refl refl refl
+    (λ now e. passive_recessive role owes ones zeros now e (let few = few_of ones 4 h in omega (arith, few)))
 is_out (PassiveFlagging role true ones zeros) false h = absurd (cc h)
-is_out (PassiveFlagging role false ones zeros) false h = record {
-  plain = refl;
-  leaves = λ counters now. record {
-    goes = passive_dominant role ones zeros now (state_of (counts_of counters))
-        (let few = few_of zeros 4 h in omega (arith, few));
-    reads_none = refl;
-  };
-  drives = λ spelling. refl;
-  begins = refl;
-  sends = refl;
-  sends_then = refl;
-}
-is_out (Delimiting role ones) true h = record {
-  plain = refl;
-  leaves = λ counters now. record {
-    goes = delimit_on role ones now (state_of (counts_of counters)) (let few = few_of ones 6 h in omega (arith, few));
-    reads_none = refl;
-  };
-  drives = λ spelling. refl;
-  begins = refl;
-  sends = refl;
-  sends_then = refl;
-}
-is_out (Resting role ones) true h = record {
-  plain = refl;
-  leaves = λ counters now. record {
-    goes = rest_on role ones now (state_of (counts_of counters)) (let few = few_of ones 1 h in omega (arith, few));
-    reads_none = refl;
-  };
-  drives = λ spelling. refl;
-  begins = refl;
-  sends = refl;
-  sends_then = refl;
-}
-is_out (Suspending ones) true h = record {
-  plain = refl;
-  leaves = λ counters now. record {
-    goes = suspend_on ones now (state_of (counts_of counters)) (let few = few_of ones 6 h in omega (arith, few));
-    reads_none = refl;
-  };
-  drives = λ spelling. refl;
-  begins = refl;
-  sends = refl;
-  sends_then = refl;
-}
+is_out (PassiveFlagging role false ones zeros) false h =
+    one_out (PassiveFlagging role false ones zeros) false (PassiveFlagging role false 0 (zeros + 1)) refl
+    (λ spelling. refl) refl refl refl refl (λ counters now. record {
+      goes = passive_dominant role ones zeros now (state_of (counts_of counters))
+          (let few = few_of zeros 4 h in omega (arith, few));
+      reads_none = refl;
+    })
+is_out (Waiting kind role until first) true h =
+    waits_out (Waiting kind role until first) (Delimiting role 1) refl (λ spelling. refl) refl refl refl refl refl
+    (λ now e. wait_over kind role until now first e)
+is_out (Delimiting role ones) true h = elim (leb_tells ones 6) [
+  | inl few ↦
+      let least = few.1 in
+      waits_out (Delimiting role ones) (Delimiting role (ones + 1)) refl (λ spelling. refl) refl refl
+      (ap (λ b. cond b (Delimiting role (ones + 1)) (Resting role 0)) few.0) refl refl
+      (λ now e. delimit_on role ones now e (omega (arith, least)))
+  | inr many ↦
+      let more = many.1 in
+      waits_out (Delimiting role ones) (Resting role 0) refl (λ spelling. refl) refl refl
+      (ap (λ b. cond b (Delimiting role (ones + 1)) (Resting role 0)) many.0) refl refl
+      (λ now e. delimit_ends role ones now e (omega (arith, more)))
+]
+is_out (Resting Receiver ones) true h = rests_out Receiver ones (λ more. refl)
+is_out (Resting Sender ones) true h =
+    rests_out Sender ones (λ more. absurd (let on = ap (λ b. b || false) (sym more) ∙ h in cc on))
+is_out (Suspending ones) true h = elim (leb_tells ones 6) [
+  | inl few ↦
+      let least = few.1 in
+      waits_out (Suspending ones) (Suspending (ones + 1)) refl (λ spelling. refl) refl refl
+      (ap (λ b. cond b (Suspending (ones + 1)) Idling) few.0) refl refl
+      (λ now e. suspend_on ones now e (omega (arith, least)))
+  | inr many ↦
+      let more = many.1 in
+      waits_out (Suspending ones) Idling refl (λ spelling. refl) refl refl
+      (ap (λ b. cond b (Suspending (ones + 1)) Idling) many.0) refl refl
+      (λ now e. suspend_ends ones now e (omega (arith, more)))
+]
 is_out state level h = absurd (cc h)
 
 out_by : (node : Node) (levels : List Bool) → StaysOut node.state levels →

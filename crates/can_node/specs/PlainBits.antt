@@ -10,7 +10,7 @@ use Rattle.can_confinement.specs.declared.counters.Counters.{Counters}
 use Rattle.can_node.specs.declared.node.Node.{Node}
 use Rattle.can_node.specs.declared.outcome.Outcome.TheVariants.{Nothing}
 use Rattle.can_node.specs.declared.state.State.{State}
-use Rattle.can_node.specs.declared.state.State.TheVariants.{Delimiting, Flagging, PassiveFlagging}
+use Rattle.can_node.specs.declared.state.State.TheVariants.{Delimiting, Flagging, Idling, PassiveFlagging}
 use Rattle.can_node.specs.declared.state.State.TheVariants.{Recovering, Resting, Sending, Suspending, Waiting}
 use Rattle.can_node.specs.declared.state.Turn.{Turn}
 use Rattle.can_node.specs.Histories.{Past, IsHistory}
@@ -67,16 +67,19 @@ pub record GoesOn (old : Node) (level : Bool) (new : Node) : Type 0 where
   pub counts_none : counters_in new ≡ counters_in old
 
 -- A node stays in bus off with this level, for the last of 128 runs of eleven recessive bits doesn't end with it, or in
--- a passive error flag, for that doesn't end with it and counts nothing; or it waits on with a recessive level in a
--- delimiter, the intermission or suspend transmission, for that doesn't end with it. This and what follows up to
--- `MayGoOnBy` are conditions: what is promised under them is `GoesOnBy`, by the samples of the node's histories.
+-- a passive error flag, for that doesn't end with it and counts nothing; or it goes on with a recessive level from one
+-- to the next of what it waits for: the end of the flags of others, a delimiter, the intermission, suspend transmission
+-- and an idle bus. A sender goes on to the intermission alone, for behind that it may have to wait longer. This and
+-- what follows up to `MayGoOnBy` are conditions: what is promised under them is `GoesOnBy`, by the samples of the
+-- node's histories.
 abbrev pub stays_out : Bool → State → Bool
 stays_out level (Recovering runs ones) = nat_le ones 9 || not level || nat_le runs 126
 stays_out true (PassiveFlagging role owes ones zeros) = nat_le ones 4
 stays_out false (PassiveFlagging role owes ones zeros) = not owes && nat_le zeros 4
-stays_out true (Delimiting role ones) = nat_le ones 6
-stays_out true (Resting role ones) = nat_le ones 1
-stays_out true (Suspending ones) = nat_le ones 6
+stays_out true (Waiting kind role until first) = true
+stays_out true (Delimiting role ones) = true
+stays_out true (Resting role ones) = nat_le ones 1 || is_receiver role
+stays_out true (Suspending ones) = true
 stays_out level state = false
 
 -- where it is then
@@ -85,9 +88,10 @@ out_behind (Recovering runs ones) true = if nat_le ones 9 then Recovering runs (
 out_behind (Recovering runs ones) false = Recovering runs 0
 out_behind (PassiveFlagging role owes ones zeros) true = PassiveFlagging role owes (ones + 1) 0
 out_behind (PassiveFlagging role owes ones zeros) false = PassiveFlagging role owes 0 (zeros + 1)
-out_behind (Delimiting role ones) true = Delimiting role (ones + 1)
-out_behind (Resting role ones) true = Resting role (ones + 1)
-out_behind (Suspending ones) true = Suspending (ones + 1)
+out_behind (Waiting kind role until first) true = Delimiting role 1
+out_behind (Delimiting role ones) true = if nat_le ones 6 then Delimiting role (ones + 1) else Resting role 0
+out_behind (Resting role ones) true = if nat_le ones 1 then Resting role (ones + 1) else Idling
+out_behind (Suspending ones) true = if nat_le ones 6 then Suspending (ones + 1) else Idling
 out_behind state level = state
 
 -- so with these levels, one after another

@@ -14,10 +14,10 @@ use crate::machine::{
     turns_alike,
 };
 use crate::outcome::Outcome;
-use crate::plain_bits::{count_on, out_behind};
+use crate::plain_bits::{count_on, waits_on};
 use crate::shared_sample::HeardLevel;
 use crate::state::{Stage, State, Turn};
-use crate::stays::stay_out;
+use crate::stays::stay_by;
 use crate::taken_frame::TakenFrame;
 use crate::takes::after_taking;
 use can_confinement::{ErrorEvent, ErrorState, KnownCounts};
@@ -65,8 +65,8 @@ impl Listener {
     }
 
     /// Whether `reads_along_by` may follow many bits: they read within the stuffed region of a frame or behind the ACK
-    /// slot, and need not choose any more between reading and sending, or wait on with a recessive level in a
-    /// delimiter, the intermission or a passive error flag.
+    /// slot, and need not choose any more between reading and sending, or go on with a recessive level in a passive
+    /// error flag, or in what they wait for behind a flag or a frame.
     #[inline(always)]
     pub fn may_follow_by(&self) -> bool
         ensures { result ≡ may_follow_by self.now.state }
@@ -75,7 +75,7 @@ impl Listener {
             State::Taking(_, may_begin, stage) => {
                 !may_begin && (stage == Stage::Region || stage == Stage::AfterSlot)
             }
-            state => out_behind(state, true).is_some(),
+            state => waits_on(state),
         }
     }
 
@@ -136,9 +136,7 @@ impl Listener {
         ensures few { result ≤ length levels.now }
         ensures along { ReadsAlongBy self.old (take result levels.now) self.new }
     {
-        let stay = stay_out(self.state, levels);
-        self.state = stay.state;
-        stay.count
+        stay_by(&mut self.state, levels)
     }
 
     /// So behind the stuffed region.
@@ -156,7 +154,7 @@ impl Listener {
 
     /// The frame that each of them takes if it samples this level at the next bit, the last but one of EOF: then it has
     /// come to the last one (`Node::take_up`). `None` where they take none.
-    #[inline(never)]
+    #[inline(always)]
     pub fn takes(&self, level: bool) -> Option<TakenFrame>
         ensures { IfSome result (AllTake self.now level) }
     {
@@ -177,9 +175,7 @@ impl Listener {
         let State::Taking(start, _, stage) = self.state else {
             return None;
         };
-        let mut reader = self.reader.copy();
-        let step = reader.push(level);
-        Some(HeardLevel::of(start, stage, step, reader, level))
+        Some(HeardLevel::of(start, stage, &self.reader, level))
     }
 
     /// So behind the stuffed region.

@@ -230,8 +230,8 @@ fn count(counters: &mut Counters, event: Option<ErrorEvent>) -> bool
 }
 
 /// Makes a turn, and tells its outcome: bus off, if its event leads there.
-pub(crate) fn make(turn: Turn, state: &mut State, counters: &mut Counters) -> Outcome
-    ensures { IsMade turn counters.old counters.new state.new result }
+pub(crate) fn make(turn: &Turn, state: &mut State, counters: &mut Counters) -> Outcome
+    ensures { IsMade turn.now counters.old counters.new state.new result }
 {
     let went_off = count(counters, turn.event);
     if went_off {
@@ -257,11 +257,8 @@ fn turn_taking(
         result state.new counters.new new }
 {
     let errors = counters.state();
-    make(
-        after_taking(start, stage, errors, &step, level),
-        state,
-        counters,
-    )
+    let turn = after_taking(start, stage, errors, &step, level);
+    make(&turn, state, counters)
 }
 
 /// A turn of a node that sends a frame. If it loses arbitration it reads on: what it drove so far is what it has read.
@@ -282,9 +279,9 @@ fn turn_sending(
     let turn = after_sending(start, place, spelling, errors, level);
     if is_taking(turn.state) {
         read_behind(reader, spelling.before(place), level);
-        return make(turn, state, counters);
+        return make(&turn, state, counters);
     }
-    make(turn, state, counters)
+    make(&turn, state, counters)
 }
 
 /// A turn of a node that neither reads nor sends a frame. Most only count on in a flag, a delimiter or the
@@ -307,9 +304,9 @@ fn turn_outside(
     let turn = turn_of(*state, now, errors, level);
     if is_taking(turn.state) {
         *reader = reader_after_sof();
-        return make(turn, state, counters);
+        return make(&turn, state, counters);
     }
-    make(turn, state, counters)
+    make(&turn, state, counters)
 }
 
 /// One bit of a node, at which it samples this level: what it brings to an end. If a frame is read, its reader is

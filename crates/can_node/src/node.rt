@@ -5,6 +5,7 @@ ghost use Rattle.std.specs.Prelude.{length, min, take};
 ghost use Rattle.can_confinement.specs.Counters.{StandsAfter as CountersStandAfter, counts_of};
 ghost use Rattle.can_node.specs.Histories.{Past, no_past, IsHistory};
 ghost use Rattle.can_node.specs.Listener.{AllHear, SendsTo, StandsWith};
+ghost use Rattle.can_node.specs.Machine.{IsMade, is_taking};
 ghost use Rattle.can_node.specs.Listener.{caught_up, listener_of, listens_in, taken_up};
 ghost use Rattle.can_node.specs.declared.listener.Listener.{Listener as ListenerValue};
 ghost use Rattle.can_confinement.specs.KnownCounts.{Knows, known_of};
@@ -19,8 +20,8 @@ use crate::machine::{
 use crate::outcome::Outcome;
 use crate::plain_bits::{go_plainly, is_plain};
 use crate::shared_sample::HeardLevel;
-use crate::state::State;
-use crate::stays::{count_out, out_behind_all};
+use crate::state::{State, Turn};
+use crate::stays::{count_out, go_out};
 use can_confinement::{Counters, KnownCounts};
 use can_frame::{Frame, Reader, Spelled};
 
@@ -106,6 +107,14 @@ impl Node {
         }
     }
 
+    /// That listener comes as far as this node, and may follow the line for it and others.
+    pub fn lead(&self, listener: &mut Listener)
+        ensures { listener.new ≡ listener_of self.now }
+    {
+        listener.state = self.state;
+        listener.reader.copy_from(&self.reader);
+    }
+
     /// Whether the node has come as far as this listener, so that it may stand for it. It tells so of none that sends
     /// a frame.
     pub fn stands_with(&self, listener: &Listener) -> bool
@@ -126,7 +135,7 @@ impl Node {
         ensures { self.new ≡ caught_up self.old listener.now bit }
     {
         self.state = listener.state;
-        self.reader = listener.reader.copy();
+        self.reader.copy_from(&listener.reader);
         self.clock = bit;
     }
 
@@ -151,12 +160,27 @@ impl Node {
         ensures history { (past : Past) → StandsAfter self.new past → IsHistory past }
     {
         self.clock = bit + 1;
-        let turn = heard.turn(&self.counters, level);
-        if is_taking(turn.state) {
-            self.reader = heard.reader.copy();
-            return make(turn, &mut self.state, &mut self.counters);
+        // by reference: a turn that is put together anew is waited for where it is read next
+        match &heard.turn {
+            Some(turn) => self.take_turn(turn, &heard.reader),
+            None => {
+                let turn = heard.turn_in(self.counters.state(), level);
+                self.take_turn(&turn, &heard.reader)
+            }
         }
-        // its reader has done its work
+    }
+
+    /// Makes this turn of a node that reads a frame, the reader of which is the same as that one then.
+    fn take_turn(&mut self, turn: &Turn, reader: &Reader) -> Outcome
+        ensures made { IsMade turn.now self.old.counters self.new.counters self.new.state result }
+        ensures reader { is_taking turn.now.state ≡ true → self.new.reader ≡ reader.now }
+        ensures spelling { self.new.spelling ≡ self.old.spelling }
+        ensures clock { self.new.clock ≡ self.old.clock }
+    {
+        // else it has done its work
+        if is_taking(turn.state) {
+            self.reader.copy_from(reader);
+        }
         make(turn, &mut self.state, &mut self.counters)
     }
 
@@ -286,8 +310,10 @@ impl Node {
 
     /// With how many of these levels, one after another, the node goes on without sending: in bus off or in a passive
     /// error flag, up to the end of the last run of eleven recessive levels or of the flag, or a level that it counts;
-    /// in a delimiter, the intermission or suspend transmission with recessive ones, up to the last bit; in the stuffed
-    /// region of a frame that it reads, up to the last level or a wrong stuff bit. 0 where it is in none of these.
+    /// with recessive ones from the end of the flags of others through a delimiter, the intermission and suspend
+    /// transmission up to an idle bus, or up to the end of the intermission behind a frame or a flag of its own as
+    /// sender; in the stuffed region of a frame that it reads, up to the last level or a wrong stuff bit. 0 where it is
+    /// in none of these.
     pub fn stays_out(&self, levels: &[bool]) -> usize
         ensures few { result ≤ length levels.now }
         ensures may { MayGoOnBy false (take result levels.now) self.now }
@@ -296,7 +322,7 @@ impl Node {
         if is_in_region(self.state) {
             return self.reader.would_read_on_by(levels);
         }
-        count_out(self.state, levels)
+        count_out(&self.state, levels)
     }
 
     /// Bits with which the node goes on, one after another, in a frame that it sends or without sending (`stays_out`):
@@ -316,6 +342,6 @@ impl Node {
             let _ = self.reader.reads_on_by(levels);
             return;
         }
-        self.state = out_behind_all(self.state, levels);
+        go_out(&mut self.state, levels);
     }
 }

@@ -1,7 +1,8 @@
 //! Bits at which a node goes on that neither reads nor sends a frame: nothing begins, nothing is told and nothing
 //! counted.
 
-ghost use Rattle.std.specs.Prelude.{◌≡◌, ◌≤◌, ℕ, true, false, IfSome, IfNone};
+ghost use Rattle.std.specs.Prelude.{◌≡◌, ℕ, Bool, true, false};
+ghost use Rattle.can_confinement.specs.declared.confinement.Role.{Role as RoleValue};
 ghost use Rattle.can_confinement.specs.declared.counters.Counters.{Counters as CountersValue};
 ghost use Rattle.can_node.specs.PlainBits.{LeavesPlainly, is_plain, out_behind, overlooks, stays_out};
 ghost use Rattle.can_node.specs.Machine.{is_sending};
@@ -63,115 +64,138 @@ fn flag_on(state: &mut State) -> bool
     false
 }
 
-/// Counts a dominant level of a flag that drives dominant or behind it, or a recessive one of a delimiter, of the
-/// intermission or of suspend transmission, and tells whether it did. Where that ends with this bit, and elsewhere,
-/// nothing is changed.
-pub(crate) fn count_on(state: &mut State, level: bool) -> bool
-    ensures counted { result ≡ true → (counters : CountersValue) (now : ℕ)
-        → LeavesPlainly state.old counters now level state.new }
-    ensures sends_none { result ≡ true → is_sending state.new ≡ false }
-    ensures other { result ≡ false → state.new ≡ state.old }
+/// Whether a node in this state stays in it with a recessive level, or goes on to what it waits for next (`stay_on`).
+#[inline(always)]
+pub(crate) fn waits_on(state: State) -> bool
+    ensures { result ≡ stays_out true state }
+{
+    match state {
+        State::Recovering(runs, ones) => ones <= 9 || runs <= 126,
+        State::PassiveFlagging(_, _, ones, _) => ones <= 4,
+        State::Waiting(_, _, _, _) => true,
+        State::Delimiting(_, _) => true,
+        State::Resting(role, ones) => ones <= 1 || is_receiver(role),
+        State::Suspending(_) => true,
+        _ => false,
+    }
+}
+
+/// Counts this level in bus off, and tells whether it did: not where that ends the last of 128 runs of eleven recessive
+/// levels.
+#[inline(always)]
+fn stay_off(runs: &mut u8, ones: &mut u8, level: bool) -> bool
+    ensures stays { result ≡ true → (stays_out level (State.Recovering runs.old ones.old) ≡ true)
+        × (State.Recovering runs.new ones.new ≡ out_behind (State.Recovering runs.old ones.old) level) }
+    ensures ends { result ≡ false → stays_out level (State.Recovering runs.old ones.old) ≡ false }
+    ensures other { result ≡ false → (runs.new ≡ runs.old) × (ones.new ≡ ones.old) }
 {
     if !level {
-        return flag_on(state);
+        *ones = 0;
+        return true;
     }
-    if let State::Delimiting(_role, ones) = state {
-        if *ones < 7 {
-            *ones += 1;
-            return true;
-        }
-        return false;
+    if *ones <= 9 {
+        *ones += 1;
+        return true;
     }
-    if let State::Resting(_role, ones) = state {
-        if *ones < 2 {
-            *ones += 1;
-            return true;
-        }
-        return false;
-    }
-    if let State::Suspending(ones) = state {
-        if *ones < 7 {
-            *ones += 1;
-            return true;
-        }
+    if *runs <= 126 {
+        *runs += 1;
+        *ones = 0;
+        return true;
     }
     false
 }
 
-/// Where a node in bus off is behind a bit with this level; `None` where that ends the last of 128 runs of eleven
-/// recessive levels.
+/// Goes on with a recessive level where it waits for the end of the flags of others, in a delimiter, in the
+/// intermission or in suspend transmission (`out_behind`), in place: whether it does. Elsewhere nothing is changed.
 #[inline(always)]
-fn off_behind(runs: u8, ones: u8, level: bool) -> Option<State>
-    ensures stays { IfSome result (λ next. (stays_out level (State.Recovering runs ones) ≡ true)
-        × (next ≡ out_behind (State.Recovering runs ones) level)) }
-    ensures none { IfNone result (stays_out level (State.Recovering runs ones) ≡ false) }
+fn wait_on(state: &mut State) -> bool
+    requires not_off { (runs ones : ℕ) → state.old ≡ State.Recovering runs ones → ⊥ }
+    requires no_flag { (role : RoleValue) (owes : Bool) (ones zeros : ℕ)
+        → state.old ≡ State.PassiveFlagging role owes ones zeros → ⊥ }
+    ensures stays { result ≡ true → (stays_out true state.old ≡ true) × (state.new ≡ out_behind state.old true) }
+    ensures ends { result ≡ false → stays_out true state.old ≡ false }
+    ensures other { result ≡ false → state.new ≡ state.old }
 {
-    if !level {
-        return Some(State::Recovering(runs, 0));
+    if let State::Delimiting(role, ones) = state {
+        if *ones <= 6 {
+            *ones += 1;
+            return true;
+        }
+        *state = State::Resting(*role, 0);
+        return true;
     }
-    if ones <= 9 {
-        return Some(State::Recovering(runs, ones + 1));
+    if let State::Resting(role, ones) = state {
+        if *ones <= 1 {
+            *ones += 1;
+            return true;
+        }
+        if is_receiver(*role) {
+            *state = State::Idling;
+            return true;
+        }
+        return false;
     }
-    if runs <= 126 {
-        return Some(State::Recovering(runs + 1, 0));
+    if let State::Waiting(_kind, role, _until, _first) = state {
+        *state = State::Delimiting(*role, 1);
+        return true;
     }
-    None
+    if let State::Suspending(ones) = state {
+        if *ones <= 6 {
+            *ones += 1;
+            return true;
+        }
+        *state = State::Idling;
+        return true;
+    }
+    false
 }
 
-/// Where a node in this state is behind a bit with this level, if it is in bus off or in a passive error flag and stays
-/// there: not the last run of eleven recessive bits ends, nor the flag, and nothing is counted; or if it waits on in a
-/// delimiter, the intermission or suspend transmission. `None` elsewhere.
-#[inline(always)]
-pub(crate) fn out_behind(state: State, level: bool) -> Option<State>
-    ensures stays { IfSome result (λ next. (stays_out level state ≡ true) × (next ≡ out_behind state level)) }
-    ensures none { IfNone result (stays_out level state ≡ false) }
-{
-    match state {
-        State::Recovering(runs, ones) => off_behind(runs, ones, level),
-        State::PassiveFlagging(role, owes, ones, _) if level && ones <= 4 => {
-            Some(State::PassiveFlagging(role, owes, ones + 1, 0))
-        }
-        State::PassiveFlagging(role, false, _, zeros) if !level && zeros <= 4 => {
-            Some(State::PassiveFlagging(role, false, 0, zeros + 1))
-        }
-        State::Delimiting(role, ones) if level && ones <= 6 => {
-            Some(State::Delimiting(role, ones + 1))
-        }
-        State::Resting(role, ones) if level && ones <= 1 => Some(State::Resting(role, ones + 1)),
-        State::Suspending(ones) if level && ones <= 6 => Some(State::Suspending(ones + 1)),
-        _ => None,
-    }
-}
-
-/// Goes on with this level in such a state (`out_behind`), in place: whether it does. Elsewhere nothing is changed.
+/// Goes on with this level in such a state, or in bus off or a passive error flag (`out_behind`), in place: whether it
+/// does. Elsewhere nothing is changed.
 #[inline(always)]
 pub(crate) fn stay_on(state: &mut State, level: bool) -> bool
     ensures stays { result ≡ true → (stays_out level state.old ≡ true) × (state.new ≡ out_behind state.old level) }
     ensures ends { result ≡ false → stays_out level state.old ≡ false }
     ensures other { result ≡ false → state.new ≡ state.old }
 {
-    // most wait with a recessive level in one of these
-    if level {
-        if let State::Delimiting(_role, ones) = state {
-            if *ones <= 6 {
-                *ones += 1;
-                return true;
-            }
-            return false;
-        }
-        if let State::Resting(_role, ones) = state {
-            if *ones <= 1 {
-                *ones += 1;
-                return true;
-            }
-            return false;
-        }
+    if let State::Recovering(runs, ones) = state {
+        return stay_off(runs, ones, level);
     }
-    let Some(next) = out_behind(*state, level) else {
+    if let State::PassiveFlagging(_role, owes, ones, zeros) = state {
+        if level && *ones <= 4 {
+            *ones += 1;
+            *zeros = 0;
+            return true;
+        }
+        if !level && !*owes && *zeros <= 4 {
+            *ones = 0;
+            *zeros += 1;
+            return true;
+        }
         return false;
-    };
-    *state = next;
-    true
+    }
+    if !level {
+        return false;
+    }
+    wait_on(state)
+}
+
+/// Goes on with this level in bus off, in a passive error flag or in what it waits for (`stay_on`), or counts a
+/// dominant one of a flag that drives dominant or behind it, and tells whether it did. Elsewhere nothing is changed.
+pub(crate) fn count_on(state: &mut State, level: bool) -> bool
+    ensures counted { result ≡ true → (counters : CountersValue) (now : ℕ)
+        → LeavesPlainly state.old counters now level state.new }
+    ensures sends_none { result ≡ true → is_sending state.new ≡ false }
+    ensures ends { result ≡ false → stays_out level state.old ≡ false }
+    ensures other { result ≡ false → state.new ≡ state.old }
+{
+    if stay_on(state, level) {
+        return true;
+    }
+    if level {
+        return false;
+    }
+    flag_on(state)
 }
 
 /// One bit of a node in such a state, at which it samples this level.
@@ -179,20 +203,6 @@ pub(crate) fn stay_on(state: &mut State, level: bool) -> bool
 pub(crate) fn go_plainly(state: &mut State, counters: &Counters, now: u64, level: bool)
     ensures { is_plain level state.old ≡ true → LeavesPlainly state.old counters.now now level state.new }
 {
-    // in place, since a node may be off for long
-    if let State::Recovering(runs, ones) = state {
-        if !level {
-            *ones = 0;
-            return;
-        }
-        if *ones < 10 {
-            *ones += 1;
-            return;
-        }
-        *runs = runs.saturating_add(1);
-        *ones = 0;
-        return;
-    }
     if count_on(state, level) {
         return;
     }

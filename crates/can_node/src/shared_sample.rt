@@ -4,6 +4,7 @@ ghost use Rattle.std.specs.Prelude.{◌≡◌, Bool, IfSome};
 ghost use Rattle.can_confinement.specs.Confinement.{state_of};
 ghost use Rattle.can_confinement.specs.Counters.{counts_of};
 ghost use Rattle.can_confinement.specs.declared.confinement.ErrorState.{ErrorState as ErrorStateValue};
+ghost use Rattle.can_frame.specs.Reading.{IsPush};
 ghost use Rattle.can_node.specs.Listener.{IsHeard};
 ghost use Rattle.can_node.specs.Machine.{GoesReading};
 
@@ -41,39 +42,33 @@ fn turn_of_any(start: u64, stage: Stage, step: &Step, level: bool) -> Option<Tur
 }
 
 impl HeardLevel {
-    /// That of the frame whose SOF bit has this number, where it stands at this stage and the reader answers so.
-    pub(crate) fn of(
-        start: u64,
-        stage: Stage,
-        step: Step,
-        reader: Reader,
-        level: bool,
-    ) -> HeardLevel
+    /// That of the frame whose SOF bit has this number, where it stands at this stage and has been read so far.
+    #[inline(always)]
+    pub(crate) fn of(start: u64, stage: Stage, read: &Reader, level: bool) -> HeardLevel
         ensures start { result.start ≡ start }
         ensures stage { result.stage ≡ stage }
-        ensures step { result.step ≡ step }
-        ensures reader { result.reader ≡ reader }
+        ensures push { IsPush read.now level result.step result.reader }
         ensures heard { IsHeard level result }
     {
-        let turn = turn_of_any(start, stage, &step, level);
-        HeardLevel {
+        let mut heard = HeardLevel {
             start,
             stage,
-            step,
-            reader,
-            turn,
-        }
+            step: Step::More,
+            reader: Reader::new(),
+            turn: None,
+        };
+        heard.reader.copy_from(read);
+        heard.step = heard.reader.push(level);
+        heard.turn = turn_of_any(start, stage, &heard.step, level);
+        heard
     }
 
-    /// What the level makes of a node with these counts.
-    pub(crate) fn turn(&self, counters: &Counters, level: bool) -> Turn
-        ensures { IsHeard level self.now → (may : Bool) → GoesReading (State.Taking self.now.start may self.now.stage)
-            (state_of (counts_of counters.now)) self.now.step level result }
+    /// What the level makes of a node in this error state.
+    pub(crate) fn turn_in(&self, errors: ErrorState, level: bool) -> Turn
+        ensures { (may : Bool) → GoesReading (State.Taking self.now.start may self.now.stage) errors self.now.step level
+            result }
     {
-        match &self.turn {
-            Some(turn) => *turn,
-            None => after_taking(self.start, self.stage, counters.state(), &self.step, level),
-        }
+        after_taking(self.start, self.stage, errors, &self.step, level)
     }
 }
 

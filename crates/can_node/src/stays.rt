@@ -8,11 +8,20 @@ use crate::plain_bits::stay_on;
 use crate::state::State;
 use can_confinement::Role;
 
-/// How many levels those are, and where the node is behind them.
+/// With how many levels a passive error flag goes on, and how many recessive and how many dominant ones stand at its
+/// end then.
 #[derive(Clone, Copy)]
-pub(crate) struct Stay {
-    pub(crate) count: usize,
-    pub(crate) state: State,
+struct FlagStay {
+    count: usize,
+    ones: u8,
+    zeros: u8,
+}
+
+/// So many whole runs of eleven recessive levels, and so many levels of the next.
+#[derive(Clone, Copy)]
+struct Runs {
+    whole: u8,
+    ones: u8,
 }
 
 /// A count of equal levels behind one more, which is such a one or not.
@@ -35,9 +44,9 @@ fn is_far(runs: u8, ones: u8, levels: usize) -> bool
 
 /// Where a node is then behind these levels that is in bus off, with so many whole runs of eleven recessive levels and
 /// so many levels of the next.
-fn off_behind_all(runs: u8, ones: u8, levels: &[bool]) -> State
+fn off_behind_all(runs: u8, ones: u8, levels: &[bool]) -> Runs
     requires { 11 * runs + ones + length levels.now ≤ 1407 }
-    ensures { result ≡ out_behind_all (State.Recovering runs ones) levels.now }
+    ensures { State.Recovering result.whole result.ones ≡ out_behind_all (State.Recovering runs ones) levels.now }
 {
     let mut whole = runs;
     let mut run = ones;
@@ -50,7 +59,7 @@ fn off_behind_all(runs: u8, ones: u8, levels: &[bool]) -> State
             run = counted(run, *level);
         }
     }
-    State::Recovering(whole, run)
+    Runs { whole, ones: run }
 }
 
 /// Whether this level ends a passive error flag that samples it, or is counted.
@@ -61,85 +70,94 @@ fn ends_flag(owes: bool, ones: u8, zeros: u8, level: bool) -> bool
     ensures ones { result ≡ false → level ≡ true → ones ≤ 4 }
     ensures zeros { result ≡ false → level ≡ false → zeros ≤ 4 }
 {
-    if level { ones > 4 } else { owes || zeros > 4 }
+    // no branch on the level, which would be foretold wrongly
+    (level & (ones > 4)) | (!level & (owes | (zeros > 4)))
 }
 
-/// So in a passive error flag.
-fn stay_flagging(role: Role, owes: bool, ones: u8, zeros: u8, levels: &[bool]) -> Stay
-    ensures by { StaysBy (State.PassiveFlagging role owes ones zeros) levels.now result.count result.state }
-    ensures ends { StaysNoLonger (State.PassiveFlagging role owes ones zeros) levels.now result.count }
+/// With how many of these levels a passive error flag goes on.
+fn stay_flagging(owes: bool, ones: u8, zeros: u8, levels: &[bool]) -> FlagStay
+    ensures by { (role : RoleValue) → StaysBy (State.PassiveFlagging role owes ones zeros) levels.now result.count
+        (State.PassiveFlagging role owes result.ones result.zeros) }
+    ensures ends { (role : RoleValue)
+        → StaysNoLonger (State.PassiveFlagging role owes ones zeros) levels.now result.count }
 {
     let mut recessive = ones;
     let mut dominant = zeros;
     for (place, level) in levels.iter().enumerate() {
         if ends_flag(owes, recessive, dominant, *level) {
-            return Stay {
+            return FlagStay {
                 count: place,
-                state: State::PassiveFlagging(role, owes, recessive, dominant),
+                ones: recessive,
+                zeros: dominant,
             };
         }
         recessive = counted(recessive, *level);
         dominant = counted(dominant, !*level);
     }
-    Stay {
+    FlagStay {
         count: levels.len(),
-        state: State::PassiveFlagging(role, owes, recessive, dominant),
+        ones: recessive,
+        zeros: dominant,
     }
 }
 
-/// So in any state, bit by bit.
-fn stay_waiting(state: State, levels: &[bool]) -> Stay
-    ensures by { StaysBy state levels.now result.count result.state }
-    ensures ends { StaysNoLonger state levels.now result.count }
+/// With how many of these levels a node in this state stays so, bit by bit; it is where it is behind them.
+fn stay_waiting(state: &mut State, levels: &[bool]) -> usize
+    ensures by { StaysBy state.old levels.now result state.new }
+    ensures ends { StaysNoLonger state.old levels.now result }
 {
-    let mut state = state;
     for (place, level) in levels.iter().enumerate() {
-        if !stay_on(&mut state, *level) {
-            return Stay {
-                count: place,
-                state,
-            };
+        if !stay_on(state, *level) {
+            return place;
         }
     }
-    Stay {
-        count: levels.len(),
-        state,
-    }
+    levels.len()
 }
 
-/// So in any state. Passive error flags last long, so they have a loop of their own.
-pub(crate) fn stay_out(state: State, levels: &[bool]) -> Stay
-    ensures by { StaysBy state levels.now result.count result.state }
-    ensures ends { StaysNoLonger state levels.now result.count }
+/// So where passive error flags, which last long, have a loop of their own.
+pub(crate) fn stay_by(state: &mut State, levels: &[bool]) -> usize
+    ensures by { StaysBy state.old levels.now result state.new }
+    ensures ends { StaysNoLonger state.old levels.now result }
 {
-    match state {
-        State::PassiveFlagging(role, owes, ones, zeros) => {
-            stay_flagging(role, owes, ones, zeros, levels)
-        }
-        _ => stay_waiting(state, levels),
+    // in place: a state that is put together anew is waited for where it is read next
+    if let State::PassiveFlagging(_role, owes, ones, zeros) = state {
+        let stay = stay_flagging(*owes, *ones, *zeros, levels);
+        *ones = stay.ones;
+        *zeros = stay.zeros;
+        return stay.count;
     }
+    stay_waiting(state, levels)
 }
 
 /// How many of these levels those are. Bus off lasts long, and mostly it is seen at once that it goes on.
-pub(crate) fn count_out(state: State, levels: &[bool]) -> usize
+pub(crate) fn count_out(state: &State, levels: &[bool]) -> usize
     ensures few { result ≤ length levels.now }
-    ensures stays { StaysOut state (take result levels.now) }
-    ensures ends { StaysNoLonger state levels.now result }
+    ensures stays { StaysOut state.now (take result levels.now) }
+    ensures ends { StaysNoLonger state.now levels.now result }
 {
-    match state {
+    match *state {
         State::Recovering(runs, ones) if is_far(runs, ones, levels.len()) => levels.len(),
-        _ => stay_out(state, levels).count,
+        State::PassiveFlagging(_, owes, ones, zeros) => {
+            stay_flagging(owes, ones, zeros, levels).count
+        }
+        state => {
+            let mut next = state;
+            stay_waiting(&mut next, levels)
+        }
     }
 }
 
-/// Where a node is behind these levels, with all of which it stays so.
-pub(crate) fn out_behind_all(state: State, levels: &[bool]) -> State
-    ensures { StaysOut state levels.now → result ≡ out_behind_all state levels.now }
+/// Goes on with these levels, with all of which it stays so.
+pub(crate) fn go_out(state: &mut State, levels: &[bool])
+    ensures { StaysOut state.old levels.now → state.new ≡ out_behind_all state.old levels.now }
 {
-    match state {
-        State::Recovering(runs, ones) if is_far(runs, ones, levels.len()) => {
-            off_behind_all(runs, ones, levels)
+    if let State::Recovering(runs, ones) = state {
+        if is_far(*runs, *ones, levels.len()) {
+            let behind = off_behind_all(*runs, *ones, levels);
+            *runs = behind.whole;
+            *ones = behind.ones;
+            return;
         }
-        _ => stay_out(state, levels).state,
     }
+    let _ = stay_by(state, levels);
 }

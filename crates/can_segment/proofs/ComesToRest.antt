@@ -2,7 +2,7 @@
 use Rattle.std.proofs.Common.{◌≡◌, ◌≢◌, ℕ, ◌+◌, ◌<◌, ◌≤◌, inl, inr, Bool, true, false, Some, None, List, length, map}
 use Rattle.std.proofs.Common.{slice_get, set, refl, sym, ap, subst, arith, ◌∙◌}
 use Rattle.std.proofs.lemmas.Bool.{cases_lt}
-use Rattle.std.proofs.lemmas.List.{length-map}
+use Rattle.std.proofs.lemmas.List.{length-map, length-set}
 use Rattle.std.proofs.lemmas.Option.{slice_get_within}
 use Rattle.can_node.specs.Listener.{IsListening, caught_up as node_caught_up}
 use Rattle.can_node.specs.Node.{StandsAfter, counters_in, may_begin}
@@ -18,6 +18,7 @@ use Rattle.can_station.specs.RestingNodes.{AreAlike, AwakeWithin, IfAwake, IsAli
 use Rattle.can_station.specs.RestingNodes.{NoneRests, laid_down, woken}
 use Rattle.can_segment.specs.Rests.{AreResting, AreSpent, Chooses, IsLess, IsResting, Lulls, members_at}
 use Rattle.can_segment.proofs.Holds.{not_resting, same_rests}
+use Rattle.can_station.proofs.Spans.{AwakeBelow, awake_step as awake_counted}
 use Rattle.can_station.proofs.Places.{some_there, get_set_other, get_set_same, places_step, same_some}
 use Rattle.can_segment.proofs.Shown.{map_at}
 use Rattle.can_segment.proofs.Woken.{awake_woken, none_resting}
@@ -232,6 +233,24 @@ lulls_end before now bit old new i h = record {
   ];
   size = h.lie.size;
 }
+
+-- the first of these are awake within a span, also where one behind them may have come to rest
+awake_before : (span : Span) (members : List Member) (i : ℕ) (b : Member) → AwakeBelow span members i →
+    AwakeBelow span (set members i b) i
+awake_before span members i b below = record {
+  within = let within = below.within in omega (arith, within, length-set members i b);
+  inside = λ k m less e awake.
+      let ne : k ≢ i = omega (arith, less) in
+      below.inside k m less (sym (get_set_other members i k b ne) ∙ e) awake;
+}
+
+pub awake_next : (before after : Span) (members : List Member) (i : ℕ) (b m : Member) → i < length members →
+    slice_get (set members i b) i ≡ Some m → (m.rests ≡ true → after ≡ before) → after.from ≤ before.from →
+    (m.rests ≡ false → (after.from ≤ i) × (after.to ≡ i + 1)) →
+    AwakeBelow before members i → AwakeBelow after (set members i b) (i + 1)
+awake_next before after members i b m room here rests less awake below =
+    awake_counted before after (set members i b) i m (omega (arith, room, length-set members i b)) here rests less awake
+    (awake_before before members i b below)
 
 -- those talkers that have come to rest have no frame left, where that is known
 pub spent_step : (spent : Bool) (now next : Rest) (bit : ℕ) (plan : List Talker) (new : List Member) (i : ℕ)

@@ -17,28 +17,23 @@ pub(crate) struct Awake {
 }
 
 impl Awake {
-    /// Counts these nodes before this bit; all but those at the places of the span rest.
-    pub(crate) fn of(members: &[Member], span: Span, bit: u64) -> Awake
-        requires { AwakeWithin span members.now }
-        ensures { AwakeWithin result.span members.now }
+    /// None of so many nodes is counted.
+    pub(crate) fn none(nodes: usize) -> Awake
+        ensures { result.span.to ≡ nodes }
     {
-        let mut awake = Awake {
-            nodes: members.len(),
+        Awake {
+            nodes,
             awake: 0,
             listening: 0,
             span: Span {
-                from: members.len(),
-                to: members.len(),
+                from: nodes,
+                to: nodes,
             },
-        };
-        for place in span.from..span.to {
-            awake.count(&members[place], place, place + 1, bit);
         }
-        awake
     }
 
-    /// Counts the node at this place, which that one follows.
-    fn count(&mut self, member: &Member, place: usize, next: usize, bit: u64)
+    /// Counts the node at this place, which that one follows, if it is awake. It is told whether it listens then.
+    pub(crate) fn count(&mut self, member: &Member, place: usize, next: usize, listens: bool)
         ensures rests { member.now.rests ≡ true → self.new.span ≡ self.old.span }
         ensures before { self.new.span.from ≤ self.old.span.from }
         ensures awake { member.now.rests ≡ false → self.new.span.from ≤ place × (self.new.span.to ≡ next) }
@@ -47,7 +42,7 @@ impl Awake {
             return;
         }
         self.awake = self.awake.saturating_add(1);
-        if member.listens_at(bit) {
+        if listens {
             self.listening = self.listening.saturating_add(1);
         }
         self.span.from = self.span.from.min(place);

@@ -4,35 +4,30 @@
 use can_node::Listener;
 use can_station::Member;
 
-/// That of the first of these nodes that listens before this bit.
-fn first_of(members: &[Member], bit: u64) -> Option<Listener> {
-    for member in members {
-        if member.listens_at(bit) {
-            return Some(member.station.node.listener());
-        }
-    }
-    None
+/// The first of these nodes that listens before this bit.
+fn first_of(members: &[Member], bit: u64) -> Option<&Member> {
+    members.iter().find(|member| member.listens_at(bit))
 }
 
-/// That of the first talker that listens before this bit, or of the first controller.
-pub(crate) fn first_listener(
-    talkers: &[Member],
-    controllers: &[Member],
+/// The first talker that listens before this bit, or the first controller.
+pub(crate) fn first_listening<'a>(
+    talkers: &'a [Member],
+    controllers: &'a [Member],
     bit: u64,
-) -> Option<Listener> {
+) -> Option<&'a Member> {
     match first_of(talkers, bit) {
-        Some(listener) => Some(listener),
+        Some(member) => Some(member),
         None => first_of(controllers, bit),
     }
 }
 
-/// That as far as which a third of those nodes have come that listen before this bit, the first such; where there is
+/// One as far as which a third of those nodes have come that listen before this bit, the first such; where there is
 /// none, one as far as which most of them have.
-pub(crate) fn listener_of_many(
-    talkers: &[Member],
-    controllers: &[Member],
+pub(crate) fn one_of_many<'a>(
+    talkers: &'a [Member],
+    controllers: &'a [Member],
     bit: u64,
-) -> Option<Listener> {
+) -> Option<&'a Member> {
     let mut chosen = None;
     let mut most = 0;
     for member in talkers.iter().chain(controllers) {
@@ -44,11 +39,11 @@ pub(crate) fn listener_of_many(
         votes.count(talkers, &listener, bit);
         votes.count(controllers, &listener, bit);
         if votes.alike >= votes.listening / 3 {
-            return Some(listener);
+            return Some(member);
         }
         if votes.alike > most {
             most = votes.alike;
-            chosen = Some(listener);
+            chosen = Some(member);
         }
     }
     chosen

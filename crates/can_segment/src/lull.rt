@@ -1,13 +1,13 @@
 //! Nodes that come to rest.
 
 ghost use Rattle.std.specs.Prelude.{◌≡◌, ◌≤◌, true, length};
-ghost use Rattle.can_station.specs.RestingNodes.{MayLieDown, NoneRests};
+ghost use Rattle.can_station.specs.RestingNodes.{AwakeWithin, MayLieDown, NoneRests};
 ghost use Rattle.can_segment.specs.Rests.{AreResting, AreSpent, Chooses, ComesToRest, IsLess, Lulls, RestHolds};
 ghost use Rattle.can_segment.specs.Rests.{members_at};
 ghost use Rattle.can_station.specs.Places.{AtPlaces};
 
 use crate::awake::{Awake, asks_at_each_bit, nodes_within};
-use crate::leader::{Votes, first_listener, listener_of_many};
+use crate::leader::{Votes, first_listening, one_of_many};
 use crate::rest::Rest;
 use can_node::KnownCounts;
 use can_station::{Member, Talker, fall_silent};
@@ -77,9 +77,9 @@ impl Rest {
         if !self.resting {
             return;
         }
-        self.lull_talkers(plan, talkers, bit);
-        self.lull_controllers(controllers, bit, idles);
-        self.settle(plan, talkers, controllers, bit);
+        let awake = self.lull_talkers(plan, talkers, bit);
+        let awake_too = self.lull_controllers(controllers, bit, idles);
+        self.settle(plan, talkers, controllers, bit, &awake, &awake_too);
     }
 
     /// Whether none comes to rest: ports are asked at each bit, or none that is awake can have come as far as the
@@ -118,67 +118,79 @@ impl Rest {
             return;
         }
         let chosen = if self.apart {
-            listener_of_many(talkers, controllers, bit)
+            one_of_many(talkers, controllers, bit)
         } else {
-            first_listener(talkers, controllers, bit)
+            first_listening(talkers, controllers, bit)
         };
         self.apart = false;
-        let Some(listener) = chosen else {
+        let Some(member) = chosen else {
             return;
         };
-        self.listener = listener;
+        member.station.node.lead(&mut self.listener);
         self.resting = true;
         self.known = KnownCounts::Zero;
         self.spent = true;
     }
 
     /// The node comes to rest before this bit if it may. It is told whether it has nothing to start, and whether it is
-    /// given nothing.
-    fn lull(&mut self, member: &mut Member, spent: bool, idles: bool, bit: u64)
+    /// given nothing. Whether it listens and is awake still.
+    fn lull(&mut self, member: &mut Member, spent: bool, idles: bool, bit: u64) -> bool
         ensures { Lulls bit spent self.old self.new member.old member.new }
     {
-        if !self.resting || !member.may_rest(&self.listener, bit) {
-            return;
+        if !member.listens_at(bit) {
+            return false;
+        }
+        if !self.resting || !member.station.node.stands_with(&self.listener) {
+            return true;
         }
         // it would wake at once
         if !spent && !idles && self.listener.wants_start() {
-            return;
+            return true;
         }
         self.known = self.known.and(member.known_counts());
         self.spent &= spent;
         member.lie_down();
+        false
     }
 
-    /// Talkers come to rest before this bit.
-    fn lull_talkers(&mut self, plan: &[Talker], members: &mut [Member], bit: u64)
+    /// Talkers come to rest before this bit. Which are awake then.
+    fn lull_talkers(&mut self, plan: &[Talker], members: &mut [Member], bit: u64) -> Awake
         requires plan { length plan.now ≡ length members.old }
-        requires within { self.old.talkers.to ≤ length members.old }
+        requires within { AwakeWithin self.old.talkers members.old }
         requires rests { AreResting self.old bit members.old }
         requires spent { AreSpent self.old plan.now members.old }
         ensures less { IsLess self.old self.new }
         ensures lie { AtPlaces (λ k. MayLieDown self.old.listener bit) members.old members.new }
         ensures rests { AreResting self.new bit members.new }
         ensures spent { AreSpent self.new plan.now members.new }
+        ensures awake { AwakeWithin result.span members.new }
     {
+        let mut awake = Awake::none(members.len());
         for place in self.talkers.from..self.talkers.to {
             let spent = members[place].is_spent(plan[place].frames.as_slice());
-            self.lull(&mut members[place], spent, false, bit);
+            let listens = self.lull(&mut members[place], spent, false, bit);
+            awake.count(&members[place], place, place + 1, listens);
         }
+        awake
     }
 
     /// So do controllers, where it idles also such as want to start.
-    fn lull_controllers(&mut self, members: &mut [Member], bit: u64, idles: bool)
-        requires within { self.old.controllers.to ≤ length members.old }
+    fn lull_controllers(&mut self, members: &mut [Member], bit: u64, idles: bool) -> Awake
+        requires within { AwakeWithin self.old.controllers members.old }
         requires rests { AreResting self.old bit members.old }
         requires spent { self.old.spent ≡ true → NoneRests members.old }
         ensures less { IsLess self.old self.new }
         ensures lie { AtPlaces (λ k. MayLieDown self.old.listener bit) members.old members.new }
         ensures rests { AreResting self.new bit members.new }
         ensures spent { self.new.spent ≡ true → NoneRests members.new }
+        ensures awake { AwakeWithin result.span members.new }
     {
+        let mut awake = Awake::none(members.len());
         for place in self.controllers.from..self.controllers.to {
-            self.lull(&mut members[place], false, idles, bit);
+            let listens = self.lull(&mut members[place], false, idles, bit);
+            awake.count(&members[place], place, place + 1, listens);
         }
+        awake
     }
 
     /// Keeps where nodes are awake. Where more listen that are awake than rest, all wake, so that another listener is
@@ -189,15 +201,17 @@ impl Rest {
         talkers: &mut [Member],
         controllers: &mut [Member],
         bit: u64,
+        awake_talkers: &Awake,
+        awake_controllers: &Awake,
     )
+        requires talkers { AwakeWithin awake_talkers.now.span talkers.old }
+        requires controllers { AwakeWithin awake_controllers.now.span controllers.old }
         requires holds { RestHolds self.old bit plan.now talkers.old controllers.old }
         ensures talkers { members_at self.new bit talkers.new ≡ members_at self.old bit talkers.old }
         ensures controllers { members_at self.new bit controllers.new ≡ members_at self.old bit controllers.old }
         ensures holds { RestHolds self.new bit plan.now talkers.new controllers.new }
     {
-        let awake_talkers = Awake::of(talkers, self.talkers, bit);
-        let awake_controllers = Awake::of(controllers, self.controllers, bit);
-        if awake_talkers.outnumber(&awake_controllers) {
+        if awake_talkers.outnumber(awake_controllers) {
             self.apart = true;
             self.wake(plan, talkers, controllers, bit);
             return;

@@ -10,7 +10,7 @@ ghost use Rattle.can_station.specs.Ports.{item_of, Undone, Asks, started, starte
 ghost use Rattle.can_station.specs.Fresh.{IsFresh};
 ghost use Rattle.can_station.specs.Deeds.{IsQuiet, Names, no_deed};
 ghost use Rattle.can_station.specs.Outcomes.{sending_after, completed_by};
-ghost use Rattle.can_station.specs.RestingNodes.{GoesAsItMay, MayFallSilent, MayGo, MayGoBy, MayRest, MayWake};
+ghost use Rattle.can_station.specs.RestingNodes.{GoesAsItMay, MayFallSilent, MayGo, MayGoBy, MayWake};
 ghost use Rattle.can_station.specs.RestingNodes.{MemberGoes, MemberSends, Shares, laid_down, woken};
 ghost use Rattle.can_station.specs.Members.{
   AreOf,
@@ -192,27 +192,16 @@ impl Member {
         self.deed = Deed::none();
     }
 
-    /// Nothing is told any more of what it did, if it is awake.
+    /// Nothing is told any more of what it did, if it is awake and something was.
     pub(crate) fn fall_silent(&mut self)
         ensures rests { self.old.rests ≡ true → self.new ≡ self.old }
         ensures awake { self.new.rests ≡ self.old.rests }
         ensures silent { MayFallSilent self.old self.new }
     {
-        if self.rests {
+        if self.rests || self.deed.is_quiet() {
             return;
         }
         self.deed = Deed::none();
-    }
-
-    /// Whether it is awake, and may come to rest before this bit, with this listener.
-    #[inline(always)]
-    pub fn may_rest(&self, listener: &Listener, bit: u64) -> bool
-        ensures { result ≡ true → MayRest listener.now bit self.now }
-    {
-        if !self.listens_at(bit) {
-            return false;
-        }
-        self.station.node.stands_with(listener)
     }
 
     /// Whether it has completed all of these frames.

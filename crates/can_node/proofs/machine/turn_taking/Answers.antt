@@ -3,10 +3,10 @@ use Rattle.can_node.proofs.machine.turn_taking.Goals as goal
 
 pub returns : goal.returns
 returns c may_begin old new spelling now push = record {
-  turn = c.after_taking.result;
+  turn = c.after_taking-turn.result;
   errors = c.state-errors.result;
   shows = c.state-errors.ensures.counted;
   advances = reading_advances c.args.start may_begin c.args.stage old new spelling now c.state-errors.result
-      c.args.level c.args.step c.after_taking.result push c.after_taking.ensures.goes;
+      c.args.level c.args.step c.after_taking-turn.result push c.after_taking-turn.ensures.goes;
   is_made = c.make.ensures;
 }

@@ -1,36 +1,20 @@
-use Rattle.std.proofs.Common.{refl}
-use Rattle.can_confinement.specs.Confinement.{state_of}
-use Rattle.can_confinement.specs.Counters.{counts_of}
-use Rattle.can_node.proofs.ErrorMoves.{delimit_on}
-use Rattle.can_node.proofs.Moves.{rest_on, suspend_on}
+use Rattle.std.proofs.Common.{false, ap, subst, ◌∙◌}
+use Rattle.can_node.specs.Machine.{is_sending}
+use Rattle.can_node.specs.PlainBits.{LeavesPlainly}
+use Rattle.can_node.proofs.GoingBy.{is_out}
 use Rattle.can_node.proofs.plain_bits.count_on.Goals as goal
 
-pub returns-then-ones-lt7-clause-counted : goal.returns-then-ones-lt7-clause-counted
-returns-then-ones-lt7-clause-counted c told counters now =
-    rw (c.in-Delimiting.is, c.if-not-level.false)
-    (record {
-      goes = delimit_on c.in-Delimiting._role c.in-Delimiting.ones now
-          (state_of (counts_of counters)) c.if-ones-lt7.true;
-      reads_none = refl;
-    })
+pub returns-then-stay_on-clause-counted : goal.returns-then-stay_on-clause-counted
+returns-then-stay_on-clause-counted c told counters now =
+    let on = c.stay_on.ensures.stays c.if-stay_on.true in
+    rw on.1 ((is_out c.args.state.now c.args.level on.0).leaves counters now)
 
-pub returns-then-ones-lt2-clause-counted : goal.returns-then-ones-lt2-clause-counted
-returns-then-ones-lt2-clause-counted c told counters now =
-    rw (c.in-Resting.is, c.if-not-level.false)
-    (record {
-      goes = rest_on c.in-Resting._role c.in-Resting.ones now
-          (state_of (counts_of counters)) c.if-ones-lt2.true;
-      reads_none = refl;
-    })
+pub returns-then-stay_on-clause-sends_none : goal.returns-then-stay_on-clause-sends_none
+returns-then-stay_on-clause-sends_none c told =
+    let on = c.stay_on.ensures.stays c.if-stay_on.true in
+    ap is_sending on.1 ∙ (is_out c.args.state.now c.args.level on.0).sends_then
 
-pub returns-then-ones-lt7-2-clause-counted : goal.returns-then-ones-lt7-2-clause-counted
-returns-then-ones-lt7-2-clause-counted c told counters now =
-    rw (c.in-Suspending.is, c.if-not-level.false)
-    (record {
-      goes = suspend_on c.in-Suspending.ones now (state_of (counts_of counters)) c.if-ones-lt7-2.true;
-      reads_none = refl;
-    })
-
-pub returns-then-not-level-clause-counted : goal.returns-then-not-level-clause-counted
-returns-then-not-level-clause-counted c told counters now =
-    rw c.if-not-level.true (c.flag_on.ensures.counted told counters now)
+pub returns-clause-counted : goal.returns-clause-counted
+returns-clause-counted c told counters now = rw c.if-level.false
+    (subst (λ state. LeavesPlainly state counters now false c.flag_on.new.state)
+    (c.stay_on.ensures.other c.if-stay_on.false) (c.flag_on.ensures.counted told counters now))

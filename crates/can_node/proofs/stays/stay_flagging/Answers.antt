@@ -4,11 +4,11 @@ use Rattle.can_node.proofs.GoingBy.{flag_more, is_not, stays_none}
 use Rattle.can_node.proofs.stays.stay_flagging.Goals as goal
 
 pub loop-place-init : goal.loop-place-init
-loop-place-init c = stays_none (PassiveFlagging c.args.role c.args.owes c.args.ones c.args.zeros) c.args.levels.now
+loop-place-init c role = stays_none (PassiveFlagging role c.args.owes c.args.ones c.args.zeros) c.args.levels.now
 
 pub loop-place-preserved : goal.loop-place-preserved
-loop-place-preserved c =
-    flag_more c.args.role c.args.owes c.args.ones c.args.zeros c.loop-place.recessive c.loop-place.dominant
+loop-place-preserved c role =
+    flag_more role c.args.owes c.args.ones c.args.zeros c.loop-place.recessive c.loop-place.dominant
     c.counted-recessive.result c.counted-dominant.result c.args.levels.now c.loop-place.place c.loop-place-test.true
-    c.loop-place.invariant (is_not _ (sym (c.ends_flag.ensures.stays c.args.role) ∙ c.if-ends_flag.false))
+    (c.loop-place.invariant role) (is_not _ (sym (c.ends_flag.ensures.stays role) ∙ c.if-ends_flag.false))
     c.counted-recessive.ensures c.counted-dominant.ensures

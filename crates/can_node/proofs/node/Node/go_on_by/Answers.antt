@@ -25,5 +25,5 @@ returns-then-is_in_region c is_sender may =
 
 pub returns : goal.returns
 returns c is_sender may =
-    waiting_by c.args.self.now c.out_behind_all-self.result _ c.args.levels.now is_sender c.in_default.not-Sending
-    (sym c.is_in_region.ensures ∙ c.if-is_in_region.false) refl c.out_behind_all-self.ensures may
+    waiting_by c.args.self.now c.go_out.new.state _ c.args.levels.now is_sender c.in_default.not-Sending
+    (sym c.is_in_region.ensures ∙ c.if-is_in_region.false) refl c.go_out.ensures may

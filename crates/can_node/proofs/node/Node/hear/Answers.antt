@@ -1,21 +1,33 @@
-use Rattle.std.proofs.Common.{false, refl, sym, ◌∙◌}
+use Rattle.std.proofs.Common.{refl, subst}
+use Rattle.can_confinement.specs.Confinement.{state_of}
+use Rattle.can_confinement.specs.Counters.{counts_of}
+use Rattle.can_node.specs.Machine.{GoesReading}
+use Rattle.can_node.specs.declared.state.State.TheVariants.{Taking}
 use Rattle.can_node.proofs.Listens.{all_hear}
 use Rattle.can_node.proofs.Samples.{stands_history}
 use Rattle.can_node.proofs.node.Node.hear.Goals as goal
 
-pub returns-then-is_taking-clause-samples : goal.returns-then-is_taking-clause-samples
-returns-then-is_taking-clause-samples c listener all =
-    all_hear listener c.args.bit c.args.level c.args.heard.now c.turn-turn.result c.make.result c.args.self.now _ _ all
-    (c.turn-turn.ensures all.is_heard) refl (λ is. c.copy-self.ensures) c.make.ensures refl refl
+pub returns-in-Some-clause-samples : goal.returns-in-Some-clause-samples
+returns-in-Some-clause-samples c listener all =
+    let heard = all.is_heard in
+    let goes = rw c.in-Some.is at heard in
+    let made = c.take_turn.ensures in
+    all_hear listener c.args.bit c.args.level c.args.heard.now c.in-Some.turn c.take_turn.result c.args.self.now
+    c.take_turn.new.self _ all (λ may. goes (state_of (counts_of c.args.self.now.counters)) may) refl made.reader
+    made.made made.spelling made.clock
 
-pub returns-then-is_taking-clause-history : goal.returns-then-is_taking-clause-history
-returns-then-is_taking-clause-history c = stands_history _
+pub returns-in-Some-clause-history : goal.returns-in-Some-clause-history
+returns-in-Some-clause-history c = stands_history _
 
-pub returns-clause-samples : goal.returns-clause-samples
-returns-clause-samples c listener all =
-    all_hear listener c.args.bit c.args.level c.args.heard.now c.turn-turn.result c.make-2.result c.args.self.now _
-    false all (c.turn-turn.ensures all.is_heard) (sym c.is_taking.ensures ∙ c.if-is_taking.false)
-    (λ is. absurd (cc is)) c.make-2.ensures refl refl
+pub returns-in-None-clause-samples : goal.returns-in-None-clause-samples
+returns-in-None-clause-samples c listener all =
+    let here = c.args.heard.now in
+    let made = c.take_turn-in-None.ensures in
+    all_hear listener c.args.bit c.args.level here c.turn_in-turn.result c.take_turn-in-None.result c.args.self.now
+    c.take_turn-in-None.new.self _ all
+    (λ may. subst (λ errors. GoesReading (Taking here.start may here.stage) errors here.step c.args.level
+    c.turn_in-turn.result) c.state.ensures.shown (c.turn_in-turn.ensures may)) refl made.reader made.made made.spelling
+    made.clock
 
-pub returns-clause-history : goal.returns-clause-history
-returns-clause-history c = stands_history _
+pub returns-in-None-clause-history : goal.returns-in-None-clause-history
+returns-in-None-clause-history c = stands_history _

@@ -1,4 +1,4 @@
-use Rattle.std.proofs.Common.{◌≤◌, length, refl, subst, sym, ap, ◌∙◌}
+use Rattle.std.proofs.Common.{refl, subst, sym, ap, ◌∙◌}
 use Rattle.can_station.specs.RestingNodes.{AreAlike, AwakeWithin}
 use Rattle.can_segment.specs.Rests.{members_at}
 use Rattle.can_segment.proofs.ComesToRest.{alike_at_rest, alike_self, chosen_awake, chosen_rests, chosen_same}
@@ -34,55 +34,64 @@ returns-then-not-self c =
       };
     }
 
-pub lull_talkers-requires-clause-within : goal.lull_talkers-requires-clause-within
-lull_talkers-requires-clause-within c = subst (λ span. span.to ≤ length c.args.talkers.now)
-    (sym c.choose.ensures.talkers_is) c.requires.holds.talkers_within.within
+pub lull_talkers-awake-requires-clause-within : goal.lull_talkers-awake-requires-clause-within
+lull_talkers-awake-requires-clause-within c = subst (λ span. AwakeWithin span c.args.talkers.now)
+    (sym c.choose.ensures.talkers_is) c.requires.holds.talkers_within
 
-pub lull_controllers-requires-clause-within : goal.lull_controllers-requires-clause-within
-lull_controllers-requires-clause-within c =
-    subst (λ span. span.to ≤ length c.args.controllers.now)
-    (sym (c.lull_talkers.ensures.less.controllers_is ∙ c.choose.ensures.controllers_is))
-    c.requires.holds.controllers_within.within
+pub lull_controllers-awake_too-requires-clause-within : goal.lull_controllers-awake_too-requires-clause-within
+lull_controllers-awake_too-requires-clause-within c =
+    subst (λ span. AwakeWithin span c.args.controllers.now)
+    (sym (c.lull_talkers-awake.ensures.less.controllers_is ∙ c.choose.ensures.controllers_is))
+    c.requires.holds.controllers_within
 
-pub lull_talkers-requires-clause-rests : goal.lull_talkers-requires-clause-rests
-lull_talkers-requires-clause-rests c = chosen_rests c.args.self.now c.choose.new.self c.args.bit c.args.talkers.now
+pub lull_talkers-awake-requires-clause-rests : goal.lull_talkers-awake-requires-clause-rests
+lull_talkers-awake-requires-clause-rests c = chosen_rests c.args.self.now c.choose.new.self c.args.bit
+    c.args.talkers.now
     c.choose.ensures c.requires.holds.talkers_rest
 
-pub lull_talkers-requires-clause-spent : goal.lull_talkers-requires-clause-spent
-lull_talkers-requires-clause-spent c = chosen_spent c.args.self.now c.choose.new.self c.args.bit c.args.plan.now
+pub lull_talkers-awake-requires-clause-spent : goal.lull_talkers-awake-requires-clause-spent
+lull_talkers-awake-requires-clause-spent c = chosen_spent c.args.self.now c.choose.new.self c.args.bit c.args.plan.now
     c.args.talkers.now c.choose.ensures c.requires.holds.talkers_rest c.requires.holds.talkers_spent
 
-pub lull_controllers-requires-clause-rests : goal.lull_controllers-requires-clause-rests
-lull_controllers-requires-clause-rests c =
-    less_rests c.choose.new.self c.lull_talkers.new.self c.args.bit c.args.controllers.now c.lull_talkers.ensures.less
+pub lull_controllers-awake_too-requires-clause-rests : goal.lull_controllers-awake_too-requires-clause-rests
+lull_controllers-awake_too-requires-clause-rests c =
+    less_rests c.choose.new.self c.lull_talkers-awake.new.self c.args.bit c.args.controllers.now
+    c.lull_talkers-awake.ensures.less
     (chosen_rests c.args.self.now c.choose.new.self c.args.bit c.args.controllers.now c.choose.ensures
     c.requires.holds.controllers_rest)
 
-pub lull_controllers-requires-clause-spent : goal.lull_controllers-requires-clause-spent
-lull_controllers-requires-clause-spent c is =
+pub lull_controllers-awake_too-requires-clause-spent : goal.lull_controllers-awake_too-requires-clause-spent
+lull_controllers-awake_too-requires-clause-spent c is =
     chosen_awake c.args.self.now c.choose.new.self c.args.bit c.args.controllers.now c.choose.ensures
-    c.requires.holds.controllers_rest c.requires.holds.controllers_awake (c.lull_talkers.ensures.less.spends is)
+    c.requires.holds.controllers_rest c.requires.holds.controllers_awake (c.lull_talkers-awake.ensures.less.spends is)
 
 pub settle-requires : goal.settle-requires
 settle-requires c =
-    let few_is = c.lull_controllers.ensures.less.few_is ∙ c.lull_talkers.ensures.less.few_is ∙ c.choose.ensures.many in
-    let talkers_is = c.lull_controllers.ensures.less.talkers_is ∙ c.lull_talkers.ensures.less.talkers_is
+    let few_is = c.lull_controllers-awake_too.ensures.less.few_is ∙ c.lull_talkers-awake.ensures.less.few_is ∙
+    c.choose.ensures.many in
+    let talkers_is = c.lull_controllers-awake_too.ensures.less.talkers_is ∙ c.lull_talkers-awake.ensures.less.talkers_is
     ∙ c.choose.ensures.talkers_is in
-    let controllers_is = c.lull_controllers.ensures.less.controllers_is ∙ c.lull_talkers.ensures.less.controllers_is
+    let controllers_is = c.lull_controllers-awake_too.ensures.less.controllers_is ∙
+    c.lull_talkers-awake.ensures.less.controllers_is
     ∙ c.choose.ensures.controllers_is in
     record {
+      talkers = c.lull_talkers-awake.ensures.awake;
+      controllers = c.lull_controllers-awake_too.ensures.awake;
       holds = record {
-        talkers_rest = less_rests c.lull_talkers.new.self c.lull_controllers.new.self c.args.bit
-            c.lull_talkers.new.members c.lull_controllers.ensures.less c.lull_talkers.ensures.rests;
-        controllers_rest = c.lull_controllers.ensures.rests;
-        talkers_spent = λ s. c.lull_talkers.ensures.spent (c.lull_controllers.ensures.less.spends s);
-        controllers_awake = c.lull_controllers.ensures.spent;
-        talkers_within = subst (λ span. AwakeWithin span c.lull_talkers.new.members) (sym talkers_is)
-            (lain_within c.choose.new.self.listener c.args.bit c.args.talkers.now c.lull_talkers.new.members
-            c.args.self.now.talkers c.lull_talkers.ensures.lie c.requires.holds.talkers_within);
-        controllers_within = subst (λ span. AwakeWithin span c.lull_controllers.new.members) (sym controllers_is)
-            (lain_within c.lull_talkers.new.self.listener c.args.bit c.args.controllers.now
-            c.lull_controllers.new.members c.args.self.now.controllers c.lull_controllers.ensures.lie
+        talkers_rest = less_rests c.lull_talkers-awake.new.self c.lull_controllers-awake_too.new.self c.args.bit
+            c.lull_talkers-awake.new.members c.lull_controllers-awake_too.ensures.less
+            c.lull_talkers-awake.ensures.rests;
+        controllers_rest = c.lull_controllers-awake_too.ensures.rests;
+        talkers_spent = λ s. c.lull_talkers-awake.ensures.spent (c.lull_controllers-awake_too.ensures.less.spends s);
+        controllers_awake = c.lull_controllers-awake_too.ensures.spent;
+        talkers_within = subst (λ span. AwakeWithin span c.lull_talkers-awake.new.members) (sym talkers_is)
+            (lain_within c.choose.new.self.listener c.args.bit c.args.talkers.now c.lull_talkers-awake.new.members
+            c.args.self.now.talkers c.lull_talkers-awake.ensures.lie c.requires.holds.talkers_within);
+        controllers_within = subst (λ span. AwakeWithin span c.lull_controllers-awake_too.new.members) (sym
+            controllers_is)
+            (lain_within c.lull_talkers-awake.new.self.listener c.args.bit c.args.controllers.now
+            c.lull_controllers-awake_too.new.members c.args.self.now.controllers
+            c.lull_controllers-awake_too.ensures.lie
             c.requires.holds.controllers_within);
         few_are = λ few. absurd (cc (few, few_is));
       };
@@ -91,18 +100,21 @@ settle-requires c =
 pub returns : goal.returns
 returns c = record {
   talkers =
-      let before = c.lull_controllers.ensures.less.listener_is ∙ c.lull_talkers.ensures.less.listener_is in
-      let lain = alike_at_rest c.choose.new.self.listener c.lull_controllers.new.self.listener c.args.bit
-      c.args.talkers.now c.lull_talkers.new.members before c.lull_talkers.ensures.lie in
+      let before = c.lull_controllers-awake_too.ensures.less.listener_is ∙
+      c.lull_talkers-awake.ensures.less.listener_is in
+      let lain = alike_at_rest c.choose.new.self.listener c.lull_controllers-awake_too.new.self.listener c.args.bit
+      c.args.talkers.now c.lull_talkers-awake.new.members before c.lull_talkers-awake.ensures.lie in
       subst (λ ms. AreAlike ms (members_at c.settle.new.self c.args.bit c.settle.new.talkers))
       (chosen_same c.args.self.now c.choose.new.self c.args.bit c.args.talkers.now c.choose.ensures
       c.requires.holds.talkers_rest)
       (subst (AreAlike (members_at c.choose.new.self c.args.bit c.args.talkers.now))
       (sym c.settle.ensures.talkers) lain);
   controllers =
-      let mid = c.lull_talkers.new.self in
-      let lain = alike_at_rest mid.listener c.lull_controllers.new.self.listener c.args.bit c.args.controllers.now
-      c.lull_controllers.new.members c.lull_controllers.ensures.less.listener_is c.lull_controllers.ensures.lie in
+      let mid = c.lull_talkers-awake.new.self in
+      let lain = alike_at_rest mid.listener c.lull_controllers-awake_too.new.self.listener c.args.bit
+      c.args.controllers.now
+      c.lull_controllers-awake_too.new.members c.lull_controllers-awake_too.ensures.less.listener_is
+      c.lull_controllers-awake_too.ensures.lie in
       let same =
       ap
       (λ listener. members_at (record {
@@ -118,7 +130,7 @@ returns c = record {
         steady = mid.steady;
         apart = mid.apart;
       }) c.args.bit
-      c.args.controllers.now) c.lull_talkers.ensures.less.listener_is
+      c.args.controllers.now) c.lull_talkers-awake.ensures.less.listener_is
       ∙ chosen_same c.args.self.now c.choose.new.self c.args.bit c.args.controllers.now c.choose.ensures
       c.requires.holds.controllers_rest in
       subst (λ ms. AreAlike ms (members_at c.settle.new.self c.args.bit c.settle.new.controllers)) same

@@ -1,3 +1,4 @@
+use Rattle.can_station.proofs.Spans.{AwakeBelow}
 use Rattle.can_segment.specs.Rests.{AreSpent}
 use Rattle.can_segment.proofs.ComesToRest.{LullsBelow}
 use Rattle.can_segment.proofs.rest.Rest.lull_talkers.Given as goal
@@ -6,4 +7,5 @@ abbrev pub invariant-loop-place : goal.invariant-loop-place
 invariant-loop-place l = record {
   lulls : LullsBelow l.initial.self l.self l.bit l.initial.members l.members l.place;
   spent : AreSpent l.self l.plan l.members;
+  within : AwakeBelow l.awake.span l.members l.place;
 }

@@ -36,7 +36,7 @@ returns-clause-holds c =
           };
       talkers_spent = held.talkers_spent;
       controllers_awake = held.controllers_awake;
-      talkers_within = c.of-awake_talkers.ensures;
-      controllers_within = c.of-awake_controllers.ensures;
+      talkers_within = c.requires.talkers;
+      controllers_within = c.requires.controllers;
       few_are = λ few. search rules;
     }
