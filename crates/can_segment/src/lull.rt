@@ -31,32 +31,15 @@ impl Rest {
     {
         fall_silent(talkers, told, self.talkers);
         fall_silent(controllers, told, self.controllers);
-        self.lull_nodes(plan, talkers, controllers, bit, told, idles);
-    }
-
-    /// Nodes come to rest before this bit that listen and have come equally far: where too few have come as far as the
-    /// listener, those that have come as far as another one.
-    fn lull_nodes(
-        &mut self,
-        plan: &[Talker],
-        talkers: &mut [Member],
-        controllers: &mut [Member],
-        bit: u64,
-        told: bool,
-        idles: bool,
-    )
-        requires plan { length plan.now ≡ length talkers.old }
-        requires holds { RestHolds self.old bit plan.now talkers.old controllers.old }
-        ensures { ComesToRest bit plan.now self.old self.new talkers.old talkers.new controllers.old controllers.new }
-    {
         let were_apart = self.apart;
         self.lull_alike(plan, talkers, controllers, bit, told, idles);
+        // where too few had come as far as the listener, those may that have come as far as another one
         if self.apart && !were_apart {
             self.lull_alike(plan, talkers, controllers, bit, true, idles);
         }
     }
 
-    /// So where they have come as far as one listener.
+    /// Nodes come to rest before this bit that listen and have come as far as the listener.
     fn lull_alike(
         &mut self,
         plan: &[Talker],

@@ -7,11 +7,11 @@ use Rattle.can_segment.proofs.Holds.{left_holds}
 use Rattle.can_segment.proofs.Woken.{left_places}
 use Rattle.can_segment.proofs.rest.Rest.come_to_rest.Goals as goal
 
-pub lull_nodes-requires-clause-plan : goal.lull_nodes-requires-clause-plan
-lull_nodes-requires-clause-plan c = omega (arith, c.requires.plan, c.fall_silent.ensures.size)
+pub lull_alike-requires-clause-plan : goal.lull_alike-requires-clause-plan
+lull_alike-requires-clause-plan c = omega (arith, c.requires.plan, c.fall_silent.ensures.size)
 
-pub lull_nodes-requires-clause-holds : goal.lull_nodes-requires-clause-holds
-lull_nodes-requires-clause-holds c =
+pub lull_alike-requires-clause-holds : goal.lull_alike-requires-clause-holds
+lull_alike-requires-clause-holds c =
     let t0 = c.args.talkers.now in
     let t1 = c.fall_silent.new.members in
     let c0 = c.args.controllers.now in
@@ -22,21 +22,51 @@ lull_nodes-requires-clause-holds c =
     (λ span. within_places (λ k. MayFallSilent) span t0 t1 c.fall_silent.ensures)
     (λ span. within_places (λ k. MayFallSilent) span c0 c1 c.fall_silent-2.ensures) c.requires.holds
 
-pub returns : goal.returns
-returns c =
+pub returns-else-self : goal.returns-else-self
+returns-else-self c =
     let rest = c.args.self.now in
     record {
       talkers =
           all_alike_on (members_at rest c.args.bit c.args.talkers.now)
           (members_at rest c.args.bit c.fall_silent.new.members)
-          (members_at c.lull_nodes.new.self c.args.bit c.lull_nodes.new.talkers)
+          (members_at c.lull_alike.new.self c.args.bit c.lull_alike.new.talkers)
           (all_silent rest.listener c.args.bit c.args.talkers.now c.fall_silent.new.members c.fall_silent.ensures)
-          c.lull_nodes.ensures.talkers;
+          c.lull_alike.ensures.talkers;
       controllers =
           all_alike_on (members_at rest c.args.bit c.args.controllers.now)
           (members_at rest c.args.bit c.fall_silent-2.new.members)
-          (members_at c.lull_nodes.new.self c.args.bit c.lull_nodes.new.controllers)
+          (members_at c.lull_alike.new.self c.args.bit c.lull_alike.new.controllers)
           (all_silent rest.listener c.args.bit c.args.controllers.now c.fall_silent-2.new.members
-          c.fall_silent-2.ensures) c.lull_nodes.ensures.controllers;
-      holds = c.lull_nodes.ensures.holds;
+          c.fall_silent-2.ensures) c.lull_alike.ensures.controllers;
+      holds = c.lull_alike.ensures.holds;
+    }
+
+pub lull_alike-requires-then-not-were_apart : goal.lull_alike-requires-then-not-were_apart
+lull_alike-requires-then-not-were_apart c = record {
+  plan = omega (arith, c.requires.plan, c.fall_silent.ensures.size, c.lull_alike.ensures.talkers.size);
+  holds = c.lull_alike.ensures.holds;
+}
+
+pub returns-then-not-were_apart : goal.returns-then-not-were_apart
+returns-then-not-were_apart c =
+    let bit = c.args.bit in
+    let rest = c.args.self.now in
+    let mid = c.lull_alike.new.self in
+    let last = c.lull_alike-then-not-were_apart.new.self in
+    record {
+      talkers =
+          all_alike_on (members_at rest bit c.args.talkers.now) (members_at mid bit c.lull_alike.new.talkers)
+          (members_at last bit c.lull_alike-then-not-were_apart.new.talkers)
+          (all_alike_on (members_at rest bit c.args.talkers.now) (members_at rest bit c.fall_silent.new.members)
+          (members_at mid bit c.lull_alike.new.talkers)
+          (all_silent rest.listener bit c.args.talkers.now c.fall_silent.new.members c.fall_silent.ensures)
+          c.lull_alike.ensures.talkers) c.lull_alike-then-not-were_apart.ensures.talkers;
+      controllers =
+          all_alike_on (members_at rest bit c.args.controllers.now) (members_at mid bit c.lull_alike.new.controllers)
+          (members_at last bit c.lull_alike-then-not-were_apart.new.controllers)
+          (all_alike_on (members_at rest bit c.args.controllers.now) (members_at rest bit c.fall_silent-2.new.members)
+          (members_at mid bit c.lull_alike.new.controllers)
+          (all_silent rest.listener bit c.args.controllers.now c.fall_silent-2.new.members c.fall_silent-2.ensures)
+          c.lull_alike.ensures.controllers) c.lull_alike-then-not-were_apart.ensures.controllers;
+      holds = c.lull_alike-then-not-were_apart.ensures.holds;
     }
