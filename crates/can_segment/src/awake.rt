@@ -33,6 +33,7 @@ impl Awake {
     }
 
     /// Counts the node at this place, which that one follows, if it is awake. It is told whether it listens then.
+    #[inline(always)]
     pub(crate) fn count(&mut self, member: &Member, place: usize, next: usize, listens: bool)
         ensures rests { member.now.rests ≡ true → self.new.span ≡ self.old.span }
         ensures before { self.new.span.from ≤ self.old.span.from }
