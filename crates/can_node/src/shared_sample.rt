@@ -1,8 +1,6 @@
 //! What one level makes of nodes that have come equally far in a frame that they read.
 
 ghost use Rattle.std.specs.Prelude.{◌≡◌, Bool, IfSome};
-ghost use Rattle.can_confinement.specs.Confinement.{state_of};
-ghost use Rattle.can_confinement.specs.Counters.{counts_of};
 ghost use Rattle.can_confinement.specs.declared.confinement.ErrorState.{ErrorState as ErrorStateValue};
 ghost use Rattle.can_frame.specs.Reading.{IsPush};
 ghost use Rattle.can_node.specs.Listener.{IsHeard};
@@ -12,7 +10,7 @@ use crate::outcome::Outcome;
 use crate::state::{Stage, State, Turn};
 use crate::taken_frame::TakenFrame;
 use crate::takes::after_taking;
-use can_confinement::{Counters, ErrorState};
+use can_confinement::ErrorState;
 use can_frame::{Reader, Step};
 
 /// What a level is to those that read a frame alike: each makes its own turn of it, by its own counts.

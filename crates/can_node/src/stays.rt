@@ -6,7 +6,6 @@ ghost use Rattle.can_node.specs.PlainBits.{StaysBy, StaysNoLonger, StaysOut, out
 
 use crate::plain_bits::stay_on;
 use crate::state::State;
-use can_confinement::Role;
 
 /// With how many levels a passive error flag goes on, and how many recessive and how many dominant ones stand at its
 /// end then.

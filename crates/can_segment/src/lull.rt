@@ -1,6 +1,6 @@
 //! Nodes that come to rest.
 
-ghost use Rattle.std.specs.Prelude.{◌≡◌, ◌≤◌, true, length};
+ghost use Rattle.std.specs.Prelude.{◌≡◌, true, length};
 ghost use Rattle.can_station.specs.RestingNodes.{AwakeWithin, MayLieDown, NoneRests};
 ghost use Rattle.can_segment.specs.Rests.{AreResting, AreSpent, Chooses, ComesToRest, IsLess, Lulls, RestHolds};
 ghost use Rattle.can_segment.specs.Rests.{members_at};
