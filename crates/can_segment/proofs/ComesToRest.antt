@@ -18,7 +18,7 @@ use Rattle.can_station.specs.RestingNodes.{AreAlike, AwakeWithin, IfAwake, IsAli
 use Rattle.can_station.specs.RestingNodes.{NoneRests, laid_down, woken}
 use Rattle.can_segment.specs.Rests.{AreResting, AreSpent, Chooses, IsLess, IsResting, Lulls, members_at}
 use Rattle.can_segment.proofs.Holds.{not_resting, same_rests}
-use Rattle.can_station.proofs.Spans.{AwakeBelow, awake_step as awake_counted}
+use Rattle.can_station.proofs.Spans.{AwakeBelow, awake_end, awake_step as awake_counted}
 use Rattle.can_station.proofs.Places.{some_there, get_set_other, get_set_same, places_step, same_some}
 use Rattle.can_segment.proofs.Shown.{map_at}
 use Rattle.can_segment.proofs.Woken.{awake_woken, none_resting}
@@ -346,3 +346,10 @@ lain_within listener bit old new span lie h = record {
         | inr lies ↦ ap (λ y. y.rests) lies.1
       ];
 }
+
+-- where all have been gone through, those that are awake are within the span that was counted
+pub lulled_within : (before now : Rest) (bit : ℕ) (old new : List Member) (span counted : Span) (i : ℕ) → span.to ≤ i →
+    AwakeWithin span old → LullsBelow before now bit old new i → AwakeBelow counted new i → AwakeWithin counted new
+lulled_within before now bit old new span counted i all h lulls below =
+    awake_end span counted new i all
+    (lain_within before.listener bit old new span (lulls_end before now bit old new i lulls) h) below

@@ -1,8 +1,8 @@
 use Rattle.std.proofs.Common.{◌≡◌, get_or, arith, None, sym, slice_get, subst, ◌∙◌, set}
 use Rattle.std.proofs.lemmas.List.{length-set}
 use Rattle.std.proofs.lemmas.Option.{slice_get-get_or}
-use Rattle.can_station.proofs.Spans.{awake_end, awake_start}
-use Rattle.can_segment.proofs.ComesToRest.{awake_next, lain_within, lulls_end, lulls_start, lulls_step, spent_step}
+use Rattle.can_station.proofs.Spans.{awake_start}
+use Rattle.can_segment.proofs.ComesToRest.{awake_next, lulled_within, lulls_end, lulls_start, lulls_step, spent_step}
 use Rattle.can_station.proofs.Places.{same_some}
 use Rattle.can_segment.proofs.rest.Rest.lull_talkers.Goals as goal
 
@@ -64,9 +64,6 @@ returns-clause-lie c =
 
 pub returns-clause-awake : goal.returns-clause-awake
 returns-clause-awake c =
-    awake_end c.args.self.now.talkers c.loop-place.awake.span c.loop-place.members c.loop-place.place
-    (omega (arith, c.loop-place-test.false))
-    (lain_within c.args.self.now.listener c.args.bit c.args.members.now c.loop-place.members c.args.self.now.talkers
-    (lulls_end c.args.self.now c.loop-place.self c.args.bit c.args.members.now c.loop-place.members c.loop-place.place
-    c.loop-place.invariant.lulls) c.requires.within)
-    c.loop-place.invariant.within
+    lulled_within c.args.self.now c.loop-place.self c.args.bit c.args.members.now c.loop-place.members
+    c.args.self.now.talkers c.loop-place.awake.span c.loop-place.place (omega (arith, c.loop-place-test.false))
+    c.requires.within c.loop-place.invariant.lulls c.loop-place.invariant.within
