@@ -11,6 +11,6 @@ returns c out =
       | in-Recovering+else-is_far w ↦ w.state-is ∙ sym w.in-Recovering.is
       | in_default w ↦ w.state-is
     ] in
-    whole_stay c.match-state.state c.stay_by.new.state levels c.stay_by.result c.stay_by.ensures.by c.stay_by.ensures.ends
-    (subst (λ s. StaysOut s levels) (sym here) out)
+    whole_stay c.match-state.state c.stay_by.new.state levels c.stay_by.result c.stay_by.ensures.by
+    c.stay_by.ensures.ends (subst (λ s. StaysOut s levels) (sym here) out)
     ∙ ap (λ s. out_behind_all s levels) here
