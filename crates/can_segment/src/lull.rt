@@ -117,7 +117,7 @@ impl Rest {
 
     /// The node comes to rest before this bit if it may. It is told whether it has nothing to start, and whether it is
     /// given nothing. Whether it listens and is awake still.
-    // most places of the span have one that rests: these pay for no call
+    // many at the places of the span rest, and pay for no call
     #[inline(always)]
     fn lull(&mut self, member: &mut Member, spent: bool, idles: bool, bit: u64) -> bool
         ensures { Lulls bit spent self.old self.new member.old member.new }
