@@ -1,7 +1,7 @@
 -- Nodes that come to rest between two bits.
 use Rattle.std.proofs.Common.{◌≡◌, ◌≢◌, ℕ, ◌+◌, ◌<◌, ◌≤◌, inl, inr, Bool, true, false, Some, None, List, length, map}
 use Rattle.std.proofs.Common.{slice_get, set, refl, sym, ap, subst, arith, ◌∙◌}
-use Rattle.std.proofs.lemmas.Bool.{cases_lt}
+use Rattle.std.proofs.lemmas.Bool.{cases_eq, cases_lt}
 use Rattle.std.proofs.lemmas.List.{length-map, length-set}
 use Rattle.std.proofs.lemmas.Option.{slice_get_within}
 use Rattle.can_node.specs.Listener.{IsListening, caught_up as node_caught_up}
@@ -11,15 +11,15 @@ use Rattle.can_station.specs.declared.member.Deed.{Deed}
 use Rattle.can_station.specs.declared.member.Member.{Member}
 use Rattle.can_station.specs.declared.plan.Talker.{Talker}
 use Rattle.can_segment.specs.declared.rest.Rest.{Rest}
-use Rattle.can_station.specs.declared.span.Span.{Span}
+use Rattle.can_station.specs.declared.place_set.PlaceSet.{PlaceSet}
 use Rattle.can_station.specs.Deeds.{IsQuiet, no_deed}
-use Rattle.can_station.specs.Places.{AtPlaces, AtPlacesBelow}
+use Rattle.can_station.specs.Places.{AtPlaces, AtPlacesBut}
+use Rattle.can_station.specs.PlaceSets.{HasPlace, IsEmpty, IsWith, IsWithout}
 use Rattle.can_station.specs.RestingNodes.{AreAlike, AwakeWithin, IfAwake, IsAlike, MayFallSilent, MayLieDown, MayRest}
 use Rattle.can_station.specs.RestingNodes.{NoneRests, laid_down, woken}
 use Rattle.can_segment.specs.Rests.{AreResting, AreSpent, Chooses, IsLess, IsResting, Lulls, members_at}
 use Rattle.can_segment.proofs.Holds.{not_resting, same_rests}
-use Rattle.can_station.proofs.Spans.{AwakeBelow, awake_end, awake_step as awake_counted}
-use Rattle.can_station.proofs.Places.{some_there, get_set_other, get_set_same, places_step, same_some}
+use Rattle.can_station.proofs.Places.{but_end, but_step, some_there, get_set_other, get_set_same, same_some}
 use Rattle.can_segment.proofs.Shown.{map_at}
 use Rattle.can_segment.proofs.Woken.{awake_woken, none_resting}
 
@@ -171,17 +171,22 @@ less_itself rest = record {
   few_is = refl;
 }
 
--- the first of these may have come to rest
-pub record LullsBelow (before now : Rest) (bit : ℕ) (old new : List Member) (i : ℕ) : Type 0 where
+-- those that are no longer left may have come to rest
+pub record LullsBut (before now : Rest) (bit : ℕ) (old new : List Member) (left : PlaceSet) : Type 0 where
   pub less : IsLess before now
-  pub lie : AtPlacesBelow (λ k. MayLieDown before.listener bit) old new i
+  pub lie : AtPlacesBut (λ k. MayLieDown before.listener bit) old new left
   pub rests : AreResting now bit new
 
-pub lulls_start : (rest : Rest) (bit : ℕ) (members : List Member) (from : ℕ) → AreResting rest bit members →
-    LullsBelow rest rest bit members members from
-lulls_start rest bit members from rests = record {
+pub lulls_start : (rest : Rest) (bit : ℕ) (members : List Member) (left : PlaceSet) → AwakeWithin left members →
+    AreResting rest bit members → LullsBut rest rest bit members members left
+lulls_start rest bit members left h rests = record {
   less = less_itself rest;
-  lie = record { below = λ k a b less p q. inl (same_some b a (sym q ∙ p)); above = λ k more. refl; size = refl };
+  lie = record {
+    within = h.within;
+    made = λ k a b not p q. inl (same_some b a (sym q ∙ p));
+    same = λ k has. refl;
+    size = refl;
+  };
   rests = rests;
 }
 
@@ -201,18 +206,20 @@ lulled_resting spent before after bit old new h rested is = by h.lies
       listening = subst IsListening (sym h.less.listener_is) lies.0.stands.listening;
     }
 
-pub lulls_step : (spent : Bool) (before now next : Rest) (bit : ℕ) (old new : List Member) (i : ℕ) (a b : Member) →
-    i < length old → slice_get new i ≡ Some a → Lulls bit spent now next a b → LullsBelow before now bit old new i →
-    LullsBelow before next bit old (set new i b) (i + 1)
-lulls_step spent before now next bit old new i a b room here h so_far = record {
+pub lulls_step : (spent : Bool) (before now next : Rest) (bit : ℕ) (old new : List Member) (left after : PlaceSet)
+    (i : ℕ) (a b : Member) → HasPlace left i → IsWithout i left after → slice_get new i ≡ Some a →
+    Lulls bit spent now next a b → LullsBut before now bit old new left →
+    LullsBut before next bit old (set new i b) after
+lulls_step spent before now next bit old new left after i a b has without here h so_far = record {
   less = less_too before now next so_far.less h.less;
-  lie = places_step (λ k. MayLieDown before.listener bit) old new i a b room here
+  lie = but_step (λ k. MayLieDown before.listener bit) old new left after i a b has without here
       (subst (λ listener. MayLieDown listener bit a b) so_far.less.listener_is h.lies) so_far.lie;
   rests = λ k m e is. elim (cases_lt k i) [
     | inl less ↦ (let ne : k ≢ i = omega arith in other k m ne e is)
     | inr more ↦ elim (cases_lt i k) [
       | inl less ↦ (let ne : k ≢ i = omega arith in other k m ne e is)
       | inr same_place ↦ (let at : k ≡ i = omega arith in
+          let room = so_far.lie.within i has in
           let same : b ≡ m = same_some b m (sym (get_set_same new i b (omega (arith, room, so_far.lie.size)))
           ∙ ap (slice_get (set new i b)) (sym at) ∙ e) in
           subst (IsResting next bit) same (lulled_resting spent now next bit a b h (so_far.rests i a here)
@@ -224,33 +231,67 @@ lulls_step spent before now next bit old new i a b room here h so_far = record {
     other : (k : ℕ) (m : Member) → k ≢ i → slice_get (set new i b) k ≡ Some m → m.rests ≡ true → IsResting next bit m
     other k m ne e is = less_resting now next bit m h.less (so_far.rests k m (sym (get_set_other new i k b ne) ∙ e) is)
 
-pub lulls_end : (before now : Rest) (bit : ℕ) (old new : List Member) (i : ℕ) → LullsBelow before now bit old new i →
-    AtPlaces (λ k. MayLieDown before.listener bit) old new
-lulls_end before now bit old new i h = record {
-  at = λ k a b p q. elim (cases_lt k i) [
-    | inl less ↦ h.lie.below k a b less p q
-    | inr more ↦ inl (same_some b a (sym q ∙ h.lie.above k (omega (arith, more)) ∙ p))
-  ];
-  size = h.lie.size;
+pub lulls_end : (before now : Rest) (bit : ℕ) (old new : List Member) (left : PlaceSet) → IsEmpty left →
+    LullsBut before now bit old new left → AtPlaces (λ k. MayLieDown before.listener bit) old new
+lulls_end before now bit old new left none h = but_end (λ k. MayLieDown before.listener bit) old new left none h.lie
+
+-- those that are awake are counted, or left
+pub record CountedBut (counted : PlaceSet) (members : List Member) (left : PlaceSet) : Type 0 where
+  pub within : (k : ℕ) → HasPlace counted k → k < length members
+  pub has : (k : ℕ) (m : Member) → (HasPlace left k → ⊥) → slice_get members k ≡ Some m → m.rests ≡ false →
+      HasPlace counted k
+
+pub counted_start : (counted left : PlaceSet) (members : List Member) → IsEmpty counted → AwakeWithin left members →
+    CountedBut counted members left
+counted_start counted left members none h = record {
+  within = λ k has. absurd (none k has);
+  has = λ k m not e awake. absurd (not (h.has k m e awake));
 }
 
--- the first of these are awake within a span, also where one behind them may have come to rest
-awake_before : (span : Span) (members : List Member) (i : ℕ) (b : Member) → AwakeBelow span members i →
-    AwakeBelow span (set members i b) i
-awake_before span members i b below = record {
-  within = let within = below.within in omega (arith, within, length-set members i b);
-  inside = λ k m less e awake.
-      let ne : k ≢ i = omega (arith, less) in
-      below.inside k m less (sym (get_set_other members i k b ne) ∙ e) awake;
-}
+pub counted_step : (counted more left after : PlaceSet) (members : List Member) (i : ℕ) (b m : Member) →
+    i < length members → IsWithout i left after → slice_get (set members i b) i ≡ Some m →
+    (m.rests ≡ true → more ≡ counted) → (m.rests ≡ false → IsWith i counted more) →
+    CountedBut counted members left → CountedBut more (set members i b) after
+counted_step counted more left after members i b m room without here rests awake so_far = by m.rests refl
+  where
+    same : (k : ℕ) (x : Member) → k ≢ i → slice_get (set members i b) k ≡ Some x → slice_get members k ≡ Some x
+    same k x other e = sym (get_set_other members i k b other) ∙ e
 
-pub awake_next : (before after : Span) (members : List Member) (i : ℕ) (b m : Member) → i < length members →
-    slice_get (set members i b) i ≡ Some m → (m.rests ≡ true → after ≡ before) → after.from ≤ before.from →
-    (m.rests ≡ false → (after.from ≤ i) × (after.to ≡ i + 1)) →
-    AwakeBelow before members i → AwakeBelow after (set members i b) (i + 1)
-awake_next before after members i b m room here rests less awake below =
-    awake_counted before after (set members i b) i m (omega (arith, room, length-set members i b)) here rests less awake
-    (awake_before before members i b below)
+    by : (on : Bool) → m.rests ≡ on → CountedBut more (set members i b) after
+    by true is =
+        let less : (k : ℕ) → HasPlace more k → k < length members =
+        λ k has. so_far.within k (subst (λ s. HasPlace s k) (rests is) has) in
+        record {
+          within = λ k has. let there = less k has in omega (arith, there, length-set members i b);
+          has = λ k x not e on. elim (cases_eq k i) [
+            | inl at ↦ absurd (let one = same_some m x (sym here ∙ ap (slice_get (set members i b)) (sym at) ∙ e) in
+                let off = ap (λ y. y.rests) one in cc (on, off, is))
+            | inr other ↦ subst (λ s. HasPlace s k) (sym (rests is))
+                (so_far.has k x (λ was. not (without.others k other was)) (same k x other e) on)
+          ];
+        }
+    by false is =
+        let counts = awake is in
+        record {
+          within = λ k has. elim (cases_eq k i) [
+            | inl at ↦ omega (arith, at, room, length-set members i b)
+            | inr other ↦ (let there = so_far.within k (counts.no_others k other has) in
+                omega (arith, there, length-set members i b))
+          ];
+          has = λ k x not e on. elim (cases_eq k i) [
+            | inl at ↦ subst (HasPlace more) (sym at) counts.has
+            | inr other ↦ counts.others k other
+                (so_far.has k x (λ was. not (without.others k other was)) (same k x other e) on)
+          ];
+        }
+
+pub counted_end : (counted : PlaceSet) (members : List Member) (left : PlaceSet) → IsEmpty left →
+    length members ≤ 64 → CountedBut counted members left → AwakeWithin counted members
+counted_end counted members left none few h = record {
+  few = few;
+  within = h.within;
+  has = λ k m e awake. h.has k m (none k) e awake;
+}
 
 -- those talkers that have come to rest have no frame left, where that is known
 pub spent_step : (spent : Bool) (now next : Rest) (bit : ℕ) (plan : List Talker) (new : List Member) (i : ℕ)
@@ -335,21 +376,16 @@ chosen_awake old new bit members h rests awake = elim h.chosen [
 ]
 
 -- no more nodes are awake where some have come to rest
-pub lain_within : (listener : Listener) (bit : ℕ) (old new : List Member) (span : Span) →
-    AtPlaces (λ k. MayLieDown listener bit) old new → AwakeWithin span old → AwakeWithin span new
-lain_within listener bit old new span lie h = record {
-  within = omega (arith, h.within, lie.size);
-  outside = λ k m e out.
+pub lain_within : (listener : Listener) (bit : ℕ) (old new : List Member) (set : PlaceSet) →
+    AtPlaces (λ k. MayLieDown listener bit) old new → AwakeWithin set old → AwakeWithin set new
+lain_within listener bit old new set lie h = record {
+  few = omega (arith, h.few, lie.size);
+  within = λ k has. let less = h.within k has in omega (arith, less, lie.size);
+  has = λ k m e is.
       let x = some_there old k (let there = slice_get_within new k m e in omega (arith, there, lie.size)) in
-      elim (lie.at k x.0 m x.1 e) [
-        | inl same ↦ ap (λ y. y.rests) same ∙ h.outside k x.0 x.1 out
-        | inr lies ↦ ap (λ y. y.rests) lies.1
-      ];
+      h.has k x.0 x.1 (was x.0 m (lie.at k x.0 m x.1 e) is);
 }
-
--- where all have been gone through, those that are awake are within the span that was counted
-pub lulled_within : (before now : Rest) (bit : ℕ) (old new : List Member) (span counted : Span) (i : ℕ) → span.to ≤ i →
-    AwakeWithin span old → LullsBelow before now bit old new i → AwakeBelow counted new i → AwakeWithin counted new
-lulled_within before now bit old new span counted i all h lulls below =
-    awake_end span counted new i all
-    (lain_within before.listener bit old new span (lulls_end before now bit old new i lulls) h) below
+  where
+    was : (x m : Member) → MayLieDown listener bit x m → m.rests ≡ false → x.rests ≡ false
+    was x m (inl same) is = ap (λ y. y.rests) (sym same) ∙ is
+    was x m (inr lies) is = lies.0.awake

@@ -6,8 +6,9 @@ use Rattle.can_node.specs.Node.{counters_in}
 use Rattle.can_station.specs.declared.member.Member.{Member}
 use Rattle.can_station.specs.declared.plan.Talker.{Talker}
 use Rattle.can_segment.specs.declared.rest.Rest.{Rest}
-use Rattle.can_station.specs.declared.span.Span.{Span}
+use Rattle.can_station.specs.declared.place_set.PlaceSet.{PlaceSet}
 use Rattle.can_segment.specs.Rests.{AreResting, AreSpent, IsSame, RestHolds, RestsThrough}
+use Rattle.can_station.specs.PlaceSets.{HasOneAtMost}
 use Rattle.can_station.specs.RestingNodes.{AwakeWithin, LeavesResting, NoneRests}
 use Rattle.can_segment.proofs.Rests.{next_rests}
 
@@ -69,11 +70,11 @@ same_holds old new bit plan talkers controllers same talkers_is controllers_is f
   controllers_rest = same_rests old new bit controllers same h.controllers_rest;
   talkers_spent = λ s. h.talkers_spent (sym same.spent_is ∙ s);
   controllers_awake = λ s. h.controllers_awake (sym same.spent_is ∙ s);
-  talkers_within = subst (λ span. AwakeWithin span talkers) (sym talkers_is) h.talkers_within;
-  controllers_within = subst (λ span. AwakeWithin span controllers) (sym controllers_is) h.controllers_within;
+  talkers_within = subst (λ set. AwakeWithin set talkers) (sym talkers_is) h.talkers_within;
+  controllers_within = subst (λ set. AwakeWithin set controllers) (sym controllers_is) h.controllers_within;
   few_are = λ few. let are = h.few_are (sym few_is ∙ few) in record {
-    talkers = subst (λ span. span.to ≤ span.from + 1) (sym talkers_is) are.talkers;
-    controllers = subst (λ span. span.to ≤ span.from + 1) (sym controllers_is) are.controllers;
+    talkers = subst HasOneAtMost (sym talkers_is) are.talkers;
+    controllers = subst HasOneAtMost (sym controllers_is) are.controllers;
   };
 }
 
@@ -95,8 +96,8 @@ left_awake old new left none k m e = by m.rests refl
 -- behind steps of those that are awake
 pub left_holds : (rest : Rest) (bit : ℕ) (plan : List Talker) (t0 t1 c0 c1 : List Member) → LeavesResting t0 t1 →
     LeavesResting c0 c1 →
-    ((span : Span) → AwakeWithin span t0 → AwakeWithin span t1) →
-    ((span : Span) → AwakeWithin span c0 → AwakeWithin span c1) → RestHolds rest bit plan t0 c0 →
+    ((set : PlaceSet) → AwakeWithin set t0 → AwakeWithin set t1) →
+    ((set : PlaceSet) → AwakeWithin set c0 → AwakeWithin set c1) → RestHolds rest bit plan t0 c0 →
     RestHolds rest bit plan t1 c1
 left_holds rest bit plan t0 t1 c0 c1 t c w w_too h = record {
   talkers_rest = left_rests rest bit t0 t1 t h.talkers_rest;
@@ -135,10 +136,10 @@ through_holds old new bit level plan t c through h = record {
   controllers_rest = through_rests old new bit level c through h.controllers_rest;
   talkers_spent = λ s. h.talkers_spent (sym through.spent_is ∙ s);
   controllers_awake = λ s. h.controllers_awake (sym through.spent_is ∙ s);
-  talkers_within = subst (λ span. AwakeWithin span t) (sym through.talkers_is) h.talkers_within;
-  controllers_within = subst (λ span. AwakeWithin span c) (sym through.controllers_is) h.controllers_within;
+  talkers_within = subst (λ set. AwakeWithin set t) (sym through.talkers_is) h.talkers_within;
+  controllers_within = subst (λ set. AwakeWithin set c) (sym through.controllers_is) h.controllers_within;
   few_are = λ few. let are = h.few_are (sym through.few_is ∙ few) in record {
-    talkers = subst (λ span. span.to ≤ span.from + 1) (sym through.talkers_is) are.talkers;
-    controllers = subst (λ span. span.to ≤ span.from + 1) (sym through.controllers_is) are.controllers;
+    talkers = subst HasOneAtMost (sym through.talkers_is) are.talkers;
+    controllers = subst HasOneAtMost (sym through.controllers_is) are.controllers;
   };
 }

@@ -6,10 +6,12 @@ use Rattle.std.proofs.lemmas.Bool.Decides.{leb_tells}
 use Rattle.can_node.specs.Listener.{Idles}
 use Rattle.can_station.specs.declared.member.Member.{Member}
 use Rattle.can_station.specs.Members.{drives_at}
-use Rattle.can_station.specs.declared.span.Span.{Span}
+use Rattle.can_station.specs.declared.place_set.PlaceSet.{PlaceSet}
+use Rattle.can_station.specs.PlaceSets.{IsEmpty}
+use Rattle.can_station.proofs.PlaceSets.{rests_outside}
 use Rattle.can_station.specs.RestingNodes.{AllGo, AwakeWithin}
 use Rattle.can_station.proofs.Places.{same_some}
-use Rattle.can_station.proofs.Spans.{all_pass}
+use Rattle.can_station.proofs.PlaceSets.{all_pass}
 use Rattle.can_segment.specs.declared.rest.Rest.{Rest}
 use Rattle.can_segment.specs.Rests.{AllRest, AreRecessive, GoQuietlyBy, GoesQuietly, driven_beside}
 use Rattle.can_segment.proofs.SoleSender.{rests_through}
@@ -54,9 +56,5 @@ idle_bits bit (level ∷ sent) rest t c spent idles asleep asleep_too recessive 
       idle_bits (bit + 1) sent rest t c spent idles asleep asleep_too recessive.1,
     )
 
-pub all_asleep : (span : Span) (members : List Member) → AwakeWithin span members → span.to ≤ span.from →
-    AllRest members
-all_asleep span members within none k m e = elim (leb_tells span.to k) [
-  | inl behind ↦ within.outside k m e (inr behind.1)
-  | inr before ↦ within.outside k m e (inl (let less = before.1 in omega (arith, less, none)))
-]
+pub all_asleep : (set : PlaceSet) (members : List Member) → AwakeWithin set members → IsEmpty set → AllRest members
+all_asleep set members within none k m e = rests_outside set members k m within e (none k)

@@ -15,7 +15,7 @@ use Rattle.can_station.specs.RestingNodes.{AllGo, GoesAsItMay, IfAwake, MayGoBy,
 use Rattle.can_station.specs.RestingNodes.{OthersStayOut, passes}
 use Rattle.can_station.proofs.GoingBy.{by_taken}
 use Rattle.can_station.proofs.Places.{same_some, some_there}
-use Rattle.can_station.proofs.Spans.{all_pass}
+use Rattle.can_station.proofs.PlaceSets.{all_pass}
 use Rattle.can_segment.specs.declared.rest.Rest.{Rest}
 use Rattle.can_segment.specs.Rests.{AreRecessive, GoQuietlyBy, GoesQuietly, driven_beside}
 use Rattle.can_segment.proofs.SoleSender.{and_true, one_passes, rests_through, with_listener}

@@ -29,7 +29,7 @@ use Rattle.can_segment.proofs.Holds.{left_holds, through_holds}
 use Rattle.can_segment.proofs.Rests.{all_drive, all_quiet, controllers_sample, controllers_start, members_length}
 use Rattle.can_segment.proofs.Rests.{members_sample, talkers_start, transmits_real, wishes_none}
 use Rattle.can_segment.proofs.Shown.{map_at, map_there}
-use Rattle.can_station.proofs.Spans.{all_pass, within_places}
+use Rattle.can_station.proofs.PlaceSets.{all_pass, within_places}
 use Rattle.can_segment.proofs.Woken.{awake_woken, left_places, resting_woken, same_list}
 use Rattle.can_segment.proofs.Going.{go_quiet, go_requests, go_samples, go_settles, go_shown, go_starts, one_goes}
 
@@ -276,8 +276,8 @@ rests_alone plan bit level old new t0 t1 c0 c1 h rests =
     let controllers = h.controllers in
     left_holds new (bit + 1) plan t0 t1 c0 c1 (left_places (λ k. MemberGoes bit level) t0 t1 talkers)
     (left_places (λ k. MemberGoes bit level) c0 c1 controllers)
-    (λ span. within_places (λ k. MemberGoes bit level) span t0 t1 talkers)
-    (λ span. within_places (λ k. MemberGoes bit level) span c0 c1 controllers)
+    (λ set. within_places (λ k. MemberGoes bit level) set t0 t1 talkers)
+    (λ set. within_places (λ k. MemberGoes bit level) set c0 c1 controllers)
     (through_holds old new bit level plan t0 c0 h.through rests)
 
 -- nothing is told,

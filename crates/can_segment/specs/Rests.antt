@@ -15,6 +15,7 @@ use Rattle.can_station.specs.Members.{drives_at}
 use Rattle.can_station.specs.RestingNodes.{AllGo, AreAlike, AwakeWithin, LeavesResting}
 use Rattle.can_station.specs.RestingNodes.{MayLieDown, MemberSends, NoneRests, passes, woken}
 use Rattle.can_station.specs.Places.{MovesOne}
+use Rattle.can_station.specs.PlaceSets.{HasOneAtMost}
 
 -- nodes as they are before this bit
 abbrev pub members_at : Rest → ℕ → List Member → List Member
@@ -41,8 +42,8 @@ AreSpent rest talkers members =
 
 -- one talker is awake at most, and one controller
 pub record AreFew (rest : Rest) : Type 0 where
-  pub talkers : rest.talkers.to ≤ rest.talkers.from + 1
-  pub controllers : rest.controllers.to ≤ rest.controllers.from + 1
+  pub talkers : HasOneAtMost rest.talkers
+  pub controllers : HasOneAtMost rest.controllers
 
 -- what stands before a bit of those that rest
 pub record RestHolds (rest : Rest) (bit : ℕ) (plan : List Talker) (talkers controllers : List Member) : Type 0 where

@@ -1,9 +1,9 @@
 //! Which nodes are awake.
 
-ghost use Rattle.std.specs.Prelude.{◌≡◌, ◌≤◌, true, false, length};
-ghost use Rattle.can_station.specs.RestingNodes.{AwakeWithin};
+ghost use Rattle.std.specs.Prelude.{◌≡◌, ◌<◌, true, false};
+ghost use Rattle.can_station.specs.PlaceSets.{IsEmpty, IsWith};
 
-use can_station::{Member, Span};
+use can_station::{Member, PlaceSet};
 
 /// What is counted of nodes of which some rest.
 #[derive(Drop)]
@@ -12,32 +12,29 @@ pub(crate) struct Awake {
     nodes: usize,
     awake: usize,
     listening: usize,
-    // from the first that is awake up to the last
-    pub(crate) span: Span,
+    // of those that are awake
+    pub(crate) places: PlaceSet,
 }
 
 impl Awake {
     /// None of so many nodes is counted.
     pub(crate) fn none(nodes: usize) -> Awake
-        ensures { result.span.to ≡ nodes }
+        ensures { IsEmpty result.places }
     {
         Awake {
             nodes,
             awake: 0,
             listening: 0,
-            span: Span {
-                from: nodes,
-                to: nodes,
-            },
+            places: PlaceSet::none(),
         }
     }
 
-    /// Counts the node at this place, which that one follows, if it is awake. It is told whether it listens then.
+    /// Counts the node at this place, if it is awake. It is told whether it listens then.
     #[inline(always)]
-    pub(crate) fn count(&mut self, member: &Member, place: usize, next: usize, listens: bool)
-        ensures rests { member.now.rests ≡ true → self.new.span ≡ self.old.span }
-        ensures before { self.new.span.from ≤ self.old.span.from }
-        ensures awake { member.now.rests ≡ false → self.new.span.from ≤ place × (self.new.span.to ≡ next) }
+    pub(crate) fn count(&mut self, member: &Member, place: usize, listens: bool)
+        requires { place < 64 }
+        ensures rests { member.now.rests ≡ true → self.new.places ≡ self.old.places }
+        ensures awake { member.now.rests ≡ false → IsWith place self.old.places self.new.places }
     {
         if member.rests {
             return;
@@ -46,8 +43,7 @@ impl Awake {
         if listens {
             self.listening = self.listening.saturating_add(1);
         }
-        self.span.from = self.span.from.min(place);
-        self.span.to = next;
+        self.places.insert(place);
     }
 
     /// How many rest.
@@ -63,17 +59,10 @@ impl Awake {
     }
 }
 
-/// The nodes at these places, as far as there are any.
-pub(crate) fn nodes_within(members: &[Member], places: Span) -> &[Member] {
-    match members.get(places.from..places.to) {
-        Some(members) => members,
-        None => &[],
-    }
-}
-
-/// Whether the first of these may start at the next bit: then its port is asked, and nothing comes to rest.
-pub(crate) fn asks_at_each_bit(controllers: &[Member]) -> bool {
-    match controllers.first() {
+/// Whether this controller, if there is one, may start at the next bit: then its port is asked, and nothing comes to
+/// rest. It is the first of all, or the first that is awake.
+pub(crate) fn asks_at_each_bit(first: Option<&Member>) -> bool {
+    match first {
         Some(member) => member.station.node.wants_start(),
         None => false,
     }

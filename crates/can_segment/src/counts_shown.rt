@@ -6,11 +6,11 @@ ghost use Rattle.can_segment.specs.Segments.{AreFrom, AreFromResting};
 
 use crate::rest::Rest;
 use can_node::Counters;
-use can_station::{Member, Span};
+use can_station::{Member, PlaceSet};
 
 /// The counters of those of these nodes that are awake take the places from this one on; those of the others are shown
 /// already.
-fn show(counters: &mut Vec<Counters>, first: usize, members: &[Member], awake: Span)
+fn show(counters: &mut Vec<Counters>, first: usize, members: &[Member], awake: PlaceSet)
     requires room { first + length members.now ≤ length counters.old.items }
     requires awake { AwakeWithin awake members.now }
     requires resting { AreFromResting first members.now counters.old.items }
@@ -20,7 +20,8 @@ fn show(counters: &mut Vec<Counters>, first: usize, members: &[Member], awake: S
         → slice_get counters.new.items k ≡ slice_get counters.old.items k }
     ensures size { length counters.new.items ≡ length counters.old.items }
 {
-    for place in awake.from..awake.to {
+    let mut left = awake;
+    while let Some(place) = left.take_first() {
         members[place].show(&mut counters[first + place]);
     }
 }

@@ -2,7 +2,7 @@
 //! only where they have come as far as the listener.
 
 use can_node::Listener;
-use can_station::Member;
+use can_station::{Member, PlaceSet};
 
 /// The first of these nodes that listens before this bit.
 fn first_of(members: &[Member], bit: u64) -> Option<&Member> {
@@ -36,8 +36,8 @@ pub(crate) fn one_of_many<'a>(
         }
         let listener = member.station.node.listener();
         let mut votes = Votes::none();
-        votes.count(talkers, &listener, bit);
-        votes.count(controllers, &listener, bit);
+        votes.count_all(talkers, &listener, bit);
+        votes.count_all(controllers, &listener, bit);
         if votes.alike >= votes.listening / 3 {
             return Some(member);
         }
@@ -64,14 +64,36 @@ impl Votes {
         }
     }
 
+    /// Counts this node before this bit.
+    #[inline(always)]
+    fn count_one(&mut self, member: &Member, listener: &Listener, bit: u64) {
+        if member.listens_at(bit) {
+            self.listening = self.listening.saturating_add(1);
+            if member.station.node.stands_with(listener) {
+                self.alike = self.alike.saturating_add(1);
+            }
+        }
+    }
+
     /// Counts these nodes before this bit.
-    pub(crate) fn count(&mut self, members: &[Member], listener: &Listener, bit: u64) {
+    fn count_all(&mut self, members: &[Member], listener: &Listener, bit: u64) {
         for member in members {
-            if member.listens_at(bit) {
-                self.listening = self.listening.saturating_add(1);
-                if member.station.node.stands_with(listener) {
-                    self.alike = self.alike.saturating_add(1);
-                }
+            self.count_one(member, listener, bit);
+        }
+    }
+
+    /// So those at these places.
+    pub(crate) fn count(
+        &mut self,
+        members: &[Member],
+        places: PlaceSet,
+        listener: &Listener,
+        bit: u64,
+    ) {
+        let mut left = places;
+        while let Some(place) = left.take_first() {
+            if let Some(member) = members.get(place) {
+                self.count_one(member, listener, bit);
             }
         }
     }

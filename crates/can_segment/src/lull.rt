@@ -6,7 +6,7 @@ ghost use Rattle.can_segment.specs.Rests.{AreResting, AreSpent, Chooses, ComesTo
 ghost use Rattle.can_segment.specs.Rests.{members_at};
 ghost use Rattle.can_station.specs.Places.{AtPlaces};
 
-use crate::awake::{Awake, asks_at_each_bit, nodes_within};
+use crate::awake::{Awake, asks_at_each_bit};
 use crate::leader::{Votes, first_listening, one_of_many};
 use crate::rest::Rest;
 use can_node::KnownCounts;
@@ -68,7 +68,7 @@ impl Rest {
     /// Whether none comes to rest: ports are asked at each bit, or none that is awake can have come as far as the
     /// listener at the last bit, as far as that is seen at once.
     fn stays_so(&self, talkers: &[Member], controllers: &[Member], bit: u64, told: bool) -> bool {
-        if asks_at_each_bit(controllers) {
+        if asks_at_each_bit(controllers.first()) {
             return true;
         }
         // where one has woken, or something was told, it is looked once more at which places they are awake
@@ -82,12 +82,8 @@ impl Rest {
             return false;
         }
         let mut votes = Votes::none();
-        votes.count(nodes_within(talkers, self.talkers), &self.listener, bit);
-        votes.count(
-            nodes_within(controllers, self.controllers),
-            &self.listener,
-            bit,
-        );
+        votes.count(talkers, self.talkers, &self.listener, bit);
+        votes.count(controllers, self.controllers, &self.listener, bit);
         votes.alike == 0 && votes.listening <= self.asleep
     }
 
@@ -117,7 +113,7 @@ impl Rest {
 
     /// The node comes to rest before this bit if it may. It is told whether it has nothing to start, and whether it is
     /// given nothing. Whether it listens and is awake still.
-    // many at the places of the span rest, and pay for no call
+    // so that the loops over nodes make no call
     #[inline(always)]
     fn lull(&mut self, member: &mut Member, spent: bool, idles: bool, bit: u64) -> bool
         ensures { Lulls bit spent self.old self.new member.old member.new }
@@ -148,13 +144,14 @@ impl Rest {
         ensures lie { AtPlaces (λ k. MayLieDown self.old.listener bit) members.old members.new }
         ensures rests { AreResting self.new bit members.new }
         ensures spent { AreSpent self.new plan.now members.new }
-        ensures awake { AwakeWithin result.span members.new }
+        ensures awake { AwakeWithin result.places members.new }
     {
         let mut awake = Awake::none(members.len());
-        for place in self.talkers.from..self.talkers.to {
+        let mut left = self.talkers;
+        while let Some(place) = left.take_first() {
             let spent = members[place].is_spent(plan[place].frames.as_slice());
             let listens = self.lull(&mut members[place], spent, false, bit);
-            awake.count(&members[place], place, place + 1, listens);
+            awake.count(&members[place], place, listens);
         }
         awake
     }
@@ -168,12 +165,13 @@ impl Rest {
         ensures lie { AtPlaces (λ k. MayLieDown self.old.listener bit) members.old members.new }
         ensures rests { AreResting self.new bit members.new }
         ensures spent { self.new.spent ≡ true → NoneRests members.new }
-        ensures awake { AwakeWithin result.span members.new }
+        ensures awake { AwakeWithin result.places members.new }
     {
         let mut awake = Awake::none(members.len());
-        for place in self.controllers.from..self.controllers.to {
+        let mut left = self.controllers;
+        while let Some(place) = left.take_first() {
             let listens = self.lull(&mut members[place], false, idles, bit);
-            awake.count(&members[place], place, place + 1, listens);
+            awake.count(&members[place], place, listens);
         }
         awake
     }
@@ -189,8 +187,8 @@ impl Rest {
         awake_talkers: &Awake,
         awake_controllers: &Awake,
     )
-        requires talkers { AwakeWithin awake_talkers.now.span talkers.old }
-        requires controllers { AwakeWithin awake_controllers.now.span controllers.old }
+        requires talkers { AwakeWithin awake_talkers.now.places talkers.old }
+        requires controllers { AwakeWithin awake_controllers.now.places controllers.old }
         requires holds { RestHolds self.old bit plan.now talkers.old controllers.old }
         ensures talkers { members_at self.new bit talkers.new ≡ members_at self.old bit talkers.old }
         ensures controllers { members_at self.new bit controllers.new ≡ members_at self.old bit controllers.old }
@@ -201,9 +199,9 @@ impl Rest {
             self.wake(plan, talkers, controllers, bit);
             return;
         }
-        self.talkers = awake_talkers.span;
-        self.controllers = awake_controllers.span;
-        self.few = self.talkers.is_one_at_most() && self.controllers.is_one_at_most();
+        self.talkers = awake_talkers.places;
+        self.controllers = awake_controllers.places;
+        self.few = self.talkers.has_one_at_most() && self.controllers.has_one_at_most();
         self.settled = true;
         self.asleep = awake_talkers
             .resting()

@@ -2,11 +2,11 @@
 
 ghost use Rattle.std.specs.Prelude.{◌≡◌, ◌+◌, ◌<◌, ◌≤◌, true, false, ℕ, IfNone, IfSome, length};
 ghost use Rattle.can_node.specs.Listener.{AllShare};
-ghost use Rattle.can_station.specs.RestingNodes.{IsWhole, LeavesResting, NoneRests, Undisturbed};
+ghost use Rattle.can_station.specs.RestingNodes.{AwakeWithin, LeavesResting, NoneRests, Undisturbed};
 ghost use Rattle.can_segment.specs.Rests.{Drives, GoesThrough, IsSame, RestHolds, RestsThrough, StartsNone, members_at};
 
 use can_node::{KnownCounts, Listener, Node, SharedSample};
-use can_station::{Member, NodeFault, Span, Talker, wake_all, wake_disturbed, wake_unspent};
+use can_station::{Member, NodeFault, PlaceSet, Talker, wake_all, wake_disturbed, wake_unspent};
 
 /// What is held alike for all nodes that rest: which those are each node tells itself. A listener has come as far as
 /// each of them would have.
@@ -20,11 +20,11 @@ pub(crate) struct Rest {
     // no controller rests, and no talker that rests has a frame left
     pub(crate) spent: bool,
     // all talkers rest but some of those at these places, and so do all controllers
-    pub(crate) talkers: Span,
-    pub(crate) controllers: Span,
-    // each of these spans has one place at most
+    pub(crate) talkers: PlaceSet,
+    pub(crate) controllers: PlaceSet,
+    // each of these sets has one place at most
     pub(crate) few: bool,
-    // none woke since these spans were taken, and so many rested then
+    // none woke since these sets were made, and so many rested then
     pub(crate) settled: bool,
     pub(crate) asleep: usize,
     // those that rest read on in the stuffed region at the last bit, and before it
@@ -34,20 +34,21 @@ pub(crate) struct Rest {
 }
 
 impl Rest {
-    /// None of so many nodes rests.
-    pub(crate) fn none(talkers: usize, controllers: usize) -> Rest
+    /// None of these nodes rests.
+    pub(crate) fn none(talkers: &[Member], controllers: &[Member]) -> Rest
+        requires { length talkers.now + length controllers.now ≤ 64 }
         ensures resting { result.resting ≡ false }
         ensures few { result.few ≡ false }
-        ensures talkers { IsWhole talkers result.talkers }
-        ensures controllers { IsWhole controllers result.controllers }
+        ensures talkers { AwakeWithin result.talkers talkers.now }
+        ensures controllers { AwakeWithin result.controllers controllers.now }
     {
         Rest {
             listener: Node::new(0).listener(),
             resting: false,
             known: KnownCounts::Any,
             spent: false,
-            talkers: Span::whole(talkers),
-            controllers: Span::whole(controllers),
+            talkers: PlaceSet::of_awake(talkers),
+            controllers: PlaceSet::of_awake(controllers),
             few: false,
             settled: false,
             asleep: 0,
@@ -78,18 +79,20 @@ impl Rest {
         self.listener.is_reading() || !self.listener.drive()
     }
 
-    /// Nodes at any place may be awake.
+    /// It is looked once more at which places nodes are awake, for some have woken.
     pub(crate) fn look_everywhere(&mut self, talkers: &[Member], controllers: &[Member])
+        requires few_talkers { length talkers.now ≤ 64 }
+        requires few_controllers { length controllers.now ≤ 64 }
         ensures same { IsSame self.old self.new }
         ensures few { self.new.few ≡ false }
-        ensures talkers { IsWhole (length talkers.now) self.new.talkers }
-        ensures controllers { IsWhole (length controllers.now) self.new.controllers }
+        ensures talkers { AwakeWithin self.new.talkers talkers.now }
+        ensures controllers { AwakeWithin self.new.controllers controllers.now }
     {
         self.few = false;
         self.settled = false;
         self.steady = false;
-        self.talkers = Span::whole(talkers.len());
-        self.controllers = Span::whole(controllers.len());
+        self.talkers = PlaceSet::of_awake(talkers);
+        self.controllers = PlaceSet::of_awake(controllers);
     }
 
     /// Those that rest wake before this bit if they may have something to start at it.

@@ -9,14 +9,15 @@ ghost use Rattle.can_station.specs.declared.member.Member.{Member};
 
 use crate::idle_run::{idle_run, recessive};
 use crate::rest::Rest;
-use can_station::{Member, Span, all_stay_out, go_on_by};
+use can_station::{Member, PlaceSet, all_stay_out, go_on_by};
 
-/// The first of the places of this span whose node is awake and sends a frame; the one behind the last where there is
+/// The first of the places of this set whose node is awake and sends a frame; the one behind the last where there is
 /// none.
-fn first_sender(members: &[Member], awake: Span) -> usize
+fn first_sender(members: &[Member], awake: PlaceSet) -> usize
     requires { AwakeWithin awake members.now }
 {
-    for place in awake.from..awake.to {
+    let mut left = awake;
+    while let Some(place) = left.take_first() {
         let member = &members[place];
         if !member.rests && member.station.node.sends_from().is_some() {
             return place;
@@ -43,9 +44,9 @@ fn next_levels<'a>(senders: &'a [Member], place: usize, bit: u64, most: usize) -
 fn ahead_beside<'a>(
     senders: &'a [Member],
     place: usize,
-    awake: Span,
+    awake: PlaceSet,
     others: &[Member],
-    awake_others: Span,
+    awake_others: PlaceSet,
     bit: u64,
     most: usize,
 ) -> &'a [bool]
@@ -72,9 +73,9 @@ fn send_beside(
     levels: &mut Vec<bool>,
     senders: &mut [Member],
     place: usize,
-    awake: Span,
+    awake: PlaceSet,
     others: &mut [Member],
-    awake_others: Span,
+    awake_others: PlaceSet,
     rest: &mut Rest,
     most: usize,
 )

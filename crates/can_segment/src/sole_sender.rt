@@ -103,7 +103,7 @@ fn level_of_all(
     ensures none { IfNone result ((rest.new ≡ rest.old) × (talkers.new ≡ talkers.old)
         × (controllers.new ≡ controllers.old)) }
 {
-    if asks_at_each_bit(controllers) || !rest.resting || !rest.starts_none() {
+    if asks_at_each_bit(controllers.first()) || !rest.resting || !rest.starts_none() {
         return None;
     }
     let awake = rest.talkers;
@@ -155,8 +155,8 @@ fn quiet_level(
         return None;
     }
     if rest.few {
-        let talker = rest.talkers.from;
-        let controller = rest.controllers.from;
+        let talker = rest.talkers.first();
+        let controller = rest.controllers.first();
         if let Some(level) = level_with(talkers, controllers, rest, talker, controller, bit) {
             return Some(level);
         }

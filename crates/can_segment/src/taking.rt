@@ -6,13 +6,13 @@ ghost use Rattle.can_station.specs.Deeds.{AreQuiet};
 ghost use Rattle.can_station.specs.Faults.{sampled_level};
 ghost use Rattle.can_station.specs.Members.{NodeSamples, PortSettles};
 ghost use Rattle.can_station.specs.Places.{AtBoth, AtPlaces};
-ghost use Rattle.can_station.specs.RestingNodes.{AwakeWithin, HasRoom, IsWhole, NoneRests, TransmitsAll, Undisturbed};
+ghost use Rattle.can_station.specs.RestingNodes.{AwakeWithin, HasRoom, NoneRests, TransmitsAll, Undisturbed};
 ghost use Rattle.can_segment.specs.Rests.{AreResting, members_at};
 
 use crate::rest::Rest;
 use can_node::{HeardLevel, SharedSample, TakenFrame};
 use can_station::{
-    Member, NodeFault, RxSink, Span, sample_controllers, sample_nodes, share_all, wake_all,
+    Member, NodeFault, PlaceSet, RxSink, sample_controllers, sample_nodes, share_all, wake_all,
 };
 
 impl Rest {
@@ -45,9 +45,11 @@ impl Rest {
 
     /// None rests any more.
     fn end(&mut self, talkers: &[Member], controllers: &[Member])
+        requires few_talkers { length talkers.now ≤ 64 }
+        requires few_controllers { length controllers.now ≤ 64 }
         ensures few { self.new.few ≡ false }
-        ensures talkers { IsWhole (length talkers.now) self.new.talkers }
-        ensures controllers { IsWhole (length controllers.now) self.new.controllers }
+        ensures talkers { AwakeWithin self.new.talkers talkers.now }
+        ensures controllers { AwakeWithin self.new.controllers controllers.now }
     {
         self.resting = false;
         self.look_everywhere(talkers, controllers);
@@ -75,6 +77,7 @@ pub(crate) fn sample_together<R, P: RxSink<R>>(
     requires resting { AreResting rest.old bit talkers.old }
     requires undisturbed { Undisturbed faults.now 0 bit talkers.old }
     requires within { AwakeWithin rest.old.talkers talkers.old }
+    requires few_controllers { length controllers.old ≤ 64 }
     requires talker_room { HasRoom u64.MAX bit (members_at rest.old bit talkers.old) }
     requires room { HasRoom u64.MAX bit (members_at rest.old bit controllers.old) }
     requires port { TransmitsAll P.transmitting (members_at rest.old bit controllers.old) ports.old }
@@ -88,14 +91,13 @@ pub(crate) fn sample_together<R, P: RxSink<R>>(
         × AreQuiet bit (members_at rest.new (bit + 1) controllers.new) }
     ensures awake { NoneRests talkers.new × NoneRests controllers.new }
     ensures few { rest.new.few ≡ false }
-    ensures whole { IsWhole (length talkers.new) rest.new.talkers
-        × IsWhole (length controllers.new) rest.new.controllers }
+    ensures within { AwakeWithin rest.new.talkers talkers.new × AwakeWithin rest.new.controllers controllers.new }
 {
     let first = talkers.len() as u32;
     let awake_told = sample_nodes(talkers, faults, 0, bit, level, rest.talkers);
     let resting_told = share_all(talkers, shared, bit, level);
     wake_all(controllers, &rest.listener, bit);
-    let all = Span::whole(controllers.len());
+    let all = PlaceSet::of_awake(controllers);
     let controllers_told = sample_controllers(
         rt,
         controllers,

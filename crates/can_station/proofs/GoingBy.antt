@@ -1,18 +1,17 @@
 -- Nodes that go on with levels, one after another.
-use Rattle.std.proofs.Common.{◌≡◌, ◌≢◌, ℕ, ◌+◌, ◌<◌, ◌≤◌, inl, inr, cond, nat_le, Bool, true, false, Some, List, []}
+use Rattle.std.proofs.Common.{◌≡◌, ◌≢◌, ℕ, ◌+◌, ◌≤◌, inl, inr, cond, nat_le, Bool, true, false, List, []}
 use Rattle.std.proofs.Common.{◌∷◌}
-use Rattle.std.proofs.Common.{take, slice_get, refl, sym, ap, subst, arith, ◌∙◌}
-use Rattle.std.proofs.lemmas.Bool.{cases_eq, cases_lt}
+use Rattle.std.proofs.Common.{take, refl, ap, arith, ◌∙◌}
 use Rattle.std.proofs.lemmas.Bool.Decides.{leb_tells}
 use Rattle.can_node.specs.declared.node.Node.{Node}
 use Rattle.can_node.specs.Node.{driven_by}
 use Rattle.can_node.specs.PlainBits.{GoesOnBy}
 use Rattle.can_node.proofs.GoingBy.{may_taken}
 use Rattle.can_station.specs.declared.member.Member.{Member}
-use Rattle.can_station.specs.declared.span.Span.{Span}
+use Rattle.can_station.specs.declared.place_set.PlaceSet.{PlaceSet}
 use Rattle.can_station.specs.Deeds.{IsQuiet}
-use Rattle.can_station.specs.RestingNodes.{AwakeWithin, MayGoBy, MemberGoesBy, OthersStayOut}
-use Rattle.can_station.proofs.Places.{same_some}
+use Rattle.can_station.specs.RestingNodes.{MayGoBy, MemberGoesBy}
+use Rattle.can_station.proofs.PlaceSets.{EachBut}
 
 -- the member with this node
 abbrev with_node : Member → Node → Member
@@ -67,33 +66,13 @@ by_taken is_sender bit n levels member h = record {
   goes = may_taken is_sender n levels member.station.node h.goes;
 }
 
--- so do the first of these but the one at this place, with so many of the levels
-abbrev pub OutBelow : ℕ → ℕ → List Bool → List Member → ℕ → Type 0
-OutBelow but bit levels members i = (k : ℕ) (m : Member) → k < i → slice_get members k ≡ Some m → k ≢ but →
-    m.rests ≡ false → MayGoBy false bit levels m
+-- so does one that is awake, but the one at this place
+abbrev pub StaysBeside : ℕ → ℕ → List Bool → ℕ → Member → Type 0
+StaysBeside but bit levels k m = k ≢ but → m.rests ≡ false → MayGoBy false bit levels m
 
-pub out_from : (but bit : ℕ) (levels : List Bool) (members : List Member) (span : Span) → AwakeWithin span members →
-    OutBelow but bit levels members span.from
-out_from but bit levels members span h k m less e not awake =
-    absurd (let is = h.outside k m e (inl less) in cc (is, awake))
-
-pub out_passed : (but bit : ℕ) (levels : List Bool) (members : List Member) (i : ℕ) → i ≡ but →
-    OutBelow but bit levels members i → OutBelow but bit levels members (i + 1)
-out_passed but bit levels members i here below k m less e not awake =
-    below k m (omega (arith, less, here, not)) e not awake
-
-pub out_step : (but bit : ℕ) (levels : List Bool) (members : List Member) (i n : ℕ) (m : Member) →
-    slice_get members i ≡ Some m → (m.rests ≡ false → MayGoBy false bit (take n levels) m) →
-    OutBelow but bit levels members i → OutBelow but bit (take n levels) members (i + 1)
-out_step but bit levels members i n m here may below k x less e not awake = elim (cases_eq k i) [
-  | inl is ↦ (let same : m ≡ x = same_some m x (sym here ∙ ap (slice_get members) (sym is) ∙ e) in
-      subst (MayGoBy false bit (take n levels)) same (may (subst (λ y. y.rests ≡ false) (sym same) awake)))
-  | inr other ↦ by_taken false bit n levels x (below k x (omega (arith, less, other)) e not awake)
-]
-
-pub out_to : (but bit : ℕ) (levels : List Bool) (members : List Member) (span : Span) (i : ℕ) → span.to ≤ i →
-    AwakeWithin span members → OutBelow but bit levels members i → OthersStayOut but bit levels members
-out_to but bit levels members span i all h below k m e not awake = elim (cases_lt k i) [
-  | inl less ↦ below k m less e not awake
-  | inr more ↦ absurd (let is = h.outside k m e (inr (omega (arith, all, more))) in cc (is, awake))
-]
+pub fewer_beside : (but bit n : ℕ) (levels : List Bool) (members : List Member) (left : PlaceSet) →
+    EachBut (StaysBeside but bit levels) members left → EachBut (StaysBeside but bit (take n levels)) members left
+fewer_beside but bit n levels members left so_far = record {
+  within = so_far.within;
+  each = λ k m out e not awake. by_taken false bit n levels m (so_far.each k m out e not awake);
+}

@@ -4,6 +4,5 @@ pub mod Events
 pub mod Settles
 pub mod FaultsInOrder
 pub mod Wakes
-pub mod Spans
-pub mod GoingOn
+pub mod PlaceSets
 pub mod GoingBy

@@ -1,10 +1,12 @@
 -- Laws of what a loop over nodes, or over nodes and their ports, does.
 use Rattle.std.proofs.Common.{◌≡◌, ◌≢◌, ℕ, zero, suc, [], ◌∷◌, subst, inl, inr, ◌+◌, ◌<◌, ◌≤◌, List, Some, slice_get}
 use Rattle.std.proofs.Common.{length, set, arith, refl, sym, ◌∙◌, ap, None, Option}
-use Rattle.std.proofs.lemmas.Bool.{cases_lt}
+use Rattle.std.proofs.lemmas.Bool.{cases_eq, cases_lt}
 use Rattle.std.proofs.lemmas.List.{length-set}
 use Rattle.std.proofs.lemmas.Option.{slice_get_within}
-use Rattle.can_station.specs.Places.{AtPlaces, AtPlacesBelow, AtBoth, AtBothBelow}
+use Rattle.can_station.specs.declared.place_set.PlaceSet.{PlaceSet}
+use Rattle.can_station.specs.Places.{AtPlaces, AtPlacesBelow, AtPlacesBut, AtBoth, AtBothBut}
+use Rattle.can_station.specs.PlaceSets.{HasPlace, IsEmpty, IsWithout}
 
 -- a list that was written to at a place
 pub get_set_same : {P : Type 0} (xs : List P) (i : ℕ) (y : P) → i < length xs → slice_get (set xs i y) i ≡ Some y
@@ -69,25 +71,6 @@ places_step Step old new i a b room here step e = record {
   size = simp length-set e.size;
 }
 
-pub both_start : {M P : Type 0} (Step : ℕ → M → M → P → P → Type 0) (xs : List M) (ps : List P) →
-    AtBothBelow Step xs xs ps ps 0
-both_start Step xs ps = record {
-  below = λ k a b p q h e f g j. absurd (omega (arith, h));
-  above = λ k h. refl;
-  above_too = λ k h. refl;
-  size = refl;
-  size_too = refl;
-}
-
-pub both_end : {M P : Type 0} (Step : ℕ → M → M → P → P → Type 0) (old new : List M) (from to : List P) (i : ℕ) →
-    length old ≤ i → AtBothBelow Step old new from to i → AtBoth Step old new from to
-both_end Step old new from to i all b = record {
-  at = λ k a c p q e f g j. b.below k a c p q (let h : k < length old = slice_get_within old k a e in
-      omega arith) e f g j;
-  size = b.size;
-  size_too = b.size_too;
-}
-
 same_both : {M P : Type 0} (Step : ℕ → M → M → P → P → Type 0) (i k : ℕ) (a b c d : M) (p q r s : P) → i ≡ k →
     Some a ≡ Some c → Some b ≡ Some d → Some p ≡ Some r → Some q ≡ Some s → Step i a b p q → Step k c d r s
 same_both Step i k a b c d p q r s ei ea eb ep eq step =
@@ -99,25 +82,66 @@ same_both Step i k a b c d p q r s ei ea eb ep eq step =
     (subst (λ z. Step i c d z q) same_p (subst (λ z. Step i c z p q) same_b
     (subst (λ z. Step i z b p q) same_a step))))
 
-pub both_step : {M P : Type 0} (Step : ℕ → M → M → P → P → Type 0) (old new : List M) (from to : List P) (i : ℕ)
-    (a b : M) (p q : P) → i < length old → length from ≡ length old →
-    slice_get new i ≡ Some a → slice_get to i ≡ Some p → Step i a b p q →
-    AtBothBelow Step old new from to i → AtBothBelow Step old (set new i b) from (set to i q) (i + 1)
-both_step Step old new from to i a b p q room sizes here there step e = record {
-  below = λ k c d r s h ec ed er es. elim (cases_lt k i) [
-    | inl less ↦ (let ne : k ≢ i = omega arith in
-        e.below k c d r s less ec (sym (get_set_other new i k b ne) ∙ ed) er (sym (get_set_other to i k q ne) ∙ es))
-    | inr more ↦ (let is : k ≡ i = omega arith in
-        let qa : Some a ≡ Some c = sym here ∙ e.above i (omega arith) ∙ ap (slice_get old) (sym is) ∙ ec in
+-- a loop over the places of a set: all but those left made a step
+there_too : {M : Type 0} (new : List M) (i : ℕ) {n : ℕ} → i < n → length new ≡ n → i < length new
+there_too new i less same = omega (arith, less, same)
+
+pub still_other : (i k : ℕ) (left after : PlaceSet) → IsWithout i left after → HasPlace after k → k ≢ i
+still_other i k left after without still is = without.has_not (subst (HasPlace after) is still)
+
+pub but_step : {M : Type 0} (Step : ℕ → M → M → Type 0) (old new : List M) (left after : PlaceSet) (i : ℕ) (a b : M) →
+    HasPlace left i → IsWithout i left after → slice_get new i ≡ Some a → Step i a b →
+    AtPlacesBut Step old new left → AtPlacesBut Step old (set new i b) after
+but_step Step old new left after i a b has without here step e = record {
+  within = λ k still. e.within k (without.no_others k still);
+  made = λ k c d not p q. elim (cases_eq k i) [
+    | inl is ↦ (let qa : Some a ≡ Some c = sym here ∙ e.same i has ∙ ap (slice_get old) (sym is) ∙ p in
         let qb : Some b ≡ Some d =
-        sym (get_set_same new i b (omega (arith, e.size))) ∙ ap (slice_get (set new i b)) (sym is) ∙ ed in
-        let qp : Some p ≡ Some r = sym there ∙ e.above_too i (omega arith) ∙ ap (slice_get from) (sym is) ∙ er in
-        let qq : Some q ≡ Some s =
-        sym (get_set_same to i q (omega (arith, e.size_too, sizes))) ∙ ap (slice_get (set to i q)) (sym is) ∙ es in
-        same_both Step i k a b c d p q r s (sym is) qa qb qp qq step)
+        sym (get_set_same new i b (there_too new i (e.within i has) e.size)) ∙ ap (slice_get (set new i b)) (sym is)
+        ∙ q in
+        same_step Step i k a b c d (sym is) qa qb step)
+    | inr other ↦ e.made k c d (λ was. not (without.others k other was)) p (sym (get_set_other new i k b other) ∙ q)
   ];
-  above = λ k h. (let ne : k ≢ i = omega arith in get_set_other new i k b ne ∙ e.above k (omega arith));
-  above_too = λ k h. (let ne : k ≢ i = omega arith in get_set_other to i k q ne ∙ e.above_too k (omega arith));
+  same = λ k still. (let ne = still_other i k left after without still in
+      get_set_other new i k b ne ∙ e.same k (without.no_others k still));
+  size = simp length-set e.size;
+}
+
+pub but_end : {M : Type 0} (Step : ℕ → M → M → Type 0) (old new : List M) (left : PlaceSet) → IsEmpty left →
+    AtPlacesBut Step old new left → AtPlaces Step old new
+but_end Step old new left none e = record { at = λ k a b p q. e.made k a b (none k) p q; size = e.size }
+
+pub both_step : {M P : Type 0} (Step : ℕ → M → M → P → P → Type 0) (old new : List M) (from to : List P)
+    (left after : PlaceSet) (i : ℕ) (a b : M) (p q : P) → length from ≡ length old →
+    HasPlace left i → IsWithout i left after → slice_get new i ≡ Some a → slice_get to i ≡ Some p → Step i a b p q →
+    AtBothBut Step old new from to left → AtBothBut Step old (set new i b) from (set to i q) after
+both_step Step old new from to left after i a b p q sizes has without here there step e = record {
+  within = λ k still. e.within k (without.no_others k still);
+  made = λ k c d r s not ec ed er es. elim (cases_eq k i) [
+    | inl is ↦ (let qa : Some a ≡ Some c = sym here ∙ e.same i has ∙ ap (slice_get old) (sym is) ∙ ec in
+        let qb : Some b ≡ Some d =
+        sym (get_set_same new i b (there_too new i (e.within i has) e.size)) ∙ ap (slice_get (set new i b)) (sym is)
+        ∙ ed in
+        let qp : Some p ≡ Some r = sym there ∙ e.same_too i has ∙ ap (slice_get from) (sym is) ∙ er in
+        let qq : Some q ≡ Some s =
+        sym (get_set_same to i q (there_too to i (e.within i has) (e.size_too ∙ sizes)))
+        ∙ ap (slice_get (set to i q)) (sym is) ∙ es in
+        same_both Step i k a b c d p q r s (sym is) qa qb qp qq step)
+    | inr other ↦ e.made k c d r s (λ was. not (without.others k other was)) ec
+        (sym (get_set_other new i k b other) ∙ ed) er (sym (get_set_other to i k q other) ∙ es)
+  ];
+  same = λ k still. (let ne = still_other i k left after without still in
+      get_set_other new i k b ne ∙ e.same k (without.no_others k still));
+  same_too = λ k still. (let ne = still_other i k left after without still in
+      get_set_other to i k q ne ∙ e.same_too k (without.no_others k still));
   size = simp length-set e.size;
   size_too = simp length-set e.size_too;
+}
+
+pub both_end : {M P : Type 0} (Step : ℕ → M → M → P → P → Type 0) (old new : List M) (from to : List P)
+    (left : PlaceSet) → IsEmpty left → AtBothBut Step old new from to left → AtBoth Step old new from to
+both_end Step old new from to left none e = record {
+  at = λ k a c p q ea ec ep eq. e.made k a c p q (none k) ea ec ep eq;
+  size = e.size;
+  size_too = e.size_too;
 }

@@ -8,6 +8,7 @@ pub mod Stations
 pub mod Ports
 pub mod Deeds
 pub mod Members
+pub mod PlaceSets
 pub mod Places
 pub mod Tellings
 pub mod Fresh

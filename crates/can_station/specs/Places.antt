@@ -1,5 +1,7 @@
 -- What a loop over the nodes of a segment does, place by place; and one over nodes and their ports.
 use Rattle.std.specs.Prelude.{◌≡◌, ◌≢◌, ℕ, ◌<◌, ◌≤◌, List, Some, slice_get, length}
+use Rattle.can_station.specs.declared.place_set.PlaceSet.{PlaceSet}
+use Rattle.can_station.specs.PlaceSets.{HasPlace}
 
 -- each element made this step
 pub record AtPlaces {M : Type 0} (Step : ℕ → M → M → Type 0) (old new : List M) : Type 0 where
@@ -12,6 +14,13 @@ pub record AtPlacesBelow {M : Type 0} (Step : ℕ → M → M → Type 0) (old n
   pub above : (k : ℕ) → i ≤ k → slice_get new k ≡ slice_get old k
   pub size : length new ≡ length old
 
+-- so did all but those at the places of a set, which are as they were
+pub record AtPlacesBut {M : Type 0} (Step : ℕ → M → M → Type 0) (old new : List M) (left : PlaceSet) : Type 0 where
+  pub within : (k : ℕ) → HasPlace left k → k < length old
+  pub made : (k : ℕ) (a b : M) → (HasPlace left k → ⊥) → slice_get old k ≡ Some a → slice_get new k ≡ Some b → Step k a b
+  pub same : (k : ℕ) → HasPlace left k → slice_get new k ≡ slice_get old k
+  pub size : length new ≡ length old
+
 -- each element made this step with the one at its place in the other list
 pub record AtBoth {M P : Type 0} (Step : ℕ → M → M → P → P → Type 0) (old new : List M)
     (from to : List P) : Type 0 where
@@ -20,12 +29,14 @@ pub record AtBoth {M P : Type 0} (Step : ℕ → M → M → P → P → Type 0)
   pub size : length new ≡ length old
   pub size_too : length to ≡ length from
 
-pub record AtBothBelow {M P : Type 0} (Step : ℕ → M → M → P → P → Type 0) (old new : List M) (from to : List P)
-    (i : ℕ) : Type 0 where
-  pub below : (k : ℕ) (a b : M) (p q : P) → k < i → slice_get old k ≡ Some a → slice_get new k ≡ Some b →
-      slice_get from k ≡ Some p → slice_get to k ≡ Some q → Step k a b p q
-  pub above : (k : ℕ) → i ≤ k → slice_get new k ≡ slice_get old k
-  pub above_too : (k : ℕ) → i ≤ k → slice_get to k ≡ slice_get from k
+-- so did all but those at the places of a set, which are as they were
+pub record AtBothBut {M P : Type 0} (Step : ℕ → M → M → P → P → Type 0) (old new : List M) (from to : List P)
+    (left : PlaceSet) : Type 0 where
+  pub within : (k : ℕ) → HasPlace left k → k < length old
+  pub made : (k : ℕ) (a b : M) (p q : P) → (HasPlace left k → ⊥) → slice_get old k ≡ Some a →
+      slice_get new k ≡ Some b → slice_get from k ≡ Some p → slice_get to k ≡ Some q → Step k a b p q
+  pub same : (k : ℕ) → HasPlace left k → slice_get new k ≡ slice_get old k
+  pub same_too : (k : ℕ) → HasPlace left k → slice_get to k ≡ slice_get from k
   pub size : length new ≡ length old
   pub size_too : length to ≡ length from
 

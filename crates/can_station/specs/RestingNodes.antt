@@ -12,11 +12,12 @@ use Rattle.can_node.specs.declared.listener.Listener.{Listener}
 use Rattle.can_station.specs.declared.member.Member.{Member}
 use Rattle.can_station.specs.declared.plan.NodeFault.{NodeFault}
 use Rattle.can_station.specs.declared.plan.Talker.{Talker}
-use Rattle.can_station.specs.declared.span.Span.{Span}
+use Rattle.can_station.specs.declared.place_set.PlaceSet.{PlaceSet}
 use Rattle.can_station.specs.Faults.{is_inverted}
 use Rattle.can_station.specs.Deeds.{IsQuiet, no_deed}
 use Rattle.can_station.specs.Members.{Samples, drives_at}
 use Rattle.can_station.specs.Places.{AtPlaces, MovesOne}
+use Rattle.can_station.specs.PlaceSets.{HasPlace}
 use Rattle.can_station.specs.Ports.{item_of}
 
 -- the member for which a listener stood up to this bit
@@ -79,15 +80,11 @@ NoneRests members = (k : ℕ) (m : Member) → slice_get members k ≡ Some m �
 abbrev pub OthersRest : ℕ → List Member → Type 0
 OthersRest place members = (k : ℕ) (m : Member) → slice_get members k ≡ Some m → k ≢ place → m.rests ≡ true
 
--- the first places, so many of them
-pub record IsWhole (len : ℕ) (span : Span) : Type 0 where
-  pub from_is : span.from ≡ 0
-  pub to_is : span.to ≡ len
-
--- of these nodes only some at the places of the span are awake
-pub record AwakeWithin (span : Span) (members : List Member) : Type 0 where
-  pub within : span.to ≤ length members
-  pub outside : (k : ℕ) (m : Member) → slice_get members k ≡ Some m → (k < span.from) ⊎ (span.to ≤ k) → m.rests ≡ true
+-- of these nodes, 64 at most, only some at the places of the set are awake
+pub record AwakeWithin (set : PlaceSet) (members : List Member) : Type 0 where
+  pub few : length members ≤ 64
+  pub within : (k : ℕ) → HasPlace set k → k < length members
+  pub has : (k : ℕ) (m : Member) → slice_get members k ≡ Some m → m.rests ≡ false → HasPlace set k
 
 -- one may have woken, and is as it was but for that
 abbrev pub MayWake : Listener → ℕ → Member → Member → Type 0
@@ -163,11 +160,6 @@ HasRoom limit bit members = (k : ℕ) (m : Member) → slice_get members k ≡ S
 abbrev pub AwakeAreQuiet : ℕ → List Member → Type 0
 AwakeAreQuiet bit members = (k : ℕ) (m : Member) → slice_get members k ≡ Some m → m.rests ≡ false → m.on ≤ bit →
     IsQuiet m.deed
-
--- nor of the first of them
-abbrev pub AwakeQuietBelow : ℕ → List Member → ℕ → Type 0
-AwakeQuietBelow bit members i = (k : ℕ) (m : Member) → k < i → slice_get members k ≡ Some m → m.rests ≡ false →
-    m.on ≤ bit → IsQuiet m.deed
 
 -- each port transmits what its node sends
 abbrev pub TransmitsAll : {P : Type 0} → (P → Option Item) → List Member → List P → Type 0

@@ -8,16 +8,17 @@ ghost use Rattle.can_station.specs.RestingNodes.{OthersStayOut};
 ghost use Rattle.can_station.specs.declared.member.Member.{Member};
 
 use crate::member::Member;
-use crate::span::Span;
+use crate::place_set::PlaceSet;
 
-/// Whether those of these nodes that are awake go on with this bit, if it has this level. All but those at the places
-/// of the span rest.
+/// Whether those of these nodes that are awake go on with this bit, if it has this level. All but those at those
+/// places rest.
 #[inline(always)]
-pub fn all_go_on(members: &[Member], bit: u64, level: bool, awake: Span) -> bool
+pub fn all_go_on(members: &[Member], bit: u64, level: bool, awake: PlaceSet) -> bool
     requires { AwakeWithin awake members.now }
     ensures { result ≡ true → MayAllGo bit level members.now }
 {
-    for place in awake.from..awake.to {
+    let mut left = awake;
+    while let Some(place) = left.take_first() {
         if members[place].holds_up(bit, level) {
             return false;
         }
@@ -25,29 +26,37 @@ pub fn all_go_on(members: &[Member], bit: u64, level: bool, awake: Span) -> bool
     true
 }
 
-/// Those that are awake go on with this bit, at which they sample this level. All but those at the places of the span
+/// Those that are awake go on with this bit, at which they sample this level. All but those at the places of the set
 /// rest.
 #[inline(always)]
-pub fn go_on(members: &mut [Member], bit: u64, level: bool, awake: Span)
+pub fn go_on(members: &mut [Member], bit: u64, level: bool, awake: PlaceSet)
     requires awake { AwakeWithin awake members.old }
     requires goes { MayAllGo bit level members.old }
     requires room { HasRoom u64.MAX bit members.old }
     ensures { AllGo bit level members.old members.new }
 {
-    for place in awake.from..awake.to {
+    let mut left = awake;
+    while let Some(place) = left.take_first() {
         members[place].go_on(bit, level);
     }
 }
 
 /// With how many of these levels, one after another from this bit on, each of these nodes that is awake goes on without
-/// sending (`Node::stays_out`), but the one at this place. All but those at the places of the span rest.
-pub fn all_stay_out(members: &[Member], bit: u64, levels: &[bool], awake: Span, but: usize) -> usize
+/// sending (`Node::stays_out`), but the one at this place. All but those at the places of the set rest.
+pub fn all_stay_out(
+    members: &[Member],
+    bit: u64,
+    levels: &[bool],
+    awake: PlaceSet,
+    but: usize,
+) -> usize
     requires { AwakeWithin awake members.now }
     ensures few { result ≤ length levels.now }
     ensures off { 0 < result → OthersStayOut but bit (take result levels.now) members.now }
 {
     let mut count = levels.len();
-    for place in awake.from..awake.to {
+    let mut left = awake;
+    while let Some(place) = left.take_first() {
         if place != but {
             count = members[place].stays_out(bit, &levels[..count]);
         }
@@ -59,8 +68,8 @@ pub fn all_stay_out(members: &[Member], bit: u64, levels: &[bool], awake: Span, 
     count
 }
 
-/// Those that are awake go on with these levels, one after another. All but those at the places of the span rest.
-pub fn go_on_by(members: &mut [Member], levels: &[bool], awake: Span)
+/// Those that are awake go on with these levels, one after another. All but those at the places of the set rest.
+pub fn go_on_by(members: &mut [Member], levels: &[bool], awake: PlaceSet)
     requires awake { AwakeWithin awake members.old }
     requires goes { (k : ℕ) (m : Member) → slice_get members.old k ≡ Some m → m.rests ≡ false
         → (is_sender : Bool) × (bit : ℕ) × MayGoBy is_sender bit levels.now m }
@@ -68,7 +77,8 @@ pub fn go_on_by(members: &mut [Member], levels: &[bool], awake: Span)
         → bit_of m.station.node + length levels.now ≤ u64.MAX }
     ensures { AtPlaces (λ k. IfAwake (GoesAsItMay levels.now)) members.old members.new }
 {
-    for place in awake.from..awake.to {
+    let mut left = awake;
+    while let Some(place) = left.take_first() {
         members[place].go_on_by(levels);
     }
 }

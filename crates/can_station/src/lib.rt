@@ -9,11 +9,11 @@ mod going;
 mod kind;
 mod member;
 mod members;
+mod place_set;
 mod plan;
 mod port;
 mod runs;
 mod rx_sink;
-mod span;
 mod station;
 mod tell;
 mod transmission;
@@ -26,9 +26,9 @@ pub use crate::member::{Deed, Member};
 pub use crate::members::{
     driven_by_all, sample_controllers, sample_nodes, start_controllers, start_talkers,
 };
+pub use crate::place_set::PlaceSet;
 pub use crate::plan::{Controller, LineFault, NodeFault, SegmentPlan, Talker};
 pub use crate::rx_sink::RxSink;
-pub use crate::span::Span;
 pub use crate::station::Station;
 pub use crate::tell::{tell_rests, tell_starts};
 pub use crate::transmission::Transmission;

@@ -19,31 +19,32 @@ ghost use Rattle.can_station.specs.declared.member.Member.{Member};
 
 use crate::faults::sampled_level;
 use crate::member::Member;
+use crate::place_set::PlaceSet;
 use crate::plan::{NodeFault, Talker};
 use crate::rx_sink::RxSink;
-use crate::span::Span;
 
 /// The talkers that are awake take their next messages at the start of this bit. Each stands at the place of its plan;
-/// all but those at the places of the span rest, and are left as they are.
-pub fn start_talkers(members: &mut [Member], talkers: &[Talker], bit: u64, awake: Span)
+/// all but those at the places of the set rest, and are left as they are.
+pub fn start_talkers(members: &mut [Member], talkers: &[Talker], bit: u64, awake: PlaceSet)
     requires talkers { length talkers.now ≡ length members.old }
     requires awake { AwakeWithin awake members.old }
     ensures { AtPlaces (λ k. IfAwake (TalkerStarts bit talkers.now k)) members.old members.new }
 {
-    for place in awake.from..awake.to {
+    let mut left = awake;
+    while let Some(place) = left.take_first() {
         members[place].start_talking(bit, talkers[place].frames.as_slice());
     }
 }
 
 /// The controllers that are awake take their next requests at the start of this bit, each from the port at its place,
-/// which transmits what the node sends. All but those at the places of the span rest: they and their ports are left as
+/// which transmits what the node sends. All but those at the places of the set rest: they and their ports are left as
 /// they are.
 pub fn start_controllers<R, P: RxSink<R>>(
     rt: &R,
     members: &mut [Member],
     ports: &mut [P],
     bit: u64,
-    awake: Span,
+    awake: PlaceSet,
 )
     requires size { length ports.old ≡ length members.old }
     requires awake { AwakeWithin awake members.old }
@@ -52,14 +53,15 @@ pub fn start_controllers<R, P: RxSink<R>>(
     ensures { AtBoth (λ k. IfAwakeBoth (PortStarts P.bus_after P.bus_asked P.transmitting P.bus_stays bit))
         members.old members.new ports.old ports.new }
 {
-    for place in awake.from..awake.to {
+    let mut left = awake;
+    while let Some(place) = left.take_first() {
         members[place].start_request(rt, bit, &mut ports[place]);
     }
 }
 
 /// Whether each of these nodes drives recessive, where each that rests drives this level.
 #[inline]
-fn all_recessive(members: &[Member], bit: u64, resting: bool, awake: Span) -> bool
+fn all_recessive(members: &[Member], bit: u64, resting: bool, awake: PlaceSet) -> bool
     requires { AwakeWithin awake members.now }
     ensures { result ≡ list_all (λ m. if m.rests then resting else drives_at bit m) members.now }
 {
@@ -69,7 +71,8 @@ fn all_recessive(members: &[Member], bit: u64, resting: bool, awake: Span) -> bo
             .all(|member| member.drives_beside(bit, resting));
     }
     // those elsewhere rest
-    for place in awake.from..awake.to {
+    let mut left = awake;
+    while let Some(place) = left.take_first() {
         if !members[place].drives_beside(bit, resting) {
             return false;
         }
@@ -78,14 +81,14 @@ fn all_recessive(members: &[Member], bit: u64, resting: bool, awake: Span) -> bo
 }
 
 /// The AND of what talkers and controllers drive at this bit, true being recessive, where each that rests drives this
-/// level. All but those at the places of the spans rest.
+/// level. All but those at the places of the sets rest.
 pub fn driven_by_all(
     talkers: &[Member],
     controllers: &[Member],
     bit: u64,
     resting: bool,
-    awake_talkers: Span,
-    awake_controllers: Span,
+    awake_talkers: PlaceSet,
+    awake_controllers: PlaceSet,
 ) -> bool
     requires talkers { AwakeWithin awake_talkers talkers.now }
     requires controllers { AwakeWithin awake_controllers controllers.now }
@@ -109,7 +112,7 @@ pub fn sample_nodes(
     first: u32,
     bit: u64,
     level: bool,
-    awake: Span,
+    awake: PlaceSet,
 ) -> bool
     requires room { HasRoom u64.MAX bit members.old }
     requires few { first + length members.old ≤ 1000 }
@@ -118,7 +121,8 @@ pub fn sample_nodes(
     ensures quiet { result ≡ false → AwakeAreQuiet bit members.new }
 {
     let mut told = false;
-    for place in awake.from..awake.to {
+    let mut left = awake;
+    while let Some(place) = left.take_first() {
         let own = sampled_level(faults, first + place as u32, bit, level);
         told |= members[place].sample(bit, own);
     }
@@ -131,7 +135,7 @@ fn settle_ports<R, P: RxSink<R>>(
     members: &mut [Member],
     ports: &mut [P],
     bit: u64,
-    awake: Span,
+    awake: PlaceSet,
 )
     requires size { length ports.old ≡ length members.old }
     requires awake { AwakeWithin awake members.old }
@@ -141,7 +145,8 @@ fn settle_ports<R, P: RxSink<R>>(
         bit))
         members.old members.new ports.old ports.new }
 {
-    for place in awake.from..awake.to {
+    let mut left = awake;
+    while let Some(place) = left.take_first() {
         members[place].settle(rt, bit, &mut ports[place]);
     }
 }
@@ -157,7 +162,7 @@ pub fn sample_controllers<R, P: RxSink<R>>(
     first: u32,
     bit: u64,
     level: bool,
-    awake: Span,
+    awake: PlaceSet,
 ) -> bool
     requires size { length ports.old ≡ length members.old }
     requires awake { AwakeWithin awake members.old }
@@ -171,7 +176,7 @@ pub fn sample_controllers<R, P: RxSink<R>>(
     ensures quiet { result ≡ false → AwakeAreQuiet bit members.new }
 {
     // as on most segments: none is there, or all rest
-    if awake.to <= awake.from {
+    if awake.is_empty() {
         return false;
     }
     let told = sample_nodes(members, faults, first, bit, level, awake);

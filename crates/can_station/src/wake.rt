@@ -8,20 +8,21 @@ ghost use Rattle.can_station.specs.declared.member.Member.{Member as MemberValue
 
 use crate::faults::is_inverted;
 use crate::member::Member;
+use crate::place_set::PlaceSet;
 use crate::plan::{NodeFault, Talker};
-use crate::span::Span;
 use can_node::{Listener, SharedSample};
 
 /// Nothing is told any more of what those that are awake did at the last bit, if something may have been. All but those
-/// at the places of the span rest.
-pub fn fall_silent(members: &mut [Member], told: bool, awake: Span)
+/// at the places of the set rest.
+pub fn fall_silent(members: &mut [Member], told: bool, awake: PlaceSet)
     requires { AwakeWithin awake members.old }
     ensures { AtPlaces (λ k. IfAwake MayFallSilent) members.old members.new }
 {
     if !told {
         return;
     }
-    for place in awake.from..awake.to {
+    let mut left = awake;
+    while let Some(place) = left.take_first() {
         members[place].fall_silent();
     }
 }

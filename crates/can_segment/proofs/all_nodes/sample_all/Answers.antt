@@ -8,7 +8,7 @@ use Rattle.can_segment.specs.Rests.{AreResting, members_at}
 use Rattle.can_segment.proofs.Holds.{left_holds, left_rests, none_rests}
 use Rattle.can_segment.proofs.Rests.{all_quiet, controllers_sample, members_length, members_sample, room_real}
 use Rattle.can_segment.proofs.Rests.{transmits_real}
-use Rattle.can_station.proofs.Spans.{whole_within, within_both, within_places}
+use Rattle.can_station.proofs.PlaceSets.{within_both, within_places}
 use Rattle.can_segment.proofs.Woken.{left_both, left_on, left_places}
 use Rattle.can_segment.proofs.all_nodes.sample_all.Goals as goal
 
@@ -89,8 +89,8 @@ returns-clause-rests g c =
     (left_places _ t c.sample_nodes-talkers_told.new.members samples)
     (left_both _ cs c.sample_controllers-controllers_told.new.members c.args.ports.now
     c.sample_controllers-controllers_told.new.ports size settles)
-    (λ span. within_places _ span t c.sample_nodes-talkers_told.new.members samples)
-    (λ span. within_both _ span cs c.sample_controllers-controllers_told.new.members c.args.ports.now
+    (λ set. within_places _ set t c.sample_nodes-talkers_told.new.members samples)
+    (λ set. within_both _ set cs c.sample_controllers-controllers_told.new.members c.args.ports.now
     c.sample_controllers-controllers_told.new.ports size settles)
     c.in_default.ensures.holds
 
@@ -156,8 +156,6 @@ returns-in-Some-clause-controllers g c =
 pub returns-in-Some-clause-rests : goal.returns-in-Some-clause-rests
 returns-in-Some-clause-rests g c =
     let made = c.sample_together.new in
-    let whole = c.sample_together.ensures.whole in
+    let within = c.sample_together.ensures.within in
     none_rests made.rest (c.args.bit + 1) c.args.plan.now made.talkers made.controllers c.sample_together.ensures.few
-    (whole_within made.rest.talkers _ made.talkers whole.0 refl)
-    (whole_within made.rest.controllers _ made.controllers whole.1 refl) c.sample_together.ensures.awake.0
-    c.sample_together.ensures.awake.1
+    within.0 within.1 c.sample_together.ensures.awake.0 c.sample_together.ensures.awake.1

@@ -6,7 +6,7 @@ use Rattle.can_station.specs.RestingNodes.{TransmitsAll}
 use Rattle.can_segment.specs.Rests.{members_at}
 use Rattle.can_segment.proofs.Holds.{left_holds, left_rests}
 use Rattle.can_segment.proofs.Rests.{all_drive, controllers_start, members_length, talkers_start, transmits_real}
-use Rattle.can_station.proofs.Spans.{within_both, within_places}
+use Rattle.can_station.proofs.PlaceSets.{within_both, within_places}
 use Rattle.can_segment.proofs.Woken.{left_both, left_on, left_places}
 use Rattle.can_segment.proofs.all_nodes.start_all.Goals as goal
 
@@ -92,8 +92,8 @@ returns-clause-rests g c =
     (left_places _ c.rouse.new.talkers t c.start_talkers.ensures)
     (left_both _ c.rouse.new.controllers after c.args.ports.now c.start_controllers.new.ports size
     c.start_controllers.ensures)
-    (λ span. within_places _ span c.rouse.new.talkers t c.start_talkers.ensures)
-    (λ span. within_both _ span c.rouse.new.controllers after c.args.ports.now c.start_controllers.new.ports size
+    (λ set. within_places _ set c.rouse.new.talkers t c.start_talkers.ensures)
+    (λ set. within_both _ set c.rouse.new.controllers after c.args.ports.now c.start_controllers.new.ports size
     c.start_controllers.ensures) roused.holds
 
 pub returns-clause-left : goal.returns-clause-left

@@ -8,6 +8,5 @@ loop-place-init c = shown_start c.args.first c.args.members.now c.args.counters.
 
 pub returns-clause-shown : goal.returns-clause-shown
 returns-clause-shown c =
-    shown_end c.args.first c.args.members.now c.args.counters.now.items c.loop-place.counters.items c.args.awake
-    c.loop-place.place (omega (arith, c.loop-place-test.false)) c.requires.awake c.requires.resting
-    c.loop-place.invariant
+    shown_end c.args.first c.args.members.now c.args.counters.now.items c.loop-place.counters.items c.loop-place.left
+    c.in_default.ensures.none.0 c.loop-place.invariant

@@ -14,7 +14,7 @@ returns c =
       rw fine at c.extend_from_slice.ensures.items,
       idle_bits (length c.args.levels.now.items) c.recessive.result.now rest talkers controllers
           c.if-not-rest.false (c.is_idle.ensures c.if-not-is_idle.false)
-          (all_asleep rest.talkers talkers within.talkers_within (c.is_empty.ensures c.if-not-is_empty.false))
+          (all_asleep rest.talkers talkers within.talkers_within (c.is_empty.ensures.none c.if-not-is_empty.false))
           (all_asleep rest.controllers controllers within.controllers_within
-          (c.is_empty-else-not-is_empty.ensures c.if-not-is_empty-2.false)) c.recessive.ensures.recessive,
+          (c.is_empty-else-not-is_empty.ensures.none c.if-not-is_empty-2.false)) c.recessive.ensures.recessive,
     )

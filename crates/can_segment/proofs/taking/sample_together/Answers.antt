@@ -4,7 +4,6 @@ use Rattle.can_station.specs.Faults.{sampled_level}
 use Rattle.can_station.specs.Members.{PortSettles}
 use Rattle.can_station.specs.Places.{AtBoth}
 use Rattle.can_station.specs.RestingNodes.{HasRoom, TransmitsAll}
-use Rattle.can_station.proofs.Spans.{whole_within}
 use Rattle.can_segment.specs.Rests.{members_at}
 use Rattle.can_segment.proofs.Holds.{left_awake}
 use Rattle.can_segment.proofs.Rests.{controllers_sample, room_real, transmits_real}
@@ -21,11 +20,6 @@ share_all-resting_told-requires-clause-room g c =
     completed_room _ c.args.rest.now c.args.bit c.args.talkers.now c.sample_nodes-awake_told.new.members
     (left_places _ c.args.talkers.now c.sample_nodes-awake_told.new.members c.sample_nodes-awake_told.ensures.samples)
     c.requires.resting c.requires.talker_room
-
-pub sample_controllers-controllers_told-requires-clause-awake :
-    goal.sample_controllers-controllers_told-requires-clause-awake
-sample_controllers-controllers_told-requires-clause-awake g c =
-    whole_within c.whole-all.result _ c.wake_all.new.members c.whole-all.ensures refl
 
 pub sample_controllers-controllers_told-requires-clause-room :
     goal.sample_controllers-controllers_told-requires-clause-room

@@ -1,21 +1,33 @@
-use Rattle.std.proofs.Common.{◌≡◌, Some, slice_get, ap, arith, sym, ◌∙◌}
+use Rattle.std.proofs.Common.{◌≡◌, false, arith, Some, ap, sym, ◌∙◌}
 use Rattle.std.proofs.lemmas.Option.{slice_get-get_or}
-use Rattle.can_station.proofs.GoingOn.{going_from, going_step, going_to}
+use Rattle.can_station.specs.RestingNodes.{MayGo}
+use Rattle.can_station.proofs.PlaceSets.{each_end, each_start, each_step}
 use Rattle.can_station.proofs.going.all_go_on.Goals as goal
 
 pub loop-place-init : goal.loop-place-init
-loop-place-init c = going_from c.args.bit c.args.level c.args.members.now c.args.awake c.requires
+loop-place-init c = each_start (λ k m. m.rests ≡ false → MayGo c.args.bit c.args.level m) c.args.members.now
+    c.args.awake c.requires (λ k m is awake. absurd (cc (is, awake)))
+
+pub bounds-members-place : goal.bounds-members-place
+bounds-members-place c = c.loop-place.invariant.within c.in-Some.place c.in-Some.ensures.some.0.has
+
+pub offset_bounds-members-place : goal.offset_bounds-members-place
+offset_bounds-members-place c =
+    let less = c.loop-place.invariant.within c.in-Some.place c.in-Some.ensures.some.0.has in
+    omega (arith, less, c.requires.few)
 
 pub loop-place-preserved : goal.loop-place-preserved
 loop-place-preserved c =
     let members = c.args.members.now in
-    let place = c.loop-place.place in
+    let place = c.in-Some.place in
     let member = c.index-members-place.result in
-    let here : slice_get members place ≡ Some member = slice_get-get_or members place member
-    (omega (arith, c.loop-place-test.true, c.requires.within)) ∙ ap (λ m. Some m) (sym c.index-members-place.is) in
-    going_step c.args.bit c.args.level members place member here (c.holds_up.ensures c.if-holds_up.false)
-    c.loop-place.invariant
+    let less = c.loop-place.invariant.within place c.in-Some.ensures.some.0.has in
+    each_step (λ k m. m.rests ≡ false → MayGo c.args.bit c.args.level m) members c.loop-place.left
+    c.take_first.new.self place member c.in-Some.ensures.some.1
+    (slice_get-get_or members place member less ∙ ap (λ m. Some m) (sym c.index-members-place.is))
+    (c.holds_up.ensures c.if-holds_up.false) c.loop-place.invariant
 
 pub returns : goal.returns
-returns c is = going_to c.args.bit c.args.level c.args.members.now c.args.awake c.loop-place.place
-    (omega (arith, c.loop-place-test.false)) c.requires c.loop-place.invariant
+returns c is =
+    each_end (λ k m. m.rests ≡ false → MayGo c.args.bit c.args.level m) c.args.members.now c.loop-place.left
+    c.in_default.ensures.none.0 c.loop-place.invariant

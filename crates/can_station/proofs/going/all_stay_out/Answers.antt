@@ -1,38 +1,67 @@
-use Rattle.std.proofs.Common.{◌≡◌, ◌≤◌, ◌+◌, Some, take, slice_get, ap, arith, sym, subst, ◌∙◌}
+use Rattle.std.proofs.Common.{◌≡◌, ◌≤◌, Some, take, slice_get, ap, arith, sym, subst, ◌∙◌}
 use Rattle.std.proofs.lemmas.List.{length-take, take-take}
 use Rattle.std.proofs.lemmas.Option.{slice_get-get_or}
-use Rattle.can_station.proofs.GoingBy.{OutBelow, out_passed, out_step, out_to}
+use Rattle.can_station.proofs.GoingBy.{StaysBeside, fewer_beside}
+use Rattle.can_station.proofs.Places.{some_there}
+use Rattle.can_station.proofs.PlaceSets.{EachBut, each_end, each_start, each_step}
 use Rattle.can_station.proofs.going.all_stay_out.Goals.{then-place-but, else-place-but}
 use Rattle.can_station.proofs.going.all_stay_out.Goals as goal
+
+pub loop-place-init : goal.loop-place-init
+loop-place-init c = record {
+  few = omega arith;
+  within = c.requires.within;
+  out = λ some. each_start (StaysBeside c.args.but c.args.bit _) c.args.members.now c.args.awake c.requires
+      (λ k m is not awake. absurd (cc (is, awake)));
+}
+
+pub bounds-members-place : goal.bounds-members-place
+bounds-members-place c = c.loop-place.invariant.within c.in-Some.place c.in-Some.ensures.some.0.has
+
+pub offset_bounds-members-place : goal.offset_bounds-members-place
+offset_bounds-members-place c =
+    let less = c.loop-place.invariant.within c.in-Some.place c.in-Some.ensures.some.0.has in
+    omega (arith, less, c.requires.few)
 
 pub loop-place-preserved : goal.loop-place-preserved
 loop-place-preserved c = elim c.if-place-but.branch [
   | then-place-but w ↦ (let levels = c.args.levels.now in
       let members = c.args.members.now in
-      let place = c.loop-place.place in
+      let place = c.in-Some.place in
       let member = w.index-members-place.result in
       let n = w.stays_out-count.result in
       let before = c.loop-place.invariant in
+      let less = before.within place c.in-Some.ensures.some.0.has in
       let fewer : n ≤ c.loop-place.count =
       omega (arith, w.stays_out-count.ensures.few, length-take c.loop-place.count levels) in
-      let here : slice_get members place ≡ Some member = slice_get-get_or members place member
-      (omega (arith, c.loop-place-test.true, c.requires.within)) ∙ ap (λ m. Some m) (sym w.index-members-place.is) in
+      let here : slice_get members place ≡ Some member = slice_get-get_or members place member less
+      ∙ ap (λ m. Some m) (sym w.index-members-place.is) in
       let same : take n (take c.loop-place.count levels) ≡ take n levels =
       take-take n c.loop-place.count levels fewer in
-      rw w.count-is (
-        omega (arith, fewer, before.0),
-        λ some. subst (λ ls. OutBelow c.args.but c.args.bit ls members (place + 1)) same
-            (out_step c.args.but c.args.bit (take c.loop-place.count levels) members place n member here
-            (w.stays_out-count.ensures.may some) (before.1 (omega (arith, some, fewer)))),
-      ))
-  | else-place-but w ↦ rw w.count-is (
-    c.loop-place.invariant.0,
-    λ some. out_passed c.args.but c.args.bit (take c.loop-place.count c.args.levels.now) c.args.members.now
-        c.loop-place.place (omega (arith, w.if-place-but.false)) (c.loop-place.invariant.1 some),
-  )
+      rw w.count-is (record {
+        few = omega (arith, fewer, before.few);
+        within = λ k still. before.within k (c.in-Some.ensures.some.1.no_others k still);
+        out = λ some. subst (λ ls. EachBut (StaysBeside c.args.but c.args.bit ls) members c.take_first.new.self) same
+            (each_step (StaysBeside c.args.but c.args.bit (take n (take c.loop-place.count levels))) members
+            c.loop-place.left c.take_first.new.self place member c.in-Some.ensures.some.1 here
+            (λ not. w.stays_out-count.ensures.may some)
+            (fewer_beside c.args.but c.args.bit n (take c.loop-place.count levels) members c.loop-place.left
+            (before.out (omega (arith, some, fewer)))));
+      }))
+  | else-place-but w ↦ (let members = c.args.members.now in
+      let place = c.in-Some.place in
+      let before = c.loop-place.invariant in
+      let there = some_there members place (before.within place c.in-Some.ensures.some.0.has) in
+      rw w.count-is (record {
+        few = before.few;
+        within = λ k still. before.within k (c.in-Some.ensures.some.1.no_others k still);
+        out = λ some. each_step (StaysBeside c.args.but c.args.bit (take c.loop-place.count c.args.levels.now)) members
+            c.loop-place.left c.take_first.new.self place there.0 c.in-Some.ensures.some.1 there.1
+            (λ not. absurd (not (omega (arith, w.if-place-but.false)))) (before.out some);
+      }))
 ]
 
 pub returns-clause-off : goal.returns-clause-off
 returns-clause-off c some =
-    out_to c.args.but c.args.bit (take c.loop-place.count c.args.levels.now) c.args.members.now c.args.awake
-    c.loop-place.place (omega (arith, c.loop-place-test.false)) c.requires (c.loop-place.invariant.1 some)
+    each_end (StaysBeside c.args.but c.args.bit (take c.loop-place.count c.args.levels.now)) c.args.members.now
+    c.loop-place.left c.in_default.ensures.none.0 (c.loop-place.invariant.out some)

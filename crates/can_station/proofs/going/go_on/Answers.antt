@@ -1,38 +1,54 @@
 use Rattle.std.proofs.Common.{arith, sym, ◌∙◌}
 use Rattle.std.proofs.lemmas.Option.{slice_get-get_or}
 use Rattle.can_station.specs.RestingNodes.{IfAwake, MemberGoes}
-use Rattle.can_station.proofs.Places.{places_step}
-use Rattle.can_station.proofs.Spans.{places_from, places_to}
+use Rattle.can_station.proofs.Places.{but_end, but_step}
+use Rattle.can_station.proofs.PlaceSets.{but_start}
 use Rattle.can_station.proofs.going.go_on.Goals as goal
 
 pub loop-place-init : goal.loop-place-init
 loop-place-init c =
-    places_from (λ k. MemberGoes c.args.bit c.args.level) c.args.members.now c.args.awake c.requires.awake
+    but_start (λ k. MemberGoes c.args.bit c.args.level) c.args.members.now c.args.awake c.requires.awake
+
+pub bounds-members-place : goal.bounds-members-place
+bounds-members-place c =
+    let less = c.loop-place.invariant.within c.in-Some.place c.in-Some.ensures.some.0.has in
+    omega (arith, less, c.loop-place.invariant.size)
+
+pub offset_bounds-members-place : goal.offset_bounds-members-place
+offset_bounds-members-place c =
+    let less = c.loop-place.invariant.within c.in-Some.place c.in-Some.ensures.some.0.has in
+    omega (arith, less, c.requires.awake.few)
 
 pub go_on-requires-clause-goes : goal.go_on-requires-clause-goes
 go_on-requires-clause-goes c awake =
     let members = c.loop-place.members in
-    let place = c.loop-place.place in
+    let place = c.in-Some.place in
+    let has = c.in-Some.ensures.some.0.has in
+    let less = c.loop-place.invariant.within place has in
     let found = slice_get-get_or members place c.index-members-place.result
-    (omega (arith, c.loop-place-test.true, c.requires.awake.within, c.loop-place.invariant.size)) in
-    c.requires.goes place _ (sym (c.loop-place.invariant.above place (omega arith)) ∙ found) awake
+    (omega (arith, less, c.loop-place.invariant.size)) in
+    c.requires.goes place _ (sym (c.loop-place.invariant.same place has) ∙ found) awake
 
 pub go_on-requires-clause-room : goal.go_on-requires-clause-room
 go_on-requires-clause-room c awake on =
     let members = c.loop-place.members in
-    let place = c.loop-place.place in
+    let place = c.in-Some.place in
+    let has = c.in-Some.ensures.some.0.has in
+    let less = c.loop-place.invariant.within place has in
     let found = slice_get-get_or members place c.index-members-place.result
-    (omega (arith, c.loop-place-test.true, c.requires.awake.within, c.loop-place.invariant.size)) in
-    (c.requires.room place _ (sym (c.loop-place.invariant.above place (omega arith)) ∙ found) awake on).0
+    (omega (arith, less, c.loop-place.invariant.size)) in
+    (c.requires.room place _ (sym (c.loop-place.invariant.same place has) ∙ found) awake on).0
 
 pub loop-place-preserved : goal.loop-place-preserved
 loop-place-preserved c =
     let members = c.loop-place.members in
-    let place = c.loop-place.place in
-    places_step (λ k. IfAwake (MemberGoes c.args.bit c.args.level)) c.args.members.now members place _ c.go_on.new.self
-    (omega (arith, c.loop-place-test.true, c.requires.awake.within))
-    (slice_get-get_or members place c.index-members-place.result
-    (omega (arith, c.loop-place-test.true, c.requires.awake.within, c.loop-place.invariant.size)))
+    let place = c.in-Some.place in
+    let has = c.in-Some.ensures.some.0.has in
+    let less = c.loop-place.invariant.within place has in
+    let found = slice_get-get_or members place c.index-members-place.result
+    (omega (arith, less, c.loop-place.invariant.size)) in
+    but_step (λ k. IfAwake (MemberGoes c.args.bit c.args.level)) c.args.members.now members c.loop-place.left
+    c.take_first.new.self place _ c.go_on.new.self has c.in-Some.ensures.some.1 found
     (record {
       rests_on = c.go_on.ensures.rests;
       stays_awake = λ e. (c.go_on.ensures.goes e).awake_too;
@@ -41,5 +57,6 @@ loop-place-preserved c =
     c.loop-place.invariant
 
 pub returns : goal.returns
-returns c = places_to (λ k. MemberGoes c.args.bit c.args.level) c.args.members.now c.loop-place.members c.args.awake
-    c.loop-place.place (omega (arith, c.loop-place-test.false)) c.requires.awake c.loop-place.invariant
+returns c =
+    but_end (λ k. IfAwake (MemberGoes c.args.bit c.args.level)) c.args.members.now c.loop-place.members
+    c.loop-place.left c.in_default.ensures.none.0 c.loop-place.invariant

@@ -1,18 +1,54 @@
-use Rattle.std.proofs.Common.{arith, ◌∙◌}
+use Rattle.std.proofs.Common.{arith, sym, ◌∙◌}
 use Rattle.std.proofs.lemmas.Option.{slice_get-get_or}
 use Rattle.can_station.specs.RestingNodes.{GoesAsItMay, IfAwake}
-use Rattle.can_station.proofs.Places.{places_step}
-use Rattle.can_station.proofs.Spans.{places_to}
+use Rattle.can_station.proofs.Places.{but_end, but_step}
+use Rattle.can_station.proofs.PlaceSets.{but_start}
 use Rattle.can_station.proofs.going.go_on_by.Goals as goal
+
+pub loop-place-init : goal.loop-place-init
+loop-place-init c =
+    but_start (λ k. GoesAsItMay c.args.levels.now) c.args.members.now c.args.awake c.requires.awake
+
+pub bounds-members-place : goal.bounds-members-place
+bounds-members-place c =
+    let less = c.loop-place.invariant.within c.in-Some.place c.in-Some.ensures.some.0.has in
+    omega (arith, less, c.loop-place.invariant.size)
+
+pub offset_bounds-members-place : goal.offset_bounds-members-place
+offset_bounds-members-place c =
+    let less = c.loop-place.invariant.within c.in-Some.place c.in-Some.ensures.some.0.has in
+    omega (arith, less, c.requires.awake.few)
+
+pub go_on_by-requires-clause-goes : goal.go_on_by-requires-clause-goes
+go_on_by-requires-clause-goes c awake =
+    let members = c.loop-place.members in
+    let place = c.in-Some.place in
+    let has = c.in-Some.ensures.some.0.has in
+    let less = c.loop-place.invariant.within place has in
+    let found = slice_get-get_or members place c.index-members-place.result
+    (omega (arith, less, c.loop-place.invariant.size)) in
+    c.requires.goes place _ (sym (c.loop-place.invariant.same place has) ∙ found) awake
+
+pub go_on_by-requires-clause-room : goal.go_on_by-requires-clause-room
+go_on_by-requires-clause-room c awake =
+    let members = c.loop-place.members in
+    let place = c.in-Some.place in
+    let has = c.in-Some.ensures.some.0.has in
+    let less = c.loop-place.invariant.within place has in
+    let found = slice_get-get_or members place c.index-members-place.result
+    (omega (arith, less, c.loop-place.invariant.size)) in
+    c.requires.room place _ (sym (c.loop-place.invariant.same place has) ∙ found) awake
 
 pub loop-place-preserved : goal.loop-place-preserved
 loop-place-preserved c =
     let members = c.loop-place.members in
-    let place = c.loop-place.place in
-    places_step (λ k. IfAwake (GoesAsItMay c.args.levels.now)) c.args.members.now members place _ c.go_on_by.new.self
-    (omega (arith, c.loop-place-test.true, c.requires.awake.within))
-    (slice_get-get_or members place c.index-members-place.result
-    (omega (arith, c.loop-place-test.true, c.requires.awake.within, c.loop-place.invariant.size)))
+    let place = c.in-Some.place in
+    let has = c.in-Some.ensures.some.0.has in
+    let less = c.loop-place.invariant.within place has in
+    let found = slice_get-get_or members place c.index-members-place.result
+    (omega (arith, less, c.loop-place.invariant.size)) in
+    but_step (λ k. IfAwake (GoesAsItMay c.args.levels.now)) c.args.members.now members c.loop-place.left
+    c.take_first.new.self place _ c.go_on_by.new.self has c.in-Some.ensures.some.1 found
     (record {
       rests_on = c.go_on_by.ensures.rests;
       stays_awake = λ e. c.go_on_by.ensures.awake ∙ e;
@@ -21,5 +57,6 @@ loop-place-preserved c =
     c.loop-place.invariant
 
 pub returns : goal.returns
-returns c = places_to (λ k. GoesAsItMay c.args.levels.now) c.args.members.now c.loop-place.members c.args.awake
-    c.loop-place.place (omega (arith, c.loop-place-test.false)) c.requires.awake c.loop-place.invariant
+returns c =
+    but_end (λ k. IfAwake (GoesAsItMay c.args.levels.now)) c.args.members.now c.loop-place.members
+    c.loop-place.left c.in_default.ensures.none.0 c.loop-place.invariant

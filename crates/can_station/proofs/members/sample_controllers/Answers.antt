@@ -1,21 +1,21 @@
-use Rattle.std.proofs.Common.{◌+◌, arith, refl}
+use Rattle.std.proofs.Common.{◌+◌, arith}
 use Rattle.std.proofs.lemmas.Option.{slice_get_within}
 use Rattle.can_station.specs.Faults.{sampled_level}
-use Rattle.can_station.proofs.Places.{some_there}
-use Rattle.can_station.proofs.Spans.{both_from, both_to, quiet_from, quiet_to, within_places}
+use Rattle.can_station.proofs.Places.{both_end, some_there}
+use Rattle.can_station.proofs.PlaceSets.{both_start, rests_outside, within_places}
 use Rattle.can_station.proofs.Settles.{quiet_both, settles_both, unsettled_awake}
 use Rattle.can_station.proofs.members.sample_controllers.Goals as goal
 
-pub returns-then-awake-clause-settles : goal.returns-then-awake-clause-settles
-returns-then-awake-clause-settles g c =
-    both_to _ c.args.members.now c.args.members.now c.args.ports.now c.args.ports.now c.args.awake c.args.awake.from
-    c.if-awake.true c.requires.awake (both_from _ c.args.members.now c.args.ports.now c.args.awake c.requires.awake)
+pub returns-then-is_empty-clause-settles : goal.returns-then-is_empty-clause-settles
+returns-then-is_empty-clause-settles g c =
+    both_end _ c.args.members.now c.args.members.now c.args.ports.now c.args.ports.now c.args.awake
+    (c.is_empty.ensures.none c.if-is_empty.true)
+    (both_start _ c.args.members.now c.args.ports.now c.args.awake c.requires.awake)
 
-pub returns-then-awake-clause-quiet : goal.returns-then-awake-clause-quiet
-returns-then-awake-clause-quiet g c none =
-    let members = c.args.members.now in
-    quiet_to c.args.bit members members c.args.awake c.args.awake.from c.if-awake.true c.requires.awake
-    (λ k behind. refl) (quiet_from c.args.bit members c.args.awake c.requires.awake)
+pub returns-then-is_empty-clause-quiet : goal.returns-then-is_empty-clause-quiet
+returns-then-is_empty-clause-quiet g c none k m e awake =
+    absurd (let rests = rests_outside c.args.awake c.args.members.now k m c.requires.awake e
+    (c.is_empty.ensures.none c.if-is_empty.true k) in cc (rests, awake))
 
 pub settle_ports-requires-clause-awake : goal.settle_ports-requires-clause-awake
 settle_ports-requires-clause-awake g c = within_places _ c.args.awake c.args.members.now c.sample_nodes-told.new.members

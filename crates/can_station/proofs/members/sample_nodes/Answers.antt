@@ -1,30 +1,44 @@
-use Rattle.std.proofs.Common.{arith, ◌∙◌}
+use Rattle.std.proofs.Common.{◌≡◌, ◌≤◌, false, arith, ◌∙◌}
 use Rattle.std.proofs.lemmas.Bool.{or_parts}
 use Rattle.std.proofs.lemmas.Option.{slice_get-get_or}
-use Rattle.can_station.proofs.Places.{places_step}
-use Rattle.can_station.proofs.Spans.{places_from, places_to, quiet_from, quiet_to, quiet_step}
+use Rattle.can_station.proofs.Places.{but_end, but_step}
+use Rattle.can_station.proofs.PlaceSets.{but_start, each_end, each_set, each_start}
+use Rattle.can_station.specs.Deeds.{IsQuiet}
 use Rattle.can_station.specs.Members.{NodeSamples}
 use Rattle.can_station.specs.RestingNodes.{IfAwake}
 use Rattle.can_station.proofs.members.sample_nodes.Goals as goal
 
 pub loop-place-init : goal.loop-place-init
 loop-place-init c = record {
-  samples = places_from (NodeSamples c.args.first c.args.bit c.args.level c.args.faults.now) c.args.members.now
+  samples = but_start (NodeSamples c.args.first c.args.bit c.args.level c.args.faults.now) c.args.members.now
       c.args.awake c.requires.awake;
-  quiet = λ e. quiet_from c.args.bit c.args.members.now c.args.awake c.requires.awake;
+  quiet = λ e. each_start (λ k m. m.rests ≡ false → m.on ≤ c.args.bit → IsQuiet m.deed) c.args.members.now
+      c.args.awake c.requires.awake (λ k m is awake on. absurd (cc (is, awake)));
 }
+
+pub bounds-members-place : goal.bounds-members-place
+bounds-members-place c =
+    let less = c.loop-place.invariant.samples.within c.in-Some.place c.in-Some.ensures.some.0.has in
+    omega (arith, less, c.loop-place.invariant.samples.size)
+
+pub offset_bounds-members-place : goal.offset_bounds-members-place
+offset_bounds-members-place c =
+    let less = c.loop-place.invariant.samples.within c.in-Some.place c.in-Some.ensures.some.0.has in
+    omega (arith, less, c.requires.awake.few)
 
 pub loop-place-preserved : goal.loop-place-preserved
 loop-place-preserved c =
     let members = c.loop-place.members in
-    let place = c.loop-place.place in
-    let sample = c.sample-told.ensures in
+    let place = c.in-Some.place in
+    let has = c.in-Some.ensures.some.0.has in
+    let less = c.loop-place.invariant.samples.within place has in
     let found = slice_get-get_or members place c.index-members-place.result
-    (omega (arith, c.loop-place-test.true, c.requires.awake.within, c.loop-place.invariant.samples.size)) in
+    (omega (arith, less, c.loop-place.invariant.samples.size)) in
+    let sample = c.sample-told.ensures in
     record {
-      samples = places_step (λ k. IfAwake (NodeSamples c.args.first c.args.bit c.args.level c.args.faults.now k))
-          c.args.members.now members place _ c.sample-told.new.self
-          (omega (arith, c.loop-place-test.true, c.requires.awake.within)) found
+      samples = but_step (λ k. IfAwake (NodeSamples c.args.first c.args.bit c.args.level c.args.faults.now k))
+          c.args.members.now members c.loop-place.left c.take_first.new.self place _ c.sample-told.new.self has
+          c.in-Some.ensures.some.1 found
           (record {
             rests_on = sample.rests;
             stays_awake = λ e. sample.awake ∙ e;
@@ -32,19 +46,18 @@ loop-place-preserved c =
           })
           c.loop-place.invariant.samples;
       quiet = λ e. let none = or_parts c.loop-place.told c.sample-told.result e in
-          quiet_step c.args.bit members place c.sample-told.new.self
-          (omega (arith, c.loop-place-test.true, c.requires.awake.within, c.loop-place.invariant.samples.size))
+          each_set (λ k m. m.rests ≡ false → m.on ≤ c.args.bit → IsQuiet m.deed) members c.loop-place.left
+          c.take_first.new.self place c.sample-told.new.self c.in-Some.ensures.some.1
+          (omega (arith, less, c.loop-place.invariant.samples.size))
           (sample.quiet none.1) (c.loop-place.invariant.quiet none.0);
     }
 
 pub returns-clause-samples : goal.returns-clause-samples
 returns-clause-samples c =
-    places_to (NodeSamples c.args.first c.args.bit c.args.level c.args.faults.now) c.args.members.now
-    c.loop-place.members c.args.awake c.loop-place.place (omega (arith, c.loop-place-test.false)) c.requires.awake
-    c.loop-place.invariant.samples
+    but_end (λ k. IfAwake (NodeSamples c.args.first c.args.bit c.args.level c.args.faults.now k)) c.args.members.now
+    c.loop-place.members c.loop-place.left c.in_default.ensures.none.0 c.loop-place.invariant.samples
 
 pub returns-clause-quiet : goal.returns-clause-quiet
 returns-clause-quiet c e =
-    quiet_to c.args.bit c.args.members.now c.loop-place.members c.args.awake c.loop-place.place
-    (omega (arith, c.loop-place-test.false)) c.requires.awake c.loop-place.invariant.samples.above
-    (c.loop-place.invariant.quiet e)
+    each_end (λ k m. m.rests ≡ false → m.on ≤ c.args.bit → IsQuiet m.deed) c.loop-place.members c.loop-place.left
+    c.in_default.ensures.none.0 (c.loop-place.invariant.quiet e)

@@ -1,37 +1,47 @@
 use Rattle.std.proofs.Common.{arith, ◌∙◌}
 use Rattle.std.proofs.lemmas.Option.{slice_get-get_or}
-use Rattle.can_station.proofs.Places.{both_step}
-use Rattle.can_station.proofs.Spans.{both_from, both_to}
+use Rattle.can_station.proofs.Places.{both_end, both_step}
+use Rattle.can_station.proofs.PlaceSets.{both_start}
 use Rattle.can_station.specs.Members.{PortStarts}
 use Rattle.can_station.specs.RestingNodes.{IfAwakeBoth}
 use Rattle.can_station.proofs.members.start_controllers.Goals as goal
 
 pub loop-place-init : goal.loop-place-init
 loop-place-init g c =
-    both_from (λ k. PortStarts g.P.TxBus.bus_after g.P.TxBus.bus_asked g.P.TxBus.transmitting g.P.TxBus.bus_stays
+    both_start (λ k. PortStarts g.P.TxBus.bus_after g.P.TxBus.bus_asked g.P.TxBus.transmitting g.P.TxBus.bus_stays
     c.args.bit) c.args.members.now c.args.ports.now c.args.awake c.requires.awake
+
+pub bounds-members-place : goal.bounds-members-place
+bounds-members-place g c =
+    let less = c.loop-place.invariant.within c.in-Some.place c.in-Some.ensures.some.0.has in
+    omega (arith, less, c.loop-place.invariant.size)
+
+pub offset_bounds-members-place : goal.offset_bounds-members-place
+offset_bounds-members-place g c =
+    let less = c.loop-place.invariant.within c.in-Some.place c.in-Some.ensures.some.0.has in
+    omega (arith, less, c.requires.awake.few)
+
+pub bounds-ports-place : goal.bounds-ports-place
+bounds-ports-place g c =
+    let less = c.loop-place.invariant.within c.in-Some.place c.in-Some.ensures.some.0.has in
+    omega (arith, less, c.loop-place.invariant.size_too, c.requires.size)
 
 pub loop-place-preserved : goal.loop-place-preserved
 loop-place-preserved g c =
     let members = c.loop-place.members in
     let ports = c.loop-place.ports in
-    let place = c.loop-place.place in
+    let place = c.in-Some.place in
+    let has = c.in-Some.ensures.some.0.has in
+    let less = c.loop-place.invariant.within place has in
+    let found = slice_get-get_or members place c.index-members-place.result
+    (omega (arith, less, c.loop-place.invariant.size)) in
+    let there = slice_get-get_or ports place c.index-ports-place.result
+    (omega (arith, less, c.loop-place.invariant.size_too, c.requires.size)) in
     let start = c.start_request.ensures in
     both_step
     (λ k. IfAwakeBoth (PortStarts g.P.TxBus.bus_after g.P.TxBus.bus_asked g.P.TxBus.transmitting g.P.TxBus.bus_stays
-    c.args.bit)) c.args.members.now members c.args.ports.now ports place
-    _ c.start_request.new.self _ c.start_request.new.port
-    (omega (arith, c.loop-place-test.true, c.requires.awake.within)) c.requires.size
-    (slice_get-get_or members place c.index-members-place.result
-    (omega (arith, c.loop-place-test.true, c.requires.awake.within, c.loop-place.invariant.size)))
-    (slice_get-get_or ports place c.index-ports-place.result
-    (omega (
-      arith,
-      c.loop-place-test.true,
-      c.requires.awake.within,
-      c.loop-place.invariant.size_too,
-      c.requires.size,
-    )))
+    c.args.bit)) c.args.members.now members c.args.ports.now ports c.loop-place.left c.take_first.new.self place
+    _ c.start_request.new.self _ c.start_request.new.port c.requires.size has c.in-Some.ensures.some.1 found there
     (record {
       rests_on = start.rests;
       stays_awake = λ e. start.awake ∙ e;
@@ -47,7 +57,6 @@ loop-place-preserved g c =
 
 pub returns : goal.returns
 returns g c =
-    both_to (λ k. PortStarts g.P.TxBus.bus_after g.P.TxBus.bus_asked g.P.TxBus.transmitting g.P.TxBus.bus_stays
-    c.args.bit) c.args.members.now c.loop-place.members c.args.ports.now c.loop-place.ports c.args.awake
-    c.loop-place.place
-    (omega (arith, c.loop-place-test.false)) c.requires.awake c.loop-place.invariant
+    both_end (λ k. IfAwakeBoth (PortStarts g.P.TxBus.bus_after g.P.TxBus.bus_asked g.P.TxBus.transmitting g.P.TxBus.bus_stays
+    c.args.bit)) c.args.members.now c.loop-place.members c.args.ports.now c.loop-place.ports
+    c.loop-place.left c.in_default.ensures.none.0 c.loop-place.invariant

@@ -1,33 +1,54 @@
 use Rattle.std.proofs.Common.{get_or, arith, sym, ◌∙◌, subst}
 use Rattle.std.proofs.lemmas.Option.{slice_get-get_or}
-use Rattle.can_station.proofs.Places.{places_step, same_some}
-use Rattle.can_station.proofs.Spans.{places_from, places_to}
+use Rattle.can_station.proofs.Places.{but_end, but_step, same_some}
+use Rattle.can_station.proofs.PlaceSets.{but_start}
 use Rattle.can_station.specs.Members.{TalkerStarts, StartsTalking}
 use Rattle.can_station.specs.RestingNodes.{IfAwake}
 use Rattle.can_station.proofs.members.start_talkers.Goals as goal
 
 pub loop-place-init : goal.loop-place-init
 loop-place-init c =
-    places_from (TalkerStarts c.args.bit c.args.talkers.now) c.args.members.now c.args.awake c.requires.awake
+    but_start (TalkerStarts c.args.bit c.args.talkers.now) c.args.members.now c.args.awake c.requires.awake
+
+pub bounds-members-place : goal.bounds-members-place
+bounds-members-place c =
+    let less = c.loop-place.invariant.within c.in-Some.place c.in-Some.ensures.some.0.has in
+    omega (arith, less, c.loop-place.invariant.size)
+
+pub offset_bounds-members-place : goal.offset_bounds-members-place
+offset_bounds-members-place c =
+    let less = c.loop-place.invariant.within c.in-Some.place c.in-Some.ensures.some.0.has in
+    omega (arith, less, c.requires.awake.few)
+
+pub bounds-talkers-place : goal.bounds-talkers-place
+bounds-talkers-place c =
+    let less = c.loop-place.invariant.within c.in-Some.place c.in-Some.ensures.some.0.has in
+    omega (arith, less, c.requires.talkers)
+
+pub offset_bounds-talkers-place : goal.offset_bounds-talkers-place
+offset_bounds-talkers-place c =
+    let less = c.loop-place.invariant.within c.in-Some.place c.in-Some.ensures.some.0.has in
+    omega (arith, less, c.requires.awake.few)
 
 pub loop-place-preserved : goal.loop-place-preserved
 loop-place-preserved c =
     let members = c.loop-place.members in
-    let place = c.loop-place.place in
+    let place = c.in-Some.place in
+    let has = c.in-Some.ensures.some.0.has in
+    let less = c.loop-place.invariant.within place has in
+    let found = slice_get-get_or members place c.index-members-place.result
+    (omega (arith, less, c.loop-place.invariant.size)) in
     let old = get_or members place c.index-members-place.result in
     let talker = get_or c.args.talkers.now place c.index-talkers-place.result in
-    places_step (λ k. IfAwake (TalkerStarts c.args.bit c.args.talkers.now k)) c.args.members.now members place old
-    c.start_talking.new.self
-    (omega (arith, c.loop-place-test.true, c.requires.awake.within))
-    (slice_get-get_or members place c.index-members-place.result
-    (omega (arith, c.loop-place-test.true, c.requires.awake.within, c.loop-place.invariant.size)))
+    but_step (λ k. IfAwake (TalkerStarts c.args.bit c.args.talkers.now k)) c.args.members.now members c.loop-place.left
+    c.take_first.new.self place old c.start_talking.new.self has c.in-Some.ensures.some.1 found
     (record {
       rests_on = c.start_talking.ensures.rests;
       stays_awake = λ e. c.start_talking.ensures.awake ∙ e;
       steps = λ e t is.
           let same = same_some talker t
           (sym (slice_get-get_or c.args.talkers.now place c.index-talkers-place.result
-          (omega (arith, c.loop-place-test.true, c.requires.awake.within, c.requires.talkers))) ∙ is) in
+          (omega (arith, less, c.requires.talkers))) ∙ is) in
           let starts = c.start_talking.ensures.starts e in
           subst (λ x. StartsTalking c.args.bit old c.start_talking.new.self x.frames.items) same
           (rw c.as_slice.ensures.value at starts);
@@ -36,5 +57,5 @@ loop-place-preserved c =
 
 pub returns : goal.returns
 returns c =
-    places_to (TalkerStarts c.args.bit c.args.talkers.now) c.args.members.now c.loop-place.members c.args.awake
-    c.loop-place.place (omega (arith, c.loop-place-test.false)) c.requires.awake c.loop-place.invariant
+    but_end (λ k. IfAwake (TalkerStarts c.args.bit c.args.talkers.now k)) c.args.members.now c.loop-place.members
+    c.loop-place.left c.in_default.ensures.none.0 c.loop-place.invariant

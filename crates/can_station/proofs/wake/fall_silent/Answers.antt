@@ -1,8 +1,8 @@
 use Rattle.std.proofs.Common.{arith, inl, refl, sym, ap, ◌∙◌}
 use Rattle.std.proofs.lemmas.Option.{slice_get-get_or}
 use Rattle.can_station.specs.RestingNodes.{IfAwake, MayFallSilent}
-use Rattle.can_station.proofs.Places.{places_step, same_some}
-use Rattle.can_station.proofs.Spans.{places_from, places_to}
+use Rattle.can_station.proofs.Places.{but_end, but_step, same_some}
+use Rattle.can_station.proofs.PlaceSets.{but_start}
 use Rattle.can_station.proofs.wake.fall_silent.Goals as goal
 
 pub returns-then-not-told : goal.returns-then-not-told
@@ -13,16 +13,28 @@ returns-then-not-told c = record {
 }
 
 pub loop-place-init : goal.loop-place-init
-loop-place-init c = places_from (λ k. MayFallSilent) c.args.members.now c.args.awake c.requires
+loop-place-init c = but_start (λ k. MayFallSilent) c.args.members.now c.args.awake c.requires
+
+pub bounds-members-place : goal.bounds-members-place
+bounds-members-place c =
+    let less = c.loop-place.invariant.within c.in-Some.place c.in-Some.ensures.some.0.has in
+    omega (arith, less, c.loop-place.invariant.size)
+
+pub offset_bounds-members-place : goal.offset_bounds-members-place
+offset_bounds-members-place c =
+    let less = c.loop-place.invariant.within c.in-Some.place c.in-Some.ensures.some.0.has in
+    omega (arith, less, c.requires.few)
 
 pub loop-place-preserved : goal.loop-place-preserved
 loop-place-preserved c =
     let members = c.loop-place.members in
-    let place = c.loop-place.place in
-    places_step (λ k. IfAwake MayFallSilent) c.args.members.now members place _ c.fall_silent.new.self
-    (omega (arith, c.loop-place-test.true, c.requires.within))
-    (slice_get-get_or members place c.index-members-place.result
-    (omega (arith, c.loop-place-test.true, c.requires.within, c.loop-place.invariant.size)))
+    let place = c.in-Some.place in
+    let has = c.in-Some.ensures.some.0.has in
+    let less = c.loop-place.invariant.within place has in
+    let found = slice_get-get_or members place c.index-members-place.result
+    (omega (arith, less, c.loop-place.invariant.size)) in
+    but_step (λ k. IfAwake MayFallSilent) c.args.members.now members c.loop-place.left c.take_first.new.self place _
+    c.fall_silent.new.self has c.in-Some.ensures.some.1 found
     (record {
       rests_on = c.fall_silent.ensures.rests;
       stays_awake = λ e. c.fall_silent.ensures.awake ∙ e;
@@ -31,5 +43,5 @@ loop-place-preserved c =
     c.loop-place.invariant
 
 pub returns : goal.returns
-returns c = places_to (λ k. MayFallSilent) c.args.members.now c.loop-place.members c.args.awake c.loop-place.place
-    (omega (arith, c.loop-place-test.false)) c.requires c.loop-place.invariant
+returns c = but_end (λ k. IfAwake MayFallSilent) c.args.members.now c.loop-place.members c.loop-place.left
+    c.in_default.ensures.none.0 c.loop-place.invariant

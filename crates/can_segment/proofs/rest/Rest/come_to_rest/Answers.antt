@@ -1,6 +1,6 @@
 use Rattle.std.proofs.Common.{arith}
 use Rattle.can_station.specs.RestingNodes.{MayFallSilent}
-use Rattle.can_station.proofs.Spans.{within_places}
+use Rattle.can_station.proofs.PlaceSets.{within_places}
 use Rattle.can_segment.specs.Rests.{members_at}
 use Rattle.can_segment.proofs.ComesToRest.{all_alike_on, all_silent}
 use Rattle.can_segment.proofs.Holds.{left_holds}
@@ -19,8 +19,8 @@ lull_alike-requires-clause-holds c =
     left_holds c.args.self.now c.args.bit c.args.plan.now t0 t1 c0 c1
     (left_places (λ k. MayFallSilent) t0 t1 c.fall_silent.ensures)
     (left_places (λ k. MayFallSilent) c0 c1 c.fall_silent-2.ensures)
-    (λ span. within_places (λ k. MayFallSilent) span t0 t1 c.fall_silent.ensures)
-    (λ span. within_places (λ k. MayFallSilent) span c0 c1 c.fall_silent-2.ensures) c.requires.holds
+    (λ set. within_places (λ k. MayFallSilent) set t0 t1 c.fall_silent.ensures)
+    (λ set. within_places (λ k. MayFallSilent) set c0 c1 c.fall_silent-2.ensures) c.requires.holds
 
 pub returns-else-self : goal.returns-else-self
 returns-else-self c =

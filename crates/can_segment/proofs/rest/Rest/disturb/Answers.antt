@@ -1,7 +1,6 @@
 use Rattle.std.proofs.Common.{map, refl, ap, ◌∙◌}
 use Rattle.can_station.specs.RestingNodes.{WakesDisturbed, woken}
 use Rattle.can_segment.proofs.Holds.{woken_holds}
-use Rattle.can_station.proofs.Spans.{whole_within}
 use Rattle.can_segment.proofs.Woken.{wakes_left, wakes_same}
 use Rattle.can_station.proofs.Wakes.{undisturbed_at}
 use Rattle.can_segment.proofs.rest.Rest.disturb.Goals as goal
@@ -35,9 +34,7 @@ returns-clause-holds c =
     woken_holds c.args.self.now c.look_everywhere.new.self c.args.bit c.args.plan.now c.args.talkers.now
     c.wake_disturbed.new.members c.args.controllers.now c.wake_disturbed-2.new.members everywhere.same
     everywhere.few
-    (whole_within c.look_everywhere.new.self.talkers _ c.wake_disturbed.new.members everywhere.talkers refl)
-    (whole_within c.look_everywhere.new.self.controllers _ c.wake_disturbed-2.new.members everywhere.controllers
-    refl) left.0 left.1
+    everywhere.talkers everywhere.controllers left.0 left.1
     c.requires.holds
 
 pub returns-clause-talkers_undisturbed : goal.returns-clause-talkers_undisturbed

@@ -27,20 +27,20 @@ returns-then-not-self c =
         controllers_rest = chosen_rests old new bit controllers chosen held.controllers_rest;
         talkers_spent = chosen_spent old new bit c.args.plan.now talkers chosen held.talkers_rest held.talkers_spent;
         controllers_awake = chosen_awake old new bit controllers chosen held.controllers_rest held.controllers_awake;
-        talkers_within = subst (λ span. AwakeWithin span talkers) (sym chosen.talkers_is) held.talkers_within;
+        talkers_within = subst (λ set. AwakeWithin set talkers) (sym chosen.talkers_is) held.talkers_within;
         controllers_within =
-            subst (λ span. AwakeWithin span controllers) (sym chosen.controllers_is) held.controllers_within;
+            subst (λ set. AwakeWithin set controllers) (sym chosen.controllers_is) held.controllers_within;
         few_are = λ few. absurd (cc (few, many));
       };
     }
 
 pub lull_talkers-awake-requires-clause-within : goal.lull_talkers-awake-requires-clause-within
-lull_talkers-awake-requires-clause-within c = subst (λ span. AwakeWithin span c.args.talkers.now)
+lull_talkers-awake-requires-clause-within c = subst (λ set. AwakeWithin set c.args.talkers.now)
     (sym c.choose.ensures.talkers_is) c.requires.holds.talkers_within
 
 pub lull_controllers-awake_too-requires-clause-within : goal.lull_controllers-awake_too-requires-clause-within
 lull_controllers-awake_too-requires-clause-within c =
-    subst (λ span. AwakeWithin span c.args.controllers.now)
+    subst (λ set. AwakeWithin set c.args.controllers.now)
     (sym (c.lull_talkers-awake.ensures.less.controllers_is ∙ c.choose.ensures.controllers_is))
     c.requires.holds.controllers_within
 
@@ -84,10 +84,10 @@ settle-requires c =
         controllers_rest = c.lull_controllers-awake_too.ensures.rests;
         talkers_spent = λ s. c.lull_talkers-awake.ensures.spent (c.lull_controllers-awake_too.ensures.less.spends s);
         controllers_awake = c.lull_controllers-awake_too.ensures.spent;
-        talkers_within = subst (λ span. AwakeWithin span c.lull_talkers-awake.new.members) (sym talkers_is)
+        talkers_within = subst (λ set. AwakeWithin set c.lull_talkers-awake.new.members) (sym talkers_is)
             (lain_within c.choose.new.self.listener c.args.bit c.args.talkers.now c.lull_talkers-awake.new.members
             c.args.self.now.talkers c.lull_talkers-awake.ensures.lie c.requires.holds.talkers_within);
-        controllers_within = subst (λ span. AwakeWithin span c.lull_controllers-awake_too.new.members) (sym
+        controllers_within = subst (λ set. AwakeWithin set c.lull_controllers-awake_too.new.members) (sym
             controllers_is)
             (lain_within c.lull_talkers-awake.new.self.listener c.args.bit c.args.controllers.now
             c.lull_controllers-awake_too.new.members c.args.self.now.controllers

@@ -1,11 +1,13 @@
-use Rattle.can_station.proofs.Spans.{AwakeBelow}
 use Rattle.can_segment.specs.Rests.{AreSpent}
-use Rattle.can_segment.proofs.ComesToRest.{LullsBelow}
+use Rattle.can_segment.proofs.ComesToRest.{CountedBut, LullsBut}
 use Rattle.can_segment.proofs.rest.Rest.lull_talkers.Given as goal
 
 abbrev pub invariant-loop-place : goal.invariant-loop-place
 invariant-loop-place l = record {
-  lulls : LullsBelow l.initial.self l.self l.bit l.initial.members l.members l.place;
+  lulls : LullsBut l.initial.self l.self l.bit l.initial.members l.members l.left;
   spent : AreSpent l.self l.plan l.members;
-  within : AwakeBelow l.awake.span l.members l.place;
+  counted : CountedBut l.awake.places l.members l.left;
 }
+
+abbrev pub decreases-loop-place : goal.decreases-loop-place
+decreases-loop-place l = l.left.bits

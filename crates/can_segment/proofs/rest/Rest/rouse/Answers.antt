@@ -1,7 +1,6 @@
 use Rattle.std.proofs.Common.{map, inr, refl, ap, ◌∙◌}
 use Rattle.can_station.specs.RestingNodes.{WakesUnspent, woken}
 use Rattle.can_segment.proofs.Holds.{same_rests}
-use Rattle.can_station.proofs.Spans.{whole_within}
 use Rattle.can_segment.proofs.Woken.{all_woken, wakes_left, wakes_same}
 use Rattle.can_station.proofs.Wakes.{unspent_at}
 use Rattle.can_segment.proofs.rest.Rest.rouse.Goals as goal
@@ -50,9 +49,7 @@ returns-clause-holds c =
       talkers_spent = λ s k m talker e f is. unspent_at c.args.self.now.listener c.args.bit c.args.plan.now
           c.args.talkers.now c.wake_unspent.new.members c.wake_unspent.ensures k m talker e f is;
       controllers_awake = λ s. awake;
-      talkers_within =
-          whole_within c.look_everywhere.new.self.talkers _ c.wake_unspent.new.members everywhere.talkers refl;
-      controllers_within =
-          whole_within c.look_everywhere.new.self.controllers _ c.wake_all.new.members everywhere.controllers refl;
+      talkers_within = everywhere.talkers;
+      controllers_within = everywhere.controllers;
       few_are = λ few. absurd (cc (few, many));
     }

@@ -1,5 +1,6 @@
-use Rattle.std.proofs.Common.{refl, rules}
+use Rattle.std.proofs.Common.{refl, sym, ◌∙◌}
 use Rattle.can_segment.proofs.Holds.{same_holds}
+use Rattle.can_segment.proofs.rest.Rest.settle.Goals.{then-has_one_at_most, else-has_one_at_most}
 use Rattle.can_segment.proofs.rest.Rest.settle.Goals as goal
 
 pub wake-requires : goal.wake-requires
@@ -38,5 +39,11 @@ returns-clause-holds c =
       controllers_awake = held.controllers_awake;
       talkers_within = c.requires.talkers;
       controllers_within = c.requires.controllers;
-      few_are = λ few. search rules;
+      few_are = λ few. elim c.if-has_one_at_most.branch [
+        | then-has_one_at_most w ↦ record {
+          talkers = c.has_one_at_most.ensures.one w.if-has_one_at_most.true;
+          controllers = w.has_one_at_most-self.ensures.one (sym w.self-is ∙ few);
+        }
+        | else-has_one_at_most w ↦ absurd (let not = w.self-is in cc (not, few))
+      ];
     }

@@ -1,7 +1,6 @@
 use Rattle.std.proofs.Common.{rules, map, inr, refl, ap, ◌∙◌}
 use Rattle.can_segment.proofs.Holds.{none_rests, none_rests_on, not_resting}
 use Rattle.can_station.specs.RestingNodes.{woken}
-use Rattle.can_station.proofs.Spans.{whole_within}
 use Rattle.can_segment.proofs.Woken.{all_woken, wakes_same}
 use Rattle.can_segment.proofs.rest.Rest.wake.Goals as goal
 
@@ -43,7 +42,5 @@ returns-clause-controllers_awake c =
 pub returns-clause-holds : goal.returns-clause-holds
 returns-clause-holds c next = none_rests c.look_everywhere.new.self next c.args.plan.now c.wake_all.new.members
     c.wake_all-2.new.members c.look_everywhere.ensures.few
-    (whole_within c.look_everywhere.new.self.talkers _ c.wake_all.new.members c.look_everywhere.ensures.talkers refl)
-    (whole_within c.look_everywhere.new.self.controllers _ c.wake_all-2.new.members
-    c.look_everywhere.ensures.controllers refl) (returns-clause-talkers_awake c)
+    c.look_everywhere.ensures.talkers c.look_everywhere.ensures.controllers (returns-clause-talkers_awake c)
     (returns-clause-controllers_awake c)

@@ -8,20 +8,19 @@ use Rattle.can_segment.specs.Rests.{members_at}
 use Rattle.can_segment.specs.Segments.{SegmentHolds}
 use Rattle.can_segment.proofs.Fresh.{fresh_awake, fresh_shown, kept_fresh, idle_fresh}
 use Rattle.can_segment.proofs.Holds.{none_rests}
-use Rattle.can_station.proofs.Spans.{whole_within}
 use Rattle.can_segment.proofs.Woken.{none_resting}
 use Rattle.can_segment.proofs.Wholes.{holds_awake}
 use Rattle.can_segment.proofs.segment.Segment.open.Goals as goal
 
 pub show_all-requires-clause-talkers : goal.show_all-requires-clause-talkers
 show_all-requires-clause-talkers c =
-    rw c.as_slice-3.ensures.value
+    rw c.as_slice-5.ensures.value
     (fresh_shown (λ talker. talker.on) c.args.plan.talkers.items 0 c.in_ok-talkers.talkers.items
     c.in_ok-counters.counters.items (rw c.as_slice.ensures.value at c.in_ok-talkers.ensures))
 
 pub show_all-requires-clause-controllers : goal.show_all-requires-clause-controllers
 show_all-requires-clause-controllers c =
-    rw c.as_slice-4.ensures.value
+    rw c.as_slice-6.ensures.value
     (fresh_shown (λ controller. controller.on) c.args.plan.controllers.items _ c.in_ok-controllers.controllers.items
     c.in_ok-counters.counters.items (rw c.as_slice-2.ensures.value at c.in_ok-controllers.ensures))
 
@@ -41,9 +40,9 @@ invariant_of-result c =
     let held : SegmentHolds c.args.plan made talkers controllers = record {
       kept = rw (c.new-2.ensures.items, c.new-3.ensures.items) kept;
       few = omega (arith, c.requires, kept.stands.talkers_size, kept.stands.controllers_size);
-      size = rw (c.as_slice-3.ensures.value, c.as_slice-4.ensures.value) at c.show_all.ensures.size;
-      talkers_shown = rw c.as_slice-3.ensures.value at c.show_all.ensures.talkers;
-      controllers_shown = rw (c.as_slice-3.ensures.value, c.as_slice-4.ensures.value) at c.show_all.ensures.controllers;
+      size = rw (c.as_slice-5.ensures.value, c.as_slice-6.ensures.value) at c.show_all.ensures.size;
+      talkers_shown = rw c.as_slice-5.ensures.value at c.show_all.ensures.talkers;
+      controllers_shown = rw (c.as_slice-5.ensures.value, c.as_slice-6.ensures.value) at c.show_all.ensures.controllers;
     } in (
       holds_awake c.args.plan made c.none-rest.result (length made.levels.items) talkers controllers awake awake_too
           held,
@@ -51,8 +50,7 @@ invariant_of-result c =
           c.in_ok-faults.ensures,
       none_rests c.none-rest.result (length made.levels.items) c.args.plan.talkers.items talkers controllers
           c.none-rest.ensures.few
-          (whole_within c.none-rest.result.talkers _ talkers c.none-rest.ensures.talkers (search rules))
-          (whole_within c.none-rest.result.controllers _ controllers c.none-rest.ensures.controllers (search rules))
+          (search rules) (search rules)
           awake awake_too,
     )
 
