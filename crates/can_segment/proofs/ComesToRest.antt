@@ -1,5 +1,5 @@
 -- Nodes that come to rest between two bits.
-use Rattle.std.proofs.Common.{◌≡◌, ◌≢◌, ℕ, ◌+◌, ◌<◌, ◌≤◌, inl, inr, Bool, true, false, Some, None, List, length, map}
+use Rattle.std.proofs.Common.{◌≡◌, ◌≢◌, ℕ, ◌<◌, ◌≤◌, inl, inr, Bool, true, false, Some, None, List, length, map}
 use Rattle.std.proofs.Common.{slice_get, set, refl, sym, ap, subst, arith, ◌∙◌}
 use Rattle.std.proofs.lemmas.Bool.{cases_eq, cases_lt}
 use Rattle.std.proofs.lemmas.List.{length-map, length-set}
@@ -15,7 +15,7 @@ use Rattle.can_station.specs.declared.place_set.PlaceSet.{PlaceSet}
 use Rattle.can_station.specs.Deeds.{IsQuiet, no_deed}
 use Rattle.can_station.specs.Places.{AtPlaces, AtPlacesBut}
 use Rattle.can_station.specs.PlaceSets.{HasPlace, IsEmpty, IsWith, IsWithout}
-use Rattle.can_station.specs.RestingNodes.{AreAlike, AwakeWithin, IfAwake, IsAlike, MayFallSilent, MayLieDown, MayRest}
+use Rattle.can_station.specs.RestingNodes.{AreAlike, AwakeWithin, FallsSilent, IfAwake, IsAlike, MayLieDown, MayRest}
 use Rattle.can_station.specs.RestingNodes.{NoneRests, laid_down, woken}
 use Rattle.can_segment.specs.Rests.{AreResting, AreSpent, Chooses, IsLess, IsResting, Lulls, members_at}
 use Rattle.can_segment.proofs.Holds.{not_resting, same_rests}
@@ -67,31 +67,31 @@ all_alike_on old mid new one other = record {
 }
 
 -- those of which nothing is told any more
-alike_silent : (listener : Listener) (bit : ℕ) (old new : Member) → MayFallSilent old new →
+alike_silent : (told : Bool) (listener : Listener) (bit : ℕ) (old new : Member) → FallsSilent told old new →
     IsAlike (woken listener bit old) (woken listener bit new)
-alike_silent listener bit old new (inl same) = subst (λ m. IsAlike (woken listener bit old) (woken listener bit m))
+alike_silent false listener bit old new same = subst (λ m. IsAlike (woken listener bit old) (woken listener bit m))
     (sym same) (like_itself (woken listener bit old))
-alike_silent listener bit old new (inr silent) =
+alike_silent true listener bit old new silent =
     subst (λ m. IsAlike (woken listener bit old) (woken listener bit m)) (sym silent)
     (like_told (woken listener bit old) no_deed (λ h. refl))
 
-if_alike_silent : (listener : Listener) (bit : ℕ) (old new : Member) → IfAwake MayFallSilent old new →
-    IsAlike (woken listener bit old) (woken listener bit new)
-if_alike_silent listener bit old new s = by old.rests refl
+if_alike_silent : (told : Bool) (listener : Listener) (bit : ℕ) (old new : Member) →
+    IfAwake (FallsSilent told) old new → IsAlike (woken listener bit old) (woken listener bit new)
+if_alike_silent told listener bit old new s = by old.rests refl
   where
     by : (b : Bool) → old.rests ≡ b → IsAlike (woken listener bit old) (woken listener bit new)
-    by true is = alike_silent listener bit old new (inl (s.rests_on is))
-    by false is = alike_silent listener bit old new (s.steps is)
+    by true is = alike_silent false listener bit old new (s.rests_on is)
+    by false is = alike_silent told listener bit old new (s.steps is)
 
-pub all_silent : (listener : Listener) (bit : ℕ) (old new : List Member) →
-    AtPlaces (λ k. IfAwake MayFallSilent) old new → AreAlike (map (woken listener bit) old)
+pub all_silent : (told : Bool) (listener : Listener) (bit : ℕ) (old new : List Member) →
+    AtPlaces (λ k. IfAwake (FallsSilent told)) old new → AreAlike (map (woken listener bit) old)
     (map (woken listener bit) new)
-all_silent listener bit old new moves = record {
+all_silent told listener bit old new moves = record {
   at = λ k a b p q.
       let x = map_at (woken listener bit) old k a p in
       let y = map_at (woken listener bit) new k b q in
       subst (λ m. IsAlike m b) x.2 (subst (IsAlike (woken listener bit x.0)) y.2
-      (if_alike_silent listener bit x.0 y.0 (moves.at k x.0 y.0 x.1 y.1)));
+      (if_alike_silent told listener bit x.0 y.0 (moves.at k x.0 y.0 x.1 y.1)));
   size = length-map new (woken listener bit) ∙ moves.size ∙ sym (length-map old (woken listener bit));
 }
 

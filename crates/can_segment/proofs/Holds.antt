@@ -1,5 +1,5 @@
 -- What stands of nodes that rest stands on where fewer do.
-use Rattle.std.proofs.Common.{◌≡◌, ℕ, ◌+◌, ◌≤◌, Bool, true, false, List, refl, sym, subst, ◌∙◌}
+use Rattle.std.proofs.Common.{◌≡◌, ℕ, ◌+◌, Bool, true, false, List, refl, sym, subst, ◌∙◌}
 use Rattle.can_confinement.specs.KnownCounts.{Knows}
 use Rattle.can_node.specs.Listener.{IsListening}
 use Rattle.can_node.specs.Node.{counters_in}

@@ -1,8 +1,7 @@
 -- Bits of an idle bus on which all nodes rest, one after another.
-use Rattle.std.proofs.Common.{◌≡◌, ℕ, ◌+◌, ◌≤◌, ◌&&◌, cond, Bool, true, List}
-use Rattle.std.proofs.Common.{[], ◌∷◌, refl, sym, ap, subst, arith, inl, inr}
+use Rattle.std.proofs.Common.{◌≡◌, ℕ, ◌+◌, ◌&&◌, cond, Bool, true, List}
+use Rattle.std.proofs.Common.{[], ◌∷◌, refl, sym, ap, subst, inl}
 use Rattle.std.proofs.Common.{◌∙◌}
-use Rattle.std.proofs.lemmas.Bool.Decides.{leb_tells}
 use Rattle.can_node.specs.Listener.{Idles}
 use Rattle.can_station.specs.declared.member.Member.{Member}
 use Rattle.can_station.specs.Members.{drives_at}

@@ -1,5 +1,5 @@
 -- Sets of places of a list.
-use Rattle.std.specs.Prelude.{◌≡◌, ◌≢◌, ℕ, ◌≤◌, ◌<◌}
+use Rattle.std.specs.Prelude.{◌≡◌, ◌≢◌, ℕ, ◌≤◌}
 use Rattle.std.specs.Int.{bit_at}
 use Rattle.can_station.specs.declared.place_set.PlaceSet.{PlaceSet}
 

@@ -123,10 +123,13 @@ pub record MayRest (listener : Listener) (bit : ℕ) (member : Member) : Type 0 
 abbrev pub laid_down : Member → Member
 laid_down member = record { on = member.on; rests = true; station = member.station; deed = no_deed }
 
--- nothing is told of it any more, or it is as it was
-abbrev pub MayFallSilent : Member → Member → Type 0
-MayFallSilent old new = (new ≡ old) ⊎ (new
-    ≡ record { on = old.on; rests = old.rests; station = old.station; deed = no_deed })
+-- nothing is told of it any more
+abbrev pub silenced : Member → Member
+silenced member = record { on = member.on; rests = member.rests; station = member.station; deed = no_deed }
+
+-- so where something was told, and else it is as it was
+abbrev pub FallsSilent : Bool → Member → Member → Type 0
+FallsSilent told old new = new ≡ (if told then silenced old else old)
 
 -- it may have come to rest
 abbrev pub MayLieDown : Listener → ℕ → Member → Member → Type 0

@@ -10,8 +10,8 @@ ghost use Rattle.can_station.specs.Ports.{item_of, Undone, Asks, started, starte
 ghost use Rattle.can_station.specs.Fresh.{IsFresh};
 ghost use Rattle.can_station.specs.Deeds.{IsQuiet, Names, no_deed};
 ghost use Rattle.can_station.specs.Outcomes.{sending_after, completed_by};
-ghost use Rattle.can_station.specs.RestingNodes.{GoesAsItMay, MayFallSilent, MayGo, MayGoBy, MayWake};
-ghost use Rattle.can_station.specs.RestingNodes.{MemberGoes, MemberSends, Shares, laid_down, woken};
+ghost use Rattle.can_station.specs.RestingNodes.{GoesAsItMay, MayGo, MayGoBy, MayWake};
+ghost use Rattle.can_station.specs.RestingNodes.{MemberGoes, MemberSends, Shares, laid_down, silenced, woken};
 ghost use Rattle.can_station.specs.Members.{
   AreOf,
   is_on,
@@ -192,13 +192,13 @@ impl Member {
         self.deed = Deed::none();
     }
 
-    /// Nothing is told any more of what it did, if it is awake and something was.
+    /// Nothing is told any more of what it did, if it is awake.
     pub(crate) fn fall_silent(&mut self)
         ensures rests { self.old.rests ≡ true → self.new ≡ self.old }
         ensures awake { self.new.rests ≡ self.old.rests }
-        ensures silent { MayFallSilent self.old self.new }
+        ensures silent { self.old.rests ≡ false → self.new ≡ silenced self.old }
     {
-        if self.rests || self.deed.is_quiet() {
+        if self.rests {
             return;
         }
         self.deed = Deed::none();

@@ -81,6 +81,7 @@ impl PlaceSet {
     /// Whether it has one place at most.
     pub fn has_one_at_most(self) -> bool
         ensures one { result ≡ true → HasOneAtMost self }
+        ensures more { HasOneAtMost self → result ≡ true }
     {
         let mut others = self;
         let _ = others.take_first();

@@ -2,7 +2,7 @@
 
 ghost use Rattle.std.specs.Prelude.{◌≡◌, ◌+◌, ◌<◌, ◌≤◌, ℕ, true, false, Some, length, slice_get};
 ghost use Rattle.can_station.specs.Places.{AtPlaces};
-ghost use Rattle.can_station.specs.RestingNodes.{AwakeWithin, IfAwake, MayFallSilent, Shares, TellsNone};
+ghost use Rattle.can_station.specs.RestingNodes.{AwakeWithin, FallsSilent, IfAwake, Shares, TellsNone};
 ghost use Rattle.can_station.specs.RestingNodes.{WakesDisturbed, WakesUnspent, woken};
 ghost use Rattle.can_station.specs.declared.member.Member.{Member as MemberValue};
 
@@ -12,11 +12,11 @@ use crate::place_set::PlaceSet;
 use crate::plan::{NodeFault, Talker};
 use can_node::{Listener, SharedSample};
 
-/// Nothing is told any more of what those that are awake did at the last bit, if something may have been. All but those
+/// Nothing is told any more of what those that are awake did at the last bit, if something was told. All but those
 /// at the places of the set rest.
 pub fn fall_silent(members: &mut [Member], told: bool, awake: PlaceSet)
     requires { AwakeWithin awake members.old }
-    ensures { AtPlaces (λ k. IfAwake MayFallSilent) members.old members.new }
+    ensures { AtPlaces (λ k. IfAwake (FallsSilent told)) members.old members.new }
 {
     if !told {
         return;

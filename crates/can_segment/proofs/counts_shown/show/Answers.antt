@@ -1,4 +1,3 @@
-use Rattle.std.proofs.Common.{arith}
 use Rattle.can_segment.proofs.Shown.{shown_end, shown_start}
 use Rattle.can_segment.proofs.counts_shown.show.Goals as goal
 

@@ -1,6 +1,6 @@
-use Rattle.std.proofs.Common.{arith, inl, refl, sym, ap, ◌∙◌}
+use Rattle.std.proofs.Common.{arith, get_or, refl, sym, ap, cond, ◌∙◌}
 use Rattle.std.proofs.lemmas.Option.{slice_get-get_or}
-use Rattle.can_station.specs.RestingNodes.{IfAwake, MayFallSilent}
+use Rattle.can_station.specs.RestingNodes.{FallsSilent, IfAwake, silenced}
 use Rattle.can_station.proofs.Places.{but_end, but_step, same_some}
 use Rattle.can_station.proofs.PlaceSets.{but_start}
 use Rattle.can_station.proofs.wake.fall_silent.Goals as goal
@@ -8,12 +8,16 @@ use Rattle.can_station.proofs.wake.fall_silent.Goals as goal
 pub returns-then-not-told : goal.returns-then-not-told
 returns-then-not-told c = record {
   at = λ k a b p q. let same = same_some b a (sym q ∙ p) in
-      record { rests_on = λ e. same; stays_awake = λ e. ap (λ m. m.rests) same ∙ e; steps = λ e. inl same };
+      record {
+        rests_on = λ e. same;
+        stays_awake = λ e. ap (λ m. m.rests) same ∙ e;
+        steps = λ e. same ∙ ap (λ told. cond told (silenced a) a) (sym c.if-not-told.true);
+      };
   size = refl;
 }
 
 pub loop-place-init : goal.loop-place-init
-loop-place-init c = but_start (λ k. MayFallSilent) c.args.members.now c.args.awake c.requires
+loop-place-init c = but_start (λ k. FallsSilent c.args.told) c.args.members.now c.args.awake c.requires
 
 pub bounds-members-place : goal.bounds-members-place
 bounds-members-place c =
@@ -33,15 +37,16 @@ loop-place-preserved c =
     let less = c.loop-place.invariant.within place has in
     let found = slice_get-get_or members place c.index-members-place.result
     (omega (arith, less, c.loop-place.invariant.size)) in
-    but_step (λ k. IfAwake MayFallSilent) c.args.members.now members c.loop-place.left c.take_first.new.self place _
-    c.fall_silent.new.self has c.in-Some.ensures.some.1 found
+    let old = get_or members place c.index-members-place.result in
+    but_step (λ k. IfAwake (FallsSilent c.args.told)) c.args.members.now members c.loop-place.left
+    c.take_first.new.self place old c.fall_silent.new.self has c.in-Some.ensures.some.1 found
     (record {
       rests_on = c.fall_silent.ensures.rests;
       stays_awake = λ e. c.fall_silent.ensures.awake ∙ e;
-      steps = λ e. c.fall_silent.ensures.silent;
+      steps = λ e. c.fall_silent.ensures.silent e ∙ ap (λ told. cond told (silenced old) old) (sym c.if-not-told.false);
     })
     c.loop-place.invariant
 
 pub returns : goal.returns
-returns c = but_end (λ k. IfAwake MayFallSilent) c.args.members.now c.loop-place.members c.loop-place.left
+returns c = but_end (λ k. IfAwake (FallsSilent c.args.told)) c.args.members.now c.loop-place.members c.loop-place.left
     c.in_default.ensures.none.0 c.loop-place.invariant

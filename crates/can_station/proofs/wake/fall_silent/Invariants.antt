@@ -1,10 +1,10 @@
 use Rattle.can_station.specs.Places.{AtPlacesBut}
-use Rattle.can_station.specs.RestingNodes.{IfAwake, MayFallSilent}
+use Rattle.can_station.specs.RestingNodes.{FallsSilent, IfAwake}
 use Rattle.can_station.proofs.wake.fall_silent.Given as goal
 
 abbrev pub invariant-loop-place : goal.invariant-loop-place
 invariant-loop-place l =
-    AtPlacesBut (λ k. IfAwake MayFallSilent) l.initial.members l.members l.left
+    AtPlacesBut (λ k. IfAwake (FallsSilent l.told)) l.initial.members l.members l.left
 
 abbrev pub decreases-loop-place : goal.decreases-loop-place
 decreases-loop-place l = l.left.bits

@@ -1,5 +1,5 @@
 use Rattle.std.proofs.Common.{arith}
-use Rattle.can_station.specs.RestingNodes.{MayFallSilent}
+use Rattle.can_station.specs.RestingNodes.{FallsSilent}
 use Rattle.can_station.proofs.PlaceSets.{within_places}
 use Rattle.can_segment.specs.Rests.{members_at}
 use Rattle.can_segment.proofs.ComesToRest.{all_alike_on, all_silent}
@@ -17,10 +17,10 @@ lull_alike-requires-clause-holds c =
     let c0 = c.args.controllers.now in
     let c1 = c.fall_silent-2.new.members in
     left_holds c.args.self.now c.args.bit c.args.plan.now t0 t1 c0 c1
-    (left_places (λ k. MayFallSilent) t0 t1 c.fall_silent.ensures)
-    (left_places (λ k. MayFallSilent) c0 c1 c.fall_silent-2.ensures)
-    (λ set. within_places (λ k. MayFallSilent) set t0 t1 c.fall_silent.ensures)
-    (λ set. within_places (λ k. MayFallSilent) set c0 c1 c.fall_silent-2.ensures) c.requires.holds
+    (left_places (λ k. FallsSilent c.args.told) t0 t1 c.fall_silent.ensures)
+    (left_places (λ k. FallsSilent c.args.told) c0 c1 c.fall_silent-2.ensures)
+    (λ set. within_places (λ k. FallsSilent c.args.told) set t0 t1 c.fall_silent.ensures)
+    (λ set. within_places (λ k. FallsSilent c.args.told) set c0 c1 c.fall_silent-2.ensures) c.requires.holds
 
 pub returns-else-self : goal.returns-else-self
 returns-else-self c =
@@ -30,13 +30,13 @@ returns-else-self c =
           all_alike_on (members_at rest c.args.bit c.args.talkers.now)
           (members_at rest c.args.bit c.fall_silent.new.members)
           (members_at c.lull_alike.new.self c.args.bit c.lull_alike.new.talkers)
-          (all_silent rest.listener c.args.bit c.args.talkers.now c.fall_silent.new.members c.fall_silent.ensures)
+          (all_silent c.args.told rest.listener c.args.bit c.args.talkers.now c.fall_silent.new.members c.fall_silent.ensures)
           c.lull_alike.ensures.talkers;
       controllers =
           all_alike_on (members_at rest c.args.bit c.args.controllers.now)
           (members_at rest c.args.bit c.fall_silent-2.new.members)
           (members_at c.lull_alike.new.self c.args.bit c.lull_alike.new.controllers)
-          (all_silent rest.listener c.args.bit c.args.controllers.now c.fall_silent-2.new.members
+          (all_silent c.args.told rest.listener c.args.bit c.args.controllers.now c.fall_silent-2.new.members
           c.fall_silent-2.ensures) c.lull_alike.ensures.controllers;
       holds = c.lull_alike.ensures.holds;
     }
@@ -59,14 +59,14 @@ returns-then-not-were_apart c =
           (members_at last bit c.lull_alike-then-not-were_apart.new.talkers)
           (all_alike_on (members_at rest bit c.args.talkers.now) (members_at rest bit c.fall_silent.new.members)
           (members_at mid bit c.lull_alike.new.talkers)
-          (all_silent rest.listener bit c.args.talkers.now c.fall_silent.new.members c.fall_silent.ensures)
+          (all_silent c.args.told rest.listener bit c.args.talkers.now c.fall_silent.new.members c.fall_silent.ensures)
           c.lull_alike.ensures.talkers) c.lull_alike-then-not-were_apart.ensures.talkers;
       controllers =
           all_alike_on (members_at rest bit c.args.controllers.now) (members_at mid bit c.lull_alike.new.controllers)
           (members_at last bit c.lull_alike-then-not-were_apart.new.controllers)
           (all_alike_on (members_at rest bit c.args.controllers.now) (members_at rest bit c.fall_silent-2.new.members)
           (members_at mid bit c.lull_alike.new.controllers)
-          (all_silent rest.listener bit c.args.controllers.now c.fall_silent-2.new.members c.fall_silent-2.ensures)
+          (all_silent c.args.told rest.listener bit c.args.controllers.now c.fall_silent-2.new.members c.fall_silent-2.ensures)
           c.lull_alike.ensures.controllers) c.lull_alike-then-not-were_apart.ensures.controllers;
       holds = c.lull_alike-then-not-were_apart.ensures.holds;
     }

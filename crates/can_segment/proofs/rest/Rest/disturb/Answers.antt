@@ -1,4 +1,4 @@
-use Rattle.std.proofs.Common.{map, refl, ap, ◌∙◌}
+use Rattle.std.proofs.Common.{map, ap, ◌∙◌}
 use Rattle.can_station.specs.RestingNodes.{WakesDisturbed, woken}
 use Rattle.can_segment.proofs.Holds.{woken_holds}
 use Rattle.can_segment.proofs.Woken.{wakes_left, wakes_same}

@@ -1,4 +1,4 @@
-use Rattle.std.proofs.Common.{map, inr, refl, ap, ◌∙◌}
+use Rattle.std.proofs.Common.{map, inr, ap, ◌∙◌}
 use Rattle.can_station.specs.RestingNodes.{WakesUnspent, woken}
 use Rattle.can_segment.proofs.Holds.{same_rests}
 use Rattle.can_segment.proofs.Woken.{all_woken, wakes_left, wakes_same}

@@ -1,4 +1,4 @@
-use Rattle.std.proofs.Common.{rules, map, inr, refl, ap, ◌∙◌}
+use Rattle.std.proofs.Common.{rules, map, inr, ap, ◌∙◌}
 use Rattle.can_segment.proofs.Holds.{none_rests, none_rests_on, not_resting}
 use Rattle.can_station.specs.RestingNodes.{woken}
 use Rattle.can_segment.proofs.Woken.{all_woken, wakes_same}
