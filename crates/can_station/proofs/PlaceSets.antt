@@ -213,10 +213,11 @@ within_both {P = P} Step set old new from to sizes h w = record {
 -- where there is one place at most, all others rest
 pub others_within : (set : PlaceSet) (members : List Member) (place : ℕ) → HasOneAtMost set →
     (place < 64 → IsFirst place set) → (64 ≤ place → IsEmpty set) → AwakeWithin set members → OthersRest place members
-others_within set members place one some none h k m e not = rests_outside set members k m h e (elim (cases_lt place 64) [
-  | inl less ↦ (λ is. not (one k place is (some less).has))
-  | inr more ↦ none (omega (arith, more)) k
-])
+others_within set members place one some none h k m e not =
+    rests_outside set members k m h e (elim (cases_lt place 64) [
+      | inl less ↦ (λ is. not (one k place is (some less).has))
+      | inr more ↦ none (omega (arith, more)) k
+    ])
 
 -- this is so of each node, but of those left
 pub record EachBut (Q : ℕ → Member → Type 0) (members : List Member) (left : PlaceSet) : Type 0 where

@@ -17,7 +17,8 @@ pub record AtPlacesBelow {M : Type 0} (Step : ℕ → M → M → Type 0) (old n
 -- so did all but those at the places of a set, which are as they were
 pub record AtPlacesBut {M : Type 0} (Step : ℕ → M → M → Type 0) (old new : List M) (left : PlaceSet) : Type 0 where
   pub within : (k : ℕ) → HasPlace left k → k < length old
-  pub made : (k : ℕ) (a b : M) → (HasPlace left k → ⊥) → slice_get old k ≡ Some a → slice_get new k ≡ Some b → Step k a b
+  pub made : (k : ℕ) (a b : M) → (HasPlace left k → ⊥) → slice_get old k ≡ Some a → slice_get new k ≡ Some b →
+      Step k a b
   pub same : (k : ℕ) → HasPlace left k → slice_get new k ≡ slice_get old k
   pub size : length new ≡ length old
 

@@ -40,8 +40,8 @@ loop-place-preserved g c =
     let settle = c.settle.ensures in
     both_step
     (λ k. IfAwakeBoth (PortSettled g.P.TxBus.bus_after g.P.TxBus.bus_asked g.P.TxBus.transmitting g.P.RxSink.sink_after
-    g.P.RxSink.port_stays c.args.bit)) c.args.members.now members c.args.ports.now ports c.loop-place.left c.take_first.new.self
-    place _ c.settle.new.self _ c.settle.new.port c.requires.size has c.in-Some.ensures.some.1 found there
+    g.P.RxSink.port_stays c.args.bit)) c.args.members.now members c.args.ports.now ports c.loop-place.left
+    c.take_first.new.self place _ c.settle.new.self _ c.settle.new.port c.requires.size has c.in-Some.ensures.some.1 found there
     (record {
       rests_on = settle.rests;
       stays_awake = λ e. settle.awake ∙ e;
@@ -57,6 +57,7 @@ loop-place-preserved g c =
 
 pub returns : goal.returns
 returns g c =
-    both_end (λ k. IfAwakeBoth (PortSettled g.P.TxBus.bus_after g.P.TxBus.bus_asked g.P.TxBus.transmitting g.P.RxSink.sink_after
+    both_end
+    (λ k. IfAwakeBoth (PortSettled g.P.TxBus.bus_after g.P.TxBus.bus_asked g.P.TxBus.transmitting g.P.RxSink.sink_after
     g.P.RxSink.port_stays c.args.bit)) c.args.members.now c.loop-place.members c.args.ports.now c.loop-place.ports
     c.loop-place.left c.in_default.ensures.none.0 c.loop-place.invariant

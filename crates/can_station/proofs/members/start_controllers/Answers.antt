@@ -57,6 +57,7 @@ loop-place-preserved g c =
 
 pub returns : goal.returns
 returns g c =
-    both_end (λ k. IfAwakeBoth (PortStarts g.P.TxBus.bus_after g.P.TxBus.bus_asked g.P.TxBus.transmitting g.P.TxBus.bus_stays
+    both_end
+    (λ k. IfAwakeBoth (PortStarts g.P.TxBus.bus_after g.P.TxBus.bus_asked g.P.TxBus.transmitting g.P.TxBus.bus_stays
     c.args.bit)) c.args.members.now c.loop-place.members c.args.ports.now c.loop-place.ports
     c.loop-place.left c.in_default.ensures.none.0 c.loop-place.invariant

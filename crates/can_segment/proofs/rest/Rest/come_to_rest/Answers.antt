@@ -30,7 +30,8 @@ returns-else-self c =
           all_alike_on (members_at rest c.args.bit c.args.talkers.now)
           (members_at rest c.args.bit c.fall_silent.new.members)
           (members_at c.lull_alike.new.self c.args.bit c.lull_alike.new.talkers)
-          (all_silent c.args.told rest.listener c.args.bit c.args.talkers.now c.fall_silent.new.members c.fall_silent.ensures)
+          (all_silent c.args.told rest.listener c.args.bit c.args.talkers.now c.fall_silent.new.members
+          c.fall_silent.ensures)
           c.lull_alike.ensures.talkers;
       controllers =
           all_alike_on (members_at rest c.args.bit c.args.controllers.now)
@@ -66,7 +67,8 @@ returns-then-not-were_apart c =
           (members_at last bit c.lull_alike-then-not-were_apart.new.controllers)
           (all_alike_on (members_at rest bit c.args.controllers.now) (members_at rest bit c.fall_silent-2.new.members)
           (members_at mid bit c.lull_alike.new.controllers)
-          (all_silent c.args.told rest.listener bit c.args.controllers.now c.fall_silent-2.new.members c.fall_silent-2.ensures)
+          (all_silent c.args.told rest.listener bit c.args.controllers.now c.fall_silent-2.new.members
+          c.fall_silent-2.ensures)
           c.lull_alike.ensures.controllers) c.lull_alike-then-not-were_apart.ensures.controllers;
       holds = c.lull_alike-then-not-were_apart.ensures.holds;
     }
