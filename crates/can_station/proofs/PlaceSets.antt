@@ -1,5 +1,5 @@
 -- Sets of places, and loops over those at which nodes may be awake.
-use Rattle.std.proofs.Common.{◌≡◌, ℕ, zero, suc, ◌+◌, ◌*◌, ◌%◌, ◌^◌, ◌<◌, ◌≤◌, ◌&&◌, inl, inr, Bool, true, false}
+use Rattle.std.proofs.Common.{◌≡◌, ℕ, zero, suc, ◌*◌, ◌%◌, ◌^◌, ◌<◌, ◌≤◌, ◌&&◌, inl, inr, Bool, true, false}
 use Rattle.std.proofs.Common.{List, [], ◌∷◌, Some, length, set, slice_get, refl, sym, ap, subst, arith, w64, ◌∙◌}
 use Rattle.std.proofs.Common.{bit_and, bit_or}
 use Rattle.std.specs.Int.{bit_at, bit_not, trailing_zeros}
@@ -8,7 +8,7 @@ use Rattle.std.specs.List.{list_all}
 use Rattle.std.proofs.lemmas.Bool.{cases_eq, cases_lt}
 use Rattle.std.proofs.lemmas.List.{length-set}
 use Rattle.std.proofs.lemmas.Nat.{and_le_l}
-use Rattle.std.proofs.lemmas.Nat.Bits.{bit_at-lt, bit_at-trailing_zeros, bit_at-zero, bit_at_above, bit_at_and}
+use Rattle.std.proofs.lemmas.Nat.Bits.{bit_at-lt, bit_at-trailing_zeros, bit_at_above, bit_at_and}
 use Rattle.std.proofs.lemmas.Nat.Bits.{bit_at_clear_other, bit_at_clear_same, bit_at_set_other, bit_at_set_same}
 use Rattle.std.proofs.lemmas.Option.{slice_get_within}
 use Rattle.can_station.specs.declared.member.Member.{Member}
@@ -18,11 +18,7 @@ use Rattle.can_station.specs.PlaceSets.{HasOneAtMost, HasPlace, IsEmpty, IsFirst
 use Rattle.can_station.specs.RestingNodes.{AwakeWithin, IfAwake, IfAwakeBoth, OthersRest}
 use Rattle.can_station.proofs.Places.{same_some, some_there, get_set_same, get_set_other}
 
--- a set of which one place is known has a number that is not 0
-pub none_empty : (set : PlaceSet) → set.bits ≡ 0 → IsEmpty set
-none_empty set none k has = (let no = bit_at-zero k in
-    let is = sym (ap (λ n. bit_at n k) none) ∙ has in cc (is, no))
-
+-- the first place of a set that has one is that of the lowest 1
 pub first_is : (set : PlaceSet) → 0 < set.bits → set.bits < 2 ^ 64 → IsFirst (trailing_zeros w64 set.bits) set
 first_is set some fits =
     let lowest = bit_at-trailing_zeros w64 set.bits some fits in
@@ -89,42 +85,6 @@ pub record AwakeBelow (set : PlaceSet) (members : List Member) (i : ℕ) : Type 
   pub within : (k : ℕ) → HasPlace set k → k < i
   pub has : (k : ℕ) (m : Member) → k < i → slice_get members k ≡ Some m → m.rests ≡ false → HasPlace set k
   pub awake : (k : ℕ) (m : Member) → HasPlace set k → slice_get members k ≡ Some m → m.rests ≡ false
-
-pub none_awake : (set : PlaceSet) (members : List Member) → IsEmpty set → AwakeBelow set members 0
-none_awake set members none = record {
-  within = λ k has. absurd (none k has);
-  has = λ k m less e is. absurd (omega (arith, less));
-  awake = λ k m has e. absurd (none k has);
-}
-
-pub awake_more : (set after : PlaceSet) (members : List Member) (i : ℕ) (m : Member) → slice_get members i ≡ Some m →
-    m.rests ≡ false → IsWith i set after → AwakeBelow set members i → AwakeBelow after members (i + 1)
-awake_more set after members i m here awake more so_far = record {
-  within = λ k has. elim (cases_eq k i) [
-    | inl is ↦ omega (arith, is)
-    | inr other ↦ (let less = so_far.within k (more.no_others k other has) in omega (arith, less))
-  ];
-  has = λ k x less e is. elim (cases_eq k i) [
-    | inl at ↦ subst (HasPlace after) (sym at) more.has
-    | inr other ↦ more.others k other (so_far.has k x (omega (arith, less, other)) e is)
-  ];
-  awake = λ k x has e. elim (cases_eq k i) [
-    | inl at ↦ subst (λ y. y.rests ≡ false) (same_some m x (sym here ∙ ap (slice_get members) (sym at) ∙ e)) awake
-    | inr other ↦ so_far.awake k x (more.no_others k other has) e
-  ];
-}
-
-pub rests_more : (set : PlaceSet) (members : List Member) (i : ℕ) (m : Member) → slice_get members i ≡ Some m →
-    m.rests ≡ true → AwakeBelow set members i → AwakeBelow set members (i + 1)
-rests_more set members i m here rests so_far = record {
-  within = λ k has. let less = so_far.within k has in omega (arith, less);
-  has = λ k x less e is. elim (cases_eq k i) [
-    | inl at ↦ absurd (let same = same_some m x (sym here ∙ ap (slice_get members) (sym at) ∙ e) in
-        let on = ap (λ y. y.rests) same in cc (on, rests, is))
-    | inr other ↦ so_far.has k x (omega (arith, less, other)) e is
-  ];
-  awake = so_far.awake;
-}
 
 -- one whose place isn't in the set rests
 pub rests_outside : (set : PlaceSet) (members : List Member) (k : ℕ) (m : Member) → AwakeWithin set members →
