@@ -13,13 +13,13 @@ use Rattle.can_station.specs.declared.plan.Talker.{Talker}
 use Rattle.can_segment.specs.declared.rest.Rest.{Rest}
 use Rattle.can_station.specs.declared.place_set.PlaceSet.{PlaceSet}
 use Rattle.can_station.specs.Deeds.{IsQuiet, no_deed}
-use Rattle.can_station.specs.Places.{AtPlaces, AtPlacesBut}
+use Rattle.can_station.specs.Places.{AtPlaces}
+use Rattle.can_station.proofs.Places.{AtPlacesBut, but_end, but_step, some_there, get_set_other, get_set_same, same_some}
 use Rattle.can_station.specs.PlaceSets.{HasPlace, IsEmpty, IsWith, IsWithout}
 use Rattle.can_station.specs.RestingNodes.{AreAlike, AwakeWithin, FallsSilent, IfAwake, IsAlike, MayLieDown, MayRest}
 use Rattle.can_station.specs.RestingNodes.{NoneRests, laid_down, woken}
 use Rattle.can_segment.specs.Rests.{AreResting, AreSpent, Chooses, IsLess, IsResting, Lulls, members_at}
 use Rattle.can_segment.proofs.Holds.{not_resting, same_rests}
-use Rattle.can_station.proofs.Places.{but_end, but_step, some_there, get_set_other, get_set_same, same_some}
 use Rattle.can_segment.proofs.Shown.{map_at}
 use Rattle.can_segment.proofs.Woken.{awake_woken, none_resting}
 
@@ -286,9 +286,8 @@ counted_step counted more left after members i b m room without here rests awake
         }
 
 pub counted_end : (counted : PlaceSet) (members : List Member) (left : PlaceSet) → IsEmpty left →
-    length members ≤ 64 → CountedBut counted members left → AwakeWithin counted members
-counted_end counted members left none few h = record {
-  few = few;
+    CountedBut counted members left → AwakeWithin counted members
+counted_end counted members left none h = record {
   within = h.within;
   has = λ k m e awake. h.has k m (none k) e awake;
 }
@@ -379,7 +378,6 @@ chosen_awake old new bit members h rests awake = elim h.chosen [
 pub lain_within : (listener : Listener) (bit : ℕ) (old new : List Member) (set : PlaceSet) →
     AtPlaces (λ k. MayLieDown listener bit) old new → AwakeWithin set old → AwakeWithin set new
 lain_within listener bit old new set lie h = record {
-  few = omega (arith, h.few, lie.size);
   within = λ k has. let less = h.within k has in omega (arith, less, lie.size);
   has = λ k m e is.
       let x = some_there old k (let there = slice_get_within new k m e in omega (arith, there, lie.size)) in

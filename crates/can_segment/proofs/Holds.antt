@@ -1,5 +1,5 @@
 -- What stands of nodes that rest stands on where fewer do.
-use Rattle.std.proofs.Common.{◌≡◌, ℕ, ◌+◌, Bool, true, false, List, refl, sym, subst, ◌∙◌}
+use Rattle.std.proofs.Common.{◌≡◌, ℕ, ◌+◌, ◌≤◌, Bool, true, false, List, length, refl, sym, subst, ◌∙◌, arith}
 use Rattle.can_confinement.specs.KnownCounts.{Knows}
 use Rattle.can_node.specs.Listener.{IsListening}
 use Rattle.can_node.specs.Node.{counters_in}
@@ -14,16 +14,18 @@ use Rattle.can_segment.proofs.Rests.{next_rests}
 
 -- where none rests
 pub none_rests : (rest : Rest) (bit : ℕ) (plan : List Talker) (talkers controllers : List Member) → rest.few ≡ false →
-    AwakeWithin rest.talkers talkers → AwakeWithin rest.controllers controllers → NoneRests talkers →
-    NoneRests controllers →
+    AwakeWithin rest.talkers talkers → AwakeWithin rest.controllers controllers → length talkers ≤ 64 →
+    length controllers ≤ 64 → NoneRests talkers → NoneRests controllers →
     RestHolds rest bit plan talkers controllers
-none_rests rest bit plan talkers controllers many w w_too t c = record {
+none_rests rest bit plan talkers controllers many w w_too fit fit_too t c = record {
   talkers_rest = λ k m e is. absurd (let awake = t k m e in cc (is, awake));
   controllers_rest = λ k m e is. absurd (let awake = c k m e in cc (is, awake));
   talkers_spent = λ s k m talker e f is. absurd (let awake = t k m e in cc (is, awake));
   controllers_awake = λ s. c;
   talkers_within = w;
   controllers_within = w_too;
+  talkers_fit = fit;
+  controllers_fit = fit_too;
   few_are = λ few. absurd (cc (few, many));
 }
 
@@ -37,6 +39,8 @@ none_rests_on rest bit next plan talkers controllers t c h = record {
   controllers_awake = λ s. c;
   talkers_within = h.talkers_within;
   controllers_within = h.controllers_within;
+  talkers_fit = h.talkers_fit;
+  controllers_fit = h.controllers_fit;
   few_are = h.few_are;
 }
 
@@ -72,6 +76,8 @@ same_holds old new bit plan talkers controllers same talkers_is controllers_is f
   controllers_awake = λ s. h.controllers_awake (sym same.spent_is ∙ s);
   talkers_within = subst (λ set. AwakeWithin set talkers) (sym talkers_is) h.talkers_within;
   controllers_within = subst (λ set. AwakeWithin set controllers) (sym controllers_is) h.controllers_within;
+  talkers_fit = h.talkers_fit;
+  controllers_fit = h.controllers_fit;
   few_are = λ few. let are = h.few_are (sym few_is ∙ few) in record {
     talkers = subst HasOneAtMost (sym talkers_is) are.talkers;
     controllers = subst HasOneAtMost (sym controllers_is) are.controllers;
@@ -97,30 +103,34 @@ left_awake old new left none k m e = by m.rests refl
 pub left_holds : (rest : Rest) (bit : ℕ) (plan : List Talker) (t0 t1 c0 c1 : List Member) → LeavesResting t0 t1 →
     LeavesResting c0 c1 →
     ((set : PlaceSet) → AwakeWithin set t0 → AwakeWithin set t1) →
-    ((set : PlaceSet) → AwakeWithin set c0 → AwakeWithin set c1) → RestHolds rest bit plan t0 c0 →
-    RestHolds rest bit plan t1 c1
-left_holds rest bit plan t0 t1 c0 c1 t c w w_too h = record {
+    ((set : PlaceSet) → AwakeWithin set c0 → AwakeWithin set c1) → length t1 ≡ length t0 → length c1 ≡ length c0 →
+    RestHolds rest bit plan t0 c0 → RestHolds rest bit plan t1 c1
+left_holds rest bit plan t0 t1 c0 c1 t c w w_too size size_too h = record {
   talkers_rest = left_rests rest bit t0 t1 t h.talkers_rest;
   controllers_rest = left_rests rest bit c0 c1 c h.controllers_rest;
   talkers_spent = left_spent rest plan t0 t1 t h.talkers_spent;
   controllers_awake = λ s. left_awake c0 c1 c (h.controllers_awake s);
   talkers_within = w rest.talkers h.talkers_within;
   controllers_within = w_too rest.controllers h.controllers_within;
+  talkers_fit = omega (arith, size, h.talkers_fit);
+  controllers_fit = omega (arith, size_too, h.controllers_fit);
   few_are = h.few_are;
 }
 
 -- where some woke
 pub woken_holds : (old new : Rest) (bit : ℕ) (plan : List Talker) (t0 t1 c0 c1 : List Member) → IsSame old new →
-    new.few ≡ false → AwakeWithin new.talkers t1 → AwakeWithin new.controllers c1 → LeavesResting t0 t1 →
-    LeavesResting c0 c1 →
+    new.few ≡ false → AwakeWithin new.talkers t1 → AwakeWithin new.controllers c1 → length t1 ≡ length t0 →
+    length c1 ≡ length c0 → LeavesResting t0 t1 → LeavesResting c0 c1 →
     RestHolds old bit plan t0 c0 → RestHolds new bit plan t1 c1
-woken_holds old new bit plan t0 t1 c0 c1 same many w w_too t c h = record {
+woken_holds old new bit plan t0 t1 c0 c1 same many w w_too size size_too t c h = record {
   talkers_rest = same_rests old new bit t1 same (left_rests old bit t0 t1 t h.talkers_rest);
   controllers_rest = same_rests old new bit c1 same (left_rests old bit c0 c1 c h.controllers_rest);
   talkers_spent = λ s. left_spent old plan t0 t1 t h.talkers_spent (sym same.spent_is ∙ s);
   controllers_awake = λ s. left_awake c0 c1 c (h.controllers_awake (sym same.spent_is ∙ s));
   talkers_within = w;
   controllers_within = w_too;
+  talkers_fit = omega (arith, size, h.talkers_fit);
+  controllers_fit = omega (arith, size_too, h.controllers_fit);
   few_are = λ few. absurd (cc (few, many));
 }
 
@@ -138,6 +148,8 @@ through_holds old new bit level plan t c through h = record {
   controllers_awake = λ s. h.controllers_awake (sym through.spent_is ∙ s);
   talkers_within = subst (λ set. AwakeWithin set t) (sym through.talkers_is) h.talkers_within;
   controllers_within = subst (λ set. AwakeWithin set c) (sym through.controllers_is) h.controllers_within;
+  talkers_fit = h.talkers_fit;
+  controllers_fit = h.controllers_fit;
   few_are = λ few. let are = h.few_are (sym through.few_is ∙ few) in record {
     talkers = subst HasOneAtMost (sym through.talkers_is) are.talkers;
     controllers = subst HasOneAtMost (sym through.controllers_is) are.controllers;

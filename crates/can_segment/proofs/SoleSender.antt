@@ -278,6 +278,7 @@ rests_alone plan bit level old new t0 t1 c0 c1 h rests =
     (left_places (λ k. MemberGoes bit level) c0 c1 controllers)
     (λ set. within_places (λ k. MemberGoes bit level) set t0 t1 talkers)
     (λ set. within_places (λ k. MemberGoes bit level) set c0 c1 controllers)
+    (omega (arith, talkers.size)) (omega (arith, controllers.size))
     (through_holds old new bit level plan t0 c0 h.through rests)
 
 -- nothing is told,

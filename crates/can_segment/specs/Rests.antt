@@ -1,6 +1,6 @@
 -- Nodes that are left alone while a listener follows the line for them. Private clauses cite it.
 use Rattle.std.specs.Prelude.{◌≡◌, ◌⊎◌, ℕ, ◌+◌, ◌≤◌, ◌&&◌, Bool, true, false}
-use Rattle.std.specs.Prelude.{None, Some, List, [], ◌∷◌, map, slice_get, if◌then◌else◌}
+use Rattle.std.specs.Prelude.{None, Some, List, [], ◌∷◌, length, map, slice_get, if◌then◌else◌}
 use Rattle.std.specs.List.{list_all}
 use Rattle.can_confinement.specs.KnownCounts.{Knows}
 use Rattle.can_node.specs.Listener.{Follows, Idles, IsListening, caught_up as node_caught_up}
@@ -53,6 +53,8 @@ pub record RestHolds (rest : Rest) (bit : ℕ) (plan : List Talker) (talkers con
   pub controllers_awake : rest.spent ≡ true → NoneRests controllers
   pub talkers_within : AwakeWithin rest.talkers talkers
   pub controllers_within : AwakeWithin rest.controllers controllers
+  pub talkers_fit : length talkers ≤ 64
+  pub controllers_fit : length controllers ≤ 64
   pub few_are : rest.few ≡ true → AreFew rest
 
 -- no node that rests wants to start, or none has anything to

@@ -77,6 +77,7 @@ pub(crate) fn sample_together<R, P: RxSink<R>>(
     requires resting { AreResting rest.old bit talkers.old }
     requires undisturbed { Undisturbed faults.now 0 bit talkers.old }
     requires within { AwakeWithin rest.old.talkers talkers.old }
+    requires few_talkers { length talkers.old ≤ 64 }
     requires few_controllers { length controllers.old ≤ 64 }
     requires talker_room { HasRoom u64.MAX bit (members_at rest.old bit talkers.old) }
     requires room { HasRoom u64.MAX bit (members_at rest.old bit controllers.old) }
@@ -92,6 +93,7 @@ pub(crate) fn sample_together<R, P: RxSink<R>>(
     ensures awake { NoneRests talkers.new × NoneRests controllers.new }
     ensures few { rest.new.few ≡ false }
     ensures within { AwakeWithin rest.new.talkers talkers.new × AwakeWithin rest.new.controllers controllers.new }
+    ensures fit { (length talkers.new ≤ 64) × (length controllers.new ≤ 64) }
 {
     let first = talkers.len() as u32;
     let awake_told = sample_nodes(talkers, faults, 0, bit, level, rest.talkers);

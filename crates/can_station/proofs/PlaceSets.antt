@@ -13,10 +13,10 @@ use Rattle.std.proofs.lemmas.Nat.Bits.{bit_at_clear_other, bit_at_clear_same, bi
 use Rattle.std.proofs.lemmas.Option.{slice_get_within}
 use Rattle.can_station.specs.declared.member.Member.{Member}
 use Rattle.can_station.specs.declared.place_set.PlaceSet.{PlaceSet}
-use Rattle.can_station.specs.Places.{AtBoth, AtBothBut, AtPlaces, AtPlacesBut}
+use Rattle.can_station.specs.Places.{AtBoth, AtPlaces}
+use Rattle.can_station.proofs.Places.{AtBothBut, AtPlacesBut, same_some, some_there, get_set_same, get_set_other}
 use Rattle.can_station.specs.PlaceSets.{HasOneAtMost, HasPlace, IsEmpty, IsFirst, IsWith, IsWithout}
 use Rattle.can_station.specs.RestingNodes.{AwakeWithin, IfAwake, IfAwakeBoth, OthersRest}
-use Rattle.can_station.proofs.Places.{same_some, some_there, get_set_same, get_set_other}
 
 -- the first place of a set that has one is that of the lowest 1
 pub first_is : (set : PlaceSet) → 0 < set.bits → set.bits < 2 ^ 64 → IsFirst (trailing_zeros w64 set.bits) set
@@ -134,7 +134,6 @@ both_start Step xs ps set h = record {
 pub within_places : (Step : ℕ → Member → Member → Type 0) (set : PlaceSet) (old new : List Member) →
     AtPlaces (λ k. IfAwake (Step k)) old new → AwakeWithin set old → AwakeWithin set new
 within_places Step set old new h w = record {
-  few = omega (arith, w.few, h.size);
   within = λ k has. let less = w.within k has in omega (arith, less, h.size);
   has = λ k m e is.
       let x = some_there old k (let there = slice_get_within new k m e in omega (arith, there, h.size)) in
@@ -152,7 +151,6 @@ pub within_both : {P : Type 0} (Step : ℕ → Member → Member → P → P →
     (from to : List P) → length from ≡ length old → AtBoth (λ k. IfAwakeBoth (Step k)) old new from to →
     AwakeWithin set old → AwakeWithin set new
 within_both {P = P} Step set old new from to sizes h w = record {
-  few = omega (arith, w.few, h.size);
   within = λ k has. let less = w.within k has in omega (arith, less, h.size);
   has = λ k m e is.
       let there = slice_get_within new k m e in

@@ -5,8 +5,33 @@ use Rattle.std.proofs.lemmas.Bool.{cases_eq, cases_lt}
 use Rattle.std.proofs.lemmas.List.{length-set}
 use Rattle.std.proofs.lemmas.Option.{slice_get_within}
 use Rattle.can_station.specs.declared.place_set.PlaceSet.{PlaceSet}
-use Rattle.can_station.specs.Places.{AtPlaces, AtPlacesBelow, AtPlacesBut, AtBoth, AtBothBut}
+use Rattle.can_station.specs.Places.{AtPlaces, AtBoth}
 use Rattle.can_station.specs.PlaceSets.{HasPlace, IsEmpty, IsWithout}
+
+-- so far a loop made this step at the places below i, and the others are as they were
+pub record AtPlacesBelow {M : Type 0} (Step : ℕ → M → M → Type 0) (old new : List M) (i : ℕ) : Type 0 where
+  pub below : (k : ℕ) (a b : M) → k < i → slice_get old k ≡ Some a → slice_get new k ≡ Some b → Step k a b
+  pub above : (k : ℕ) → i ≤ k → slice_get new k ≡ slice_get old k
+  pub size : length new ≡ length old
+
+-- So it did at all places but those of a set, which are as they were.
+pub record AtPlacesBut {M : Type 0} (Step : ℕ → M → M → Type 0) (old new : List M) (left : PlaceSet) : Type 0 where
+  pub within : (k : ℕ) → HasPlace left k → k < length old
+  pub made : (k : ℕ) (a b : M) → (HasPlace left k → ⊥) → slice_get old k ≡ Some a → slice_get new k ≡ Some b →
+      Step k a b
+  pub same : (k : ℕ) → HasPlace left k → slice_get new k ≡ slice_get old k
+  pub size : length new ≡ length old
+
+-- so with the element at its place in the other list
+pub record AtBothBut {M P : Type 0} (Step : ℕ → M → M → P → P → Type 0) (old new : List M) (from to : List P)
+    (left : PlaceSet) : Type 0 where
+  pub within : (k : ℕ) → HasPlace left k → k < length old
+  pub made : (k : ℕ) (a b : M) (p q : P) → (HasPlace left k → ⊥) → slice_get old k ≡ Some a →
+      slice_get new k ≡ Some b → slice_get from k ≡ Some p → slice_get to k ≡ Some q → Step k a b p q
+  pub same : (k : ℕ) → HasPlace left k → slice_get new k ≡ slice_get old k
+  pub same_too : (k : ℕ) → HasPlace left k → slice_get to k ≡ slice_get from k
+  pub size : length new ≡ length old
+  pub size_too : length to ≡ length from
 
 -- a list that was written to at a place
 pub get_set_same : {P : Type 0} (xs : List P) (i : ℕ) (y : P) → i < length xs → slice_get (set xs i y) i ≡ Some y

@@ -1,25 +1,9 @@
 -- What a loop over the nodes of a segment does, place by place; and one over nodes and their ports.
-use Rattle.std.specs.Prelude.{◌≡◌, ◌≢◌, ℕ, ◌<◌, ◌≤◌, List, Some, slice_get, length}
-use Rattle.can_station.specs.declared.place_set.PlaceSet.{PlaceSet}
-use Rattle.can_station.specs.PlaceSets.{HasPlace}
+use Rattle.std.specs.Prelude.{◌≡◌, ◌≢◌, ℕ, List, Some, slice_get, length}
 
 -- each element made this step
 pub record AtPlaces {M : Type 0} (Step : ℕ → M → M → Type 0) (old new : List M) : Type 0 where
   pub at : (k : ℕ) (a b : M) → slice_get old k ≡ Some a → slice_get new k ≡ Some b → Step k a b
-  pub size : length new ≡ length old
-
--- so did those below i, and the others are as they were
-pub record AtPlacesBelow {M : Type 0} (Step : ℕ → M → M → Type 0) (old new : List M) (i : ℕ) : Type 0 where
-  pub below : (k : ℕ) (a b : M) → k < i → slice_get old k ≡ Some a → slice_get new k ≡ Some b → Step k a b
-  pub above : (k : ℕ) → i ≤ k → slice_get new k ≡ slice_get old k
-  pub size : length new ≡ length old
-
--- so did all but those at the places of a set, which are as they were
-pub record AtPlacesBut {M : Type 0} (Step : ℕ → M → M → Type 0) (old new : List M) (left : PlaceSet) : Type 0 where
-  pub within : (k : ℕ) → HasPlace left k → k < length old
-  pub made : (k : ℕ) (a b : M) → (HasPlace left k → ⊥) → slice_get old k ≡ Some a → slice_get new k ≡ Some b →
-      Step k a b
-  pub same : (k : ℕ) → HasPlace left k → slice_get new k ≡ slice_get old k
   pub size : length new ≡ length old
 
 -- each element made this step with the one at its place in the other list
@@ -27,17 +11,6 @@ pub record AtBoth {M P : Type 0} (Step : ℕ → M → M → P → P → Type 0)
     (from to : List P) : Type 0 where
   pub at : (k : ℕ) (a b : M) (p q : P) → slice_get old k ≡ Some a → slice_get new k ≡ Some b →
       slice_get from k ≡ Some p → slice_get to k ≡ Some q → Step k a b p q
-  pub size : length new ≡ length old
-  pub size_too : length to ≡ length from
-
--- so did all but those at the places of a set, which are as they were
-pub record AtBothBut {M P : Type 0} (Step : ℕ → M → M → P → P → Type 0) (old new : List M) (from to : List P)
-    (left : PlaceSet) : Type 0 where
-  pub within : (k : ℕ) → HasPlace left k → k < length old
-  pub made : (k : ℕ) (a b : M) (p q : P) → (HasPlace left k → ⊥) → slice_get old k ≡ Some a →
-      slice_get new k ≡ Some b → slice_get from k ≡ Some p → slice_get to k ≡ Some q → Step k a b p q
-  pub same : (k : ℕ) → HasPlace left k → slice_get new k ≡ slice_get old k
-  pub same_too : (k : ℕ) → HasPlace left k → slice_get to k ≡ slice_get from k
   pub size : length new ≡ length old
   pub size_too : length to ≡ length from
 

@@ -80,9 +80,8 @@ NoneRests members = (k : ℕ) (m : Member) → slice_get members k ≡ Some m �
 abbrev pub OthersRest : ℕ → List Member → Type 0
 OthersRest place members = (k : ℕ) (m : Member) → slice_get members k ≡ Some m → k ≢ place → m.rests ≡ true
 
--- of these nodes, 64 at most, only some at the places of the set are awake
+-- of these nodes only some at the places of the set are awake
 pub record AwakeWithin (set : PlaceSet) (members : List Member) : Type 0 where
-  pub few : length members ≤ 64
   pub within : (k : ℕ) → HasPlace set k → k < length members
   pub has : (k : ℕ) (m : Member) → slice_get members k ≡ Some m → m.rests ≡ false → HasPlace set k
 

@@ -51,6 +51,7 @@ impl PlaceSet {
     pub fn take_first(&mut self) -> Option<usize>
         ensures some { IfSome result (λ place. IsFirst place self.old × IsWithout place self.old self.new) }
         ensures none { IfNone result (IsEmpty self.old × (self.new ≡ self.old)) }
+        ensures below { IfSome result (λ place. place < 64) }
         ensures fewer { IfSome result (λ place. self.new.bits < self.old.bits) }
     {
         if self.bits == 0 {

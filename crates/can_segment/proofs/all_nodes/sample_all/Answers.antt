@@ -1,4 +1,4 @@
-use Rattle.std.proofs.Common.{◌≡◌, ◌+◌, length, ap, sym, subst, ◌∙◌}
+use Rattle.std.proofs.Common.{arith, ◌≡◌, ◌+◌, length, ap, sym, subst, ◌∙◌}
 use Rattle.std.proofs.lemmas.Bool.{or_parts}
 use Rattle.can_station.specs.Faults.{sampled_level}
 use Rattle.can_station.specs.Members.{NodeSamples, PortSettles}
@@ -92,7 +92,7 @@ returns-clause-rests g c =
     (λ set. within_places _ set t c.sample_nodes-talkers_told.new.members samples)
     (λ set. within_both _ set cs c.sample_controllers-controllers_told.new.members c.args.ports.now
     c.sample_controllers-controllers_told.new.ports size settles)
-    c.in_default.ensures.holds
+    (omega (arith, samples.size)) (omega (arith, settles.size)) c.in_default.ensures.holds
 
 pub returns-clause-quiet : goal.returns-clause-quiet
 returns-clause-quiet g c none =
@@ -157,5 +157,6 @@ pub returns-in-Some-clause-rests : goal.returns-in-Some-clause-rests
 returns-in-Some-clause-rests g c =
     let made = c.sample_together.new in
     let within = c.sample_together.ensures.within in
+    let fit = c.sample_together.ensures.fit in
     none_rests made.rest (c.args.bit + 1) c.args.plan.now made.talkers made.controllers c.sample_together.ensures.few
-    within.0 within.1 c.sample_together.ensures.awake.0 c.sample_together.ensures.awake.1
+    within.0 within.1 fit.0 fit.1 c.sample_together.ensures.awake.0 c.sample_together.ensures.awake.1

@@ -1,4 +1,4 @@
-use Rattle.std.proofs.Common.{◌≡◌, cond, length, ap, sym, subst, ◌∙◌, ◌&&◌}
+use Rattle.std.proofs.Common.{arith, ◌≡◌, cond, length, ap, sym, subst, ◌∙◌, ◌&&◌}
 use Rattle.std.specs.List.{list_all}
 use Rattle.can_station.specs.Members.{PortStarts, TalkerStarts, drives_at}
 use Rattle.can_station.specs.Places.{AtBoth, AtPlaces}
@@ -94,7 +94,8 @@ returns-clause-rests g c =
     c.start_controllers.ensures)
     (λ set. within_places _ set c.rouse.new.talkers t c.start_talkers.ensures)
     (λ set. within_both _ set c.rouse.new.controllers after c.args.ports.now c.start_controllers.new.ports size
-    c.start_controllers.ensures) roused.holds
+    c.start_controllers.ensures) (omega (arith, c.start_talkers.ensures.size))
+    (omega (arith, c.start_controllers.ensures.size)) roused.holds
 
 pub returns-clause-left : goal.returns-clause-left
 returns-clause-left g c =

@@ -1,4 +1,4 @@
-use Rattle.std.proofs.Common.{◌≡◌, false, arith, Some, ap, sym, ◌∙◌}
+use Rattle.std.proofs.Common.{◌≡◌, false, Some, ap, sym, ◌∙◌}
 use Rattle.std.proofs.lemmas.Option.{slice_get-get_or}
 use Rattle.can_station.specs.RestingNodes.{MayGo}
 use Rattle.can_station.proofs.PlaceSets.{each_end, each_start, each_step}
@@ -10,11 +10,6 @@ loop-place-init c = each_start (λ k m. m.rests ≡ false → MayGo c.args.bit c
 
 pub bounds-members-place : goal.bounds-members-place
 bounds-members-place c = c.loop-place.invariant.within c.in-Some.place c.in-Some.ensures.some.0.has
-
-pub offset_bounds-members-place : goal.offset_bounds-members-place
-offset_bounds-members-place c =
-    let less = c.loop-place.invariant.within c.in-Some.place c.in-Some.ensures.some.0.has in
-    omega (arith, less, c.requires.few)
 
 pub loop-place-preserved : goal.loop-place-preserved
 loop-place-preserved c =

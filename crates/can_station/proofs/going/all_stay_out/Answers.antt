@@ -18,11 +18,6 @@ loop-place-init c = record {
 pub bounds-members-place : goal.bounds-members-place
 bounds-members-place c = c.loop-place.invariant.within c.in-Some.place c.in-Some.ensures.some.0.has
 
-pub offset_bounds-members-place : goal.offset_bounds-members-place
-offset_bounds-members-place c =
-    let less = c.loop-place.invariant.within c.in-Some.place c.in-Some.ensures.some.0.has in
-    omega (arith, less, c.requires.few)
-
 pub loop-place-preserved : goal.loop-place-preserved
 loop-place-preserved c = elim c.if-place-but.branch [
   | then-place-but w ↦ (let levels = c.args.levels.now in

@@ -14,11 +14,6 @@ bounds-members-place c =
     let less = c.loop-place.invariant.within c.in-Some.place c.in-Some.ensures.some.0.has in
     omega (arith, less, c.loop-place.invariant.size)
 
-pub offset_bounds-members-place : goal.offset_bounds-members-place
-offset_bounds-members-place c =
-    let less = c.loop-place.invariant.within c.in-Some.place c.in-Some.ensures.some.0.has in
-    omega (arith, less, c.requires.awake.few)
-
 pub go_on-requires-clause-goes : goal.go_on-requires-clause-goes
 go_on-requires-clause-goes c awake =
     let members = c.loop-place.members in

@@ -1,4 +1,4 @@
-use Rattle.can_station.specs.Places.{AtPlacesBut}
+use Rattle.can_station.proofs.Places.{AtPlacesBut}
 use Rattle.can_station.specs.RestingNodes.{IfAwake, MemberGoes}
 use Rattle.can_station.proofs.going.go_on.Given as goal
 

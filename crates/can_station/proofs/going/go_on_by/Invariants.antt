@@ -1,4 +1,4 @@
-use Rattle.can_station.specs.Places.{AtPlacesBut}
+use Rattle.can_station.proofs.Places.{AtPlacesBut}
 use Rattle.can_station.specs.RestingNodes.{GoesAsItMay, IfAwake}
 use Rattle.can_station.proofs.going.go_on_by.Given as goal
 

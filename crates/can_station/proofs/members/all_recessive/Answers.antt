@@ -1,4 +1,4 @@
-use Rattle.std.proofs.Common.{rules, ◌≡◌, cond, Bool, true, ap, arith, sym, Some, ◌∙◌}
+use Rattle.std.proofs.Common.{rules, ◌≡◌, cond, Bool, true, ap, sym, Some, ◌∙◌}
 use Rattle.std.proofs.lemmas.Option.{slice_get-get_or}
 use Rattle.can_station.specs.Members.{drives_at}
 use Rattle.can_station.specs.declared.member.Member.{Member}
@@ -13,11 +13,6 @@ loop-place-init c =
 
 pub bounds-members-place : goal.bounds-members-place
 bounds-members-place c = c.loop-place.invariant.within c.in-Some.place c.in-Some.ensures.some.0.has
-
-pub offset_bounds-members-place : goal.offset_bounds-members-place
-offset_bounds-members-place c =
-    let less = c.loop-place.invariant.within c.in-Some.place c.in-Some.ensures.some.0.has in
-    omega (arith, less, c.requires.few)
 
 pub loop-place-preserved : goal.loop-place-preserved
 loop-place-preserved c =

@@ -1,7 +1,7 @@
 use Rattle.std.proofs.Common.{◌≡◌, ◌≤◌, false}
 use Rattle.can_station.specs.Deeds.{IsQuiet}
 use Rattle.can_station.specs.Members.{NodeSamples}
-use Rattle.can_station.specs.Places.{AtPlacesBut}
+use Rattle.can_station.proofs.Places.{AtPlacesBut}
 use Rattle.can_station.specs.RestingNodes.{IfAwake}
 use Rattle.can_station.proofs.PlaceSets.{EachBut}
 use Rattle.can_station.proofs.members.sample_nodes.Given as goal

@@ -16,11 +16,6 @@ bounds-members-place g c =
     let less = c.loop-place.invariant.within c.in-Some.place c.in-Some.ensures.some.0.has in
     omega (arith, less, c.loop-place.invariant.size)
 
-pub offset_bounds-members-place : goal.offset_bounds-members-place
-offset_bounds-members-place g c =
-    let less = c.loop-place.invariant.within c.in-Some.place c.in-Some.ensures.some.0.has in
-    omega (arith, less, c.requires.awake.few)
-
 pub bounds-ports-place : goal.bounds-ports-place
 bounds-ports-place g c =
     let less = c.loop-place.invariant.within c.in-Some.place c.in-Some.ensures.some.0.has in

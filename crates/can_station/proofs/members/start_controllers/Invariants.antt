@@ -1,5 +1,5 @@
 use Rattle.can_station.specs.Members.{PortStarts}
-use Rattle.can_station.specs.Places.{AtBothBut}
+use Rattle.can_station.proofs.Places.{AtBothBut}
 use Rattle.can_station.specs.RestingNodes.{IfAwakeBoth}
 use Rattle.can_station.proofs.members.start_controllers.Given as goal
 

@@ -15,20 +15,10 @@ bounds-members-place c =
     let less = c.loop-place.invariant.within c.in-Some.place c.in-Some.ensures.some.0.has in
     omega (arith, less, c.loop-place.invariant.size)
 
-pub offset_bounds-members-place : goal.offset_bounds-members-place
-offset_bounds-members-place c =
-    let less = c.loop-place.invariant.within c.in-Some.place c.in-Some.ensures.some.0.has in
-    omega (arith, less, c.requires.awake.few)
-
 pub bounds-talkers-place : goal.bounds-talkers-place
 bounds-talkers-place c =
     let less = c.loop-place.invariant.within c.in-Some.place c.in-Some.ensures.some.0.has in
     omega (arith, less, c.requires.talkers)
-
-pub offset_bounds-talkers-place : goal.offset_bounds-talkers-place
-offset_bounds-talkers-place c =
-    let less = c.loop-place.invariant.within c.in-Some.place c.in-Some.ensures.some.0.has in
-    omega (arith, less, c.requires.awake.few)
 
 pub loop-place-preserved : goal.loop-place-preserved
 loop-place-preserved c =

@@ -1,4 +1,4 @@
-use Rattle.can_station.specs.Places.{AtPlacesBut}
+use Rattle.can_station.proofs.Places.{AtPlacesBut}
 use Rattle.can_station.specs.Members.{TalkerStarts}
 use Rattle.can_station.specs.RestingNodes.{IfAwake}
 use Rattle.can_station.proofs.members.start_talkers.Given as goal

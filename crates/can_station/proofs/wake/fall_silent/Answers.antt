@@ -24,11 +24,6 @@ bounds-members-place c =
     let less = c.loop-place.invariant.within c.in-Some.place c.in-Some.ensures.some.0.has in
     omega (arith, less, c.loop-place.invariant.size)
 
-pub offset_bounds-members-place : goal.offset_bounds-members-place
-offset_bounds-members-place c =
-    let less = c.loop-place.invariant.within c.in-Some.place c.in-Some.ensures.some.0.has in
-    omega (arith, less, c.requires.few)
-
 pub loop-place-preserved : goal.loop-place-preserved
 loop-place-preserved c =
     let members = c.loop-place.members in

@@ -1,4 +1,4 @@
-use Rattle.can_station.specs.Places.{AtPlacesBut}
+use Rattle.can_station.proofs.Places.{AtPlacesBut}
 use Rattle.can_station.specs.RestingNodes.{FallsSilent, IfAwake}
 use Rattle.can_station.proofs.wake.fall_silent.Given as goal
 

@@ -1,5 +1,5 @@
 use Rattle.std.proofs.Common.{◌≡◌, false}
-use Rattle.can_station.specs.Places.{AtPlacesBelow}
+use Rattle.can_station.proofs.Places.{AtPlacesBelow}
 use Rattle.can_station.specs.RestingNodes.{Shares, TellsNone}
 use Rattle.can_station.proofs.wake.share_all.Given as goal
 

@@ -1,5 +1,5 @@
 use Rattle.std.proofs.Common.{◌≡◌}
-use Rattle.can_station.specs.Places.{AtPlacesBelow}
+use Rattle.can_station.proofs.Places.{AtPlacesBelow}
 use Rattle.can_station.specs.RestingNodes.{woken}
 use Rattle.can_station.proofs.wake.wake_all.Given as goal
 

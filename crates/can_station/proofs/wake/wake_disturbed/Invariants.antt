@@ -1,4 +1,4 @@
-use Rattle.can_station.specs.Places.{AtPlacesBelow}
+use Rattle.can_station.proofs.Places.{AtPlacesBelow}
 use Rattle.can_station.specs.RestingNodes.{WakesDisturbed}
 use Rattle.can_station.proofs.wake.wake_disturbed.Given as goal
 

@@ -1,4 +1,4 @@
-use Rattle.can_station.specs.Places.{AtPlacesBelow}
+use Rattle.can_station.proofs.Places.{AtPlacesBelow}
 use Rattle.can_station.specs.RestingNodes.{WakesUnspent}
 use Rattle.can_station.proofs.wake.wake_unspent.Given as goal
 

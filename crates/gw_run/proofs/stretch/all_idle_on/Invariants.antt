@@ -1,5 +1,5 @@
 use Rattle.std.proofs.Common.{◌≡◌, ◌<◌, ◌≤◌, ℕ, true, Some, length, slice_get}
-use Rattle.can_station.specs.Places.{AtPlacesBelow}
+use Rattle.can_station.proofs.Places.{AtPlacesBelow}
 use Rattle.gw_run.specs.Ports.{Site}
 use Rattle.gw_run.specs.Sites.{SiteIdles}
 use Rattle.gw_run.proofs.stretch.all_idle_on.Given as goal

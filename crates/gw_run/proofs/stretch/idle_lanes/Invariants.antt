@@ -1,4 +1,4 @@
-use Rattle.can_station.specs.Places.{AtPlacesBelow}
+use Rattle.can_station.proofs.Places.{AtPlacesBelow}
 use Rattle.gw_run.specs.Worlds.{LaneIdles}
 use Rattle.gw_run.proofs.stretch.idle_lanes.Given as goal
 

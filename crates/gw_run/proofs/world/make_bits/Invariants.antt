@@ -1,4 +1,4 @@
-use Rattle.can_station.specs.Places.{AtPlacesBelow}
+use Rattle.can_station.proofs.Places.{AtPlacesBelow}
 use Rattle.gw_run.specs.Sites.{SiteMakes}
 use Rattle.gw_run.proofs.world.make_bits.Given as goal
 

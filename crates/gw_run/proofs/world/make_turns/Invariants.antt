@@ -1,5 +1,5 @@
 use Rattle.std.proofs.Common.{◌≡◌, ◌<◌, ℕ, true, Some, slice_get}
-use Rattle.can_station.specs.Places.{AtPlacesBelow}
+use Rattle.can_station.proofs.Places.{AtPlacesBelow}
 use Rattle.gw_opening.specs.declared.lane.Lane.{Lane}
 use Rattle.gw_run.specs.Lanes.{AskedInVain}
 use Rattle.gw_run.specs.Worlds.{WorldHolds, SameSegments, LanesKeep, SitesKeep, CountsTurn, NoneShort}

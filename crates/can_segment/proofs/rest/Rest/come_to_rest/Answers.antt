@@ -20,7 +20,8 @@ lull_alike-requires-clause-holds c =
     (left_places (λ k. FallsSilent c.args.told) t0 t1 c.fall_silent.ensures)
     (left_places (λ k. FallsSilent c.args.told) c0 c1 c.fall_silent-2.ensures)
     (λ set. within_places (λ k. FallsSilent c.args.told) set t0 t1 c.fall_silent.ensures)
-    (λ set. within_places (λ k. FallsSilent c.args.told) set c0 c1 c.fall_silent-2.ensures) c.requires.holds
+    (λ set. within_places (λ k. FallsSilent c.args.told) set c0 c1 c.fall_silent-2.ensures)
+    (omega (arith, c.fall_silent.ensures.size)) (omega (arith, c.fall_silent-2.ensures.size)) c.requires.holds
 
 pub returns-else-self : goal.returns-else-self
 returns-else-self c =

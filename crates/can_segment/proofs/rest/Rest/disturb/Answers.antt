@@ -1,4 +1,4 @@
-use Rattle.std.proofs.Common.{map, ap, ◌∙◌}
+use Rattle.std.proofs.Common.{arith, map, ap, ◌∙◌}
 use Rattle.can_station.specs.RestingNodes.{WakesDisturbed, woken}
 use Rattle.can_segment.proofs.Holds.{woken_holds}
 use Rattle.can_segment.proofs.Woken.{wakes_left, wakes_same}
@@ -34,7 +34,8 @@ returns-clause-holds c =
     woken_holds c.args.self.now c.look_everywhere.new.self c.args.bit c.args.plan.now c.args.talkers.now
     c.wake_disturbed.new.members c.args.controllers.now c.wake_disturbed-2.new.members everywhere.same
     everywhere.few
-    everywhere.talkers everywhere.controllers left.0 left.1
+    everywhere.talkers everywhere.controllers (omega (arith, c.wake_disturbed.ensures.size))
+    (omega (arith, c.wake_disturbed-2.ensures.size)) left.0 left.1
     c.requires.holds
 
 pub returns-clause-talkers_undisturbed : goal.returns-clause-talkers_undisturbed

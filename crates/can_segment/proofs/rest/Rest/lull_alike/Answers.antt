@@ -1,4 +1,4 @@
-use Rattle.std.proofs.Common.{refl, subst, sym, ap, ◌∙◌}
+use Rattle.std.proofs.Common.{arith, refl, subst, sym, ap, ◌∙◌}
 use Rattle.can_station.specs.RestingNodes.{AreAlike, AwakeWithin}
 use Rattle.can_segment.specs.Rests.{members_at}
 use Rattle.can_segment.proofs.ComesToRest.{alike_at_rest, alike_self, chosen_awake, chosen_rests, chosen_same}
@@ -30,6 +30,8 @@ returns-then-not-self c =
         talkers_within = subst (λ set. AwakeWithin set talkers) (sym chosen.talkers_is) held.talkers_within;
         controllers_within =
             subst (λ set. AwakeWithin set controllers) (sym chosen.controllers_is) held.controllers_within;
+        talkers_fit = held.talkers_fit;
+        controllers_fit = held.controllers_fit;
         few_are = λ few. absurd (cc (few, many));
       };
     }
@@ -93,6 +95,9 @@ settle-requires c =
             c.lull_controllers-awake_too.new.members c.args.self.now.controllers
             c.lull_controllers-awake_too.ensures.lie
             c.requires.holds.controllers_within);
+        talkers_fit = omega (arith, c.lull_talkers-awake.ensures.lie.size, c.requires.holds.talkers_fit);
+        controllers_fit =
+            omega (arith, c.lull_controllers-awake_too.ensures.lie.size, c.requires.holds.controllers_fit);
         few_are = λ few. absurd (cc (few, few_is));
       };
     }

@@ -20,11 +20,6 @@ bounds-members-place c =
     let less = lie.within c.in-Some.place c.in-Some.ensures.some.0.has in
     omega (arith, less, lie.size)
 
-pub offset_bounds-members-place : goal.offset_bounds-members-place
-offset_bounds-members-place c =
-    let less = c.loop-place.invariant.lulls.lie.within c.in-Some.place c.in-Some.ensures.some.0.has in
-    omega (arith, less, c.requires.within.few)
-
 pub loop-place-preserved : goal.loop-place-preserved
 loop-place-preserved c =
     let members = c.loop-place.members in
@@ -55,5 +50,4 @@ returns-clause-lie c =
 
 pub returns-clause-awake : goal.returns-clause-awake
 returns-clause-awake c =
-    counted_end c.loop-place.awake.places c.loop-place.members c.loop-place.left c.in_default.ensures.none.0
-    (omega (arith, c.requires.within.few, c.loop-place.invariant.lulls.lie.size)) c.loop-place.invariant.counted
+    counted_end c.loop-place.awake.places c.loop-place.members c.loop-place.left c.in_default.ensures.none.0 c.loop-place.invariant.counted

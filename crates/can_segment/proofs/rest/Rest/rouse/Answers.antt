@@ -1,4 +1,4 @@
-use Rattle.std.proofs.Common.{map, inr, ap, ◌∙◌}
+use Rattle.std.proofs.Common.{arith, map, inr, ap, ◌∙◌}
 use Rattle.can_station.specs.RestingNodes.{WakesUnspent, woken}
 use Rattle.can_segment.proofs.Holds.{same_rests}
 use Rattle.can_segment.proofs.Woken.{all_woken, wakes_left, wakes_same}
@@ -51,5 +51,7 @@ returns-clause-holds c =
       controllers_awake = λ s. awake;
       talkers_within = everywhere.talkers;
       controllers_within = everywhere.controllers;
+      talkers_fit = omega (arith, c.wake_unspent.ensures.size, held.talkers_fit);
+      controllers_fit = omega (arith, c.wake_all.ensures.size, held.controllers_fit);
       few_are = λ few. absurd (cc (few, many));
     }

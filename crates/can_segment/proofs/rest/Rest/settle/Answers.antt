@@ -39,6 +39,8 @@ returns-clause-holds c =
       controllers_awake = held.controllers_awake;
       talkers_within = c.requires.talkers;
       controllers_within = c.requires.controllers;
+      talkers_fit = held.talkers_fit;
+      controllers_fit = held.controllers_fit;
       few_are = λ few. elim c.if-has_one_at_most.branch [
         | then-has_one_at_most w ↦ record {
           talkers = c.has_one_at_most.ensures.one w.if-has_one_at_most.true;

@@ -1,4 +1,4 @@
-use Rattle.std.proofs.Common.{rules, map, inr, ap, ◌∙◌}
+use Rattle.std.proofs.Common.{arith, rules, map, inr, ap, ◌∙◌}
 use Rattle.can_segment.proofs.Holds.{none_rests, none_rests_on, not_resting}
 use Rattle.can_station.specs.RestingNodes.{woken}
 use Rattle.can_segment.proofs.Woken.{all_woken, wakes_same}
@@ -42,5 +42,7 @@ returns-clause-controllers_awake c =
 pub returns-clause-holds : goal.returns-clause-holds
 returns-clause-holds c next = none_rests c.look_everywhere.new.self next c.args.plan.now c.wake_all.new.members
     c.wake_all-2.new.members c.look_everywhere.ensures.few
-    c.look_everywhere.ensures.talkers c.look_everywhere.ensures.controllers (returns-clause-talkers_awake c)
+    c.look_everywhere.ensures.talkers c.look_everywhere.ensures.controllers
+    (omega (arith, c.wake_all.ensures.size, c.requires.holds.talkers_fit))
+    (omega (arith, c.wake_all-2.ensures.size, c.requires.holds.controllers_fit)) (returns-clause-talkers_awake c)
     (returns-clause-controllers_awake c)

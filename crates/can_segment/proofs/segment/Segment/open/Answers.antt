@@ -51,6 +51,7 @@ invariant_of-result c =
       none_rests c.none-rest.result (length made.levels.items) c.args.plan.talkers.items talkers controllers
           c.none-rest.ensures.few
           (search rules) (search rules)
+          (omega (arith, held.few)) (omega (arith, held.few))
           awake awake_too,
     )
 

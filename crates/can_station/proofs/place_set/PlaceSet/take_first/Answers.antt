@@ -15,3 +15,7 @@ returns-clause-fewer c =
     let first = first_is c.args.self.now (omega (arith, c.if-self-eq0.false)) (omega arith) in
     fewer c.args.self.now _
     (first_below c.args.self.now (omega (arith, c.if-self-eq0.false)) (omega arith)) first.has
+
+pub returns-clause-below : goal.returns-clause-below
+returns-clause-below c =
+    first_below c.args.self.now (omega (arith, c.if-self-eq0.false)) (omega arith)
