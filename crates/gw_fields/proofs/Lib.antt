@@ -4,3 +4,4 @@ pub mod FaultLaws
 pub mod Readings
 pub mod FiniteValues
 pub mod WholeNumbers
+pub mod Stacks

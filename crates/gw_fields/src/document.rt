@@ -8,6 +8,7 @@ ghost use Rattle.gw_fields.specs.Documents.{text_value, IsDocument, IsNoDocument
 
 use crate::json_value::read_value;
 use crate::script_fault::ScriptFault;
+use crate::unclosed::Unclosed;
 use json::{Reader, Scratch, Value};
 use std::alloc::Global;
 
@@ -27,7 +28,8 @@ fn read_text<'a>(
     ensures err { IfErr result (SaysNone (text_value text.now)) }
 {
     let mut reader = Reader::new(text, scratch)?;
-    let value = read_value(alloc, &mut reader, DEPTH)?;
+    let mut unclosed = Unclosed::none(alloc);
+    let value = read_value(&mut reader, &mut unclosed, DEPTH)?;
     if reader.next().is_some() {
         return Err(ScriptFault::NotJson);
     }

@@ -5,11 +5,10 @@ ghost use Rattle.json.specs.Json.{number};
 ghost use Rattle.json.specs.Value.{value_view as view, items_view, members_view};
 ghost use Rattle.gw_fields.specs.JsonValues.{is_finite_number, finite_value, finite_items, finite_members, SaysNone};
 
-use crate::gathered::Gathered;
 use crate::numbers::nearest_float;
 use crate::script_fault::ScriptFault;
+use crate::unclosed::Unclosed;
 use json::{Reader, Token, Value};
-use std::alloc::Global;
 
 /// A number, unless it is too large for a floating-point number.
 fn finite_number(text: &str) -> Result<Value<'_>, ScriptFault>
@@ -27,12 +26,13 @@ fn finite_number(text: &str) -> Result<Value<'_>, ScriptFault>
 #[cycle(read_value)]
 #[inline(always)]
 pub fn read_value<'a>(
-    alloc: Global,
     reader: &mut Reader<'a>,
+    unclosed: &mut Unclosed<'a>,
     depth: usize,
 ) -> Result<Value<'a>, ScriptFault>
     ensures ok { IfOk result (λ v. finite_value depth reader.old ≡ Some (view v, reader.new)) }
     ensures shorter { OnOk result (length reader.new < length reader.old) }
+    ensures unclosed { OnOk result (unclosed.new ≡ unclosed.old) }
     ensures err { IfErr result (SaysNone (finite_value depth reader.old)) }
 {
     let token = reader.next().ok_or(ScriptFault::NotJson)?;
@@ -48,13 +48,13 @@ pub fn read_value<'a>(
             if depth == 0 {
                 return Err(ScriptFault::NotJson);
             }
-            Ok(Value::Array(read_items(alloc, reader, depth - 1)?))
+            Ok(Value::Array(read_items(reader, unclosed, depth - 1)?))
         }
         Token::BeginObject => {
             if depth == 0 {
                 return Err(ScriptFault::NotJson);
             }
-            Ok(Value::Object(read_members(alloc, reader, depth - 1)?))
+            Ok(Value::Object(read_members(reader, unclosed, depth - 1)?))
         }
     }
 }
@@ -63,38 +63,40 @@ pub fn read_value<'a>(
 #[cycle(read_value)]
 #[inline(never)]
 fn read_items<'a>(
-    alloc: Global,
     reader: &mut Reader<'a>,
+    unclosed: &mut Unclosed<'a>,
     depth: usize,
 ) -> Result<Vec<Value<'a>>, ScriptFault>
     ensures ok { IfOk result (λ v. finite_items depth reader.old ≡ Some (items_view v.items, reader.new)) }
     ensures shorter { OnOk result (length reader.new < length reader.old) }
+    ensures unclosed { OnOk result (unclosed.new ≡ unclosed.old) }
     ensures err { IfErr result (SaysNone (finite_items depth reader.old)) }
 {
-    let mut found = Gathered::new(alloc);
+    let first = unclosed.items.len();
     'items: while !reader.take_end_array() {
-        let item = read_value(alloc, reader, depth)?;
-        found.add(item)?;
+        let item = read_value(reader, unclosed, depth)?;
+        unclosed.items.add(item)?;
     }
-    Ok(found.finish()?)
+    Ok(unclosed.items.close(first)?)
 }
 
 /// The fields of an object, up to its closing brace.
 #[cycle(read_value)]
 #[inline(never)]
 fn read_members<'a>(
-    alloc: Global,
     reader: &mut Reader<'a>,
+    unclosed: &mut Unclosed<'a>,
     depth: usize,
 ) -> Result<Vec<(&'a str, Value<'a>)>, ScriptFault>
     ensures ok { IfOk result (λ v. finite_members depth reader.old ≡ Some (members_view v.items, reader.new)) }
     ensures shorter { OnOk result (length reader.new < length reader.old) }
+    ensures unclosed { OnOk result (unclosed.new ≡ unclosed.old) }
     ensures err { IfErr result (SaysNone (finite_members depth reader.old)) }
 {
-    let mut found = Gathered::new(alloc);
+    let first = unclosed.members.len();
     'members: while let Some(name) = reader.next_key()? {
-        let value = read_value(alloc, reader, depth)?;
-        found.add((name, value))?;
+        let value = read_value(reader, unclosed, depth)?;
+        unclosed.members.add((name, value))?;
     }
-    Ok(found.finish()?)
+    Ok(unclosed.members.close(first)?)
 }

@@ -4,12 +4,13 @@
 mod document;
 mod fields;
 mod frames;
-mod gathered;
 mod json_value;
 mod name;
 mod numbers;
 mod reads_element;
 mod script_fault;
+mod stack;
+mod unclosed;
 
 pub use crate::document::{LIMIT, read_document};
 pub use crate::fields::{

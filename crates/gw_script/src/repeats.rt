@@ -2,12 +2,13 @@
 
 ghost use Rattle.std.specs.Prelude.{◌≡◌, ◌<◌, ◌≤◌, ◌+◌, ◌++◌, true, None, length, vec_len, vec_capacity};
 ghost use Rattle.std.specs.Prelude.{IfOk, IsOk, OnOk};
-ghost use Rattle.can_station.specs.declared.event.Told.TheVariants.{Started, Took, Lost};
+ghost use Rattle.can_station.specs.declared.event.Told.TheVariants.{Started, Took, Lost, Error};
 ghost use Rattle.gw_script.specs.LineParts.{front_text, end_text, IsFront, IsEnd, AreEnds};
 
 use crate::digits::push_decimal_and_space;
 use crate::event_text::push_told;
 use can_frame::Frame;
+use can_node::ErrorKind;
 use can_segment::Told;
 use std::alloc::{AllocError, Global};
 
@@ -122,7 +123,16 @@ fn is_started(told: &Told, frame: &Frame) -> bool
     }
 }
 
-/// Whether the same was told of a node that started or took a frame or lost arbitration.
+fn is_error(told: &Told, kind: ErrorKind) -> bool
+    ensures { result ≡ true → told.now ≡ Error kind }
+{
+    match told {
+        Told::Error(since) => *since == kind,
+        _ => false,
+    }
+}
+
+/// Whether the same was told of a node that started or took a frame, lost arbitration or signals an error.
 fn is_told_again(told: &Told, last: &Told) -> bool
     ensures { result ≡ true → last.now ≡ told.now }
 {
@@ -130,6 +140,7 @@ fn is_told_again(told: &Told, last: &Told) -> bool
         Told::Took { start, frame } => is_took(last, *start, frame),
         Told::Lost { start } => is_lost(last, *start),
         Told::Started { frame, label: None } => is_started(last, frame),
+        Told::Error(kind) => is_error(last, *kind),
         _ => false,
     }
 }
