@@ -1,6 +1,6 @@
 //! What is told of a node at a bit.
 
-ghost use Rattle.std.specs.Prelude.{◌≡◌};
+ghost use Rattle.std.specs.Prelude.{◌≡◌, ◌≢◌, true, false};
 ghost use Rattle.can_station.specs.ToldParts.{parts_in};
 
 use crate::kind::Kind;
@@ -124,6 +124,20 @@ impl Event {
         ensures { result ≡ self.now.node }
     {
         u32::from(self.node)
+    }
+
+    /// Whether the same happened there as of another line, whatever the nodes and bits of both are.
+    #[inline(always)]
+    pub fn tells_as(&self, other: &Event) -> bool
+        ensures same { result ≡ true → self.now.told ≡ other.now.told }
+        ensures another { result ≡ false → self.now.told ≢ other.now.told }
+    {
+        // part by part: neither is put together for it
+        self.kind == other.kind
+            && self.start == other.start
+            && self.frame.is_same(&other.frame)
+            && self.number == other.number
+            && self.route == other.route
     }
 
     /// What happened there.

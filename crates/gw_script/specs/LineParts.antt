@@ -1,5 +1,5 @@
 -- Parts of the line of an event.
-use Rattle.std.specs.Prelude.{◌≡◌, ℕ, ◌+◌, ◌≤◌, List, [], ◌∷◌, ◌++◌, All, length, map, vec_len}
+use Rattle.std.specs.Prelude.{◌≡◌, ℕ, ◌+◌, ◌≤◌, List, [], ◌∷◌, ◌++◌, All, None, length, map, vec_len}
 use Rattle.std.specs.Prelude.{vec_capacity, codes}
 use Rattle.std.specs.Fmt.{decimal}
 use Rattle.can_station.specs.declared.event.Event.{Event}
@@ -34,7 +34,8 @@ pub record IsFront (name : List ℕ) (front : Front) : Type 0 where
 -- It has the text of what it tells, and room for that of any other thing. The longest is that a frame was completed: 11
 -- bytes, 20 digits and a space, 32 bytes of the frame, and a line feed.
 pub record IsEnd (end : End) : Type 0 where
-  pub text_is : end.text.items ≡ end_text end.told
+  pub text_is : end.text.items ≡ end_text end.event.told
+  pub names_none : label_of end.event.told ≡ None
   pub short : vec_len end.text ≤ 65
   pub room : 65 ≤ vec_capacity end.text
 

@@ -119,9 +119,11 @@ impl<'s> EventLines<'s> {
         self.front.push(text, self.name, event.bit())?;
         let node = event.node() as usize;
         text.extend_from_slice(name_at(self.names.as_slice(), node).as_bytes())?;
-        let told = event.told();
-        match label_of(&told) {
-            None => self.ends.push(text, node, &told),
+        if self.ends.ends_as_last(event) {
+            return self.ends.push_last(text);
+        }
+        match label_of(&event.told()) {
+            None => self.ends.push(text, event),
             Some(_) => push_rest(text, script, segment, event),
         }
     }

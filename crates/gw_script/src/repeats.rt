@@ -2,14 +2,12 @@
 
 ghost use Rattle.std.specs.Prelude.{◌≡◌, ◌<◌, ◌≤◌, ◌+◌, ◌++◌, true, None, length, vec_len, vec_capacity};
 ghost use Rattle.std.specs.Prelude.{IfOk, IsOk, OnOk};
-ghost use Rattle.can_station.specs.declared.event.Told.TheVariants.{Started, Took, Lost, Error};
 ghost use Rattle.gw_script.specs.LineParts.{front_text, end_text, IsFront, IsEnd, AreEnds};
+ghost use Rattle.gw_script.specs.NamedPlaces.{label_of};
 
 use crate::digits::push_decimal_and_space;
 use crate::event_text::push_told;
-use can_frame::Frame;
-use can_node::ErrorKind;
-use can_segment::Told;
+use can_segment::{Event, Told};
 use std::alloc::{AllocError, Global};
 
 /// Of the beginning of a line what stands behind the segment's name takes as many bytes at most: a space, 20 digits and
@@ -74,7 +72,8 @@ impl Front {
 /// The end of a line that names no request: what happened, behind a space, and a line feed.
 #[derive(Drop)]
 pub(crate) struct End {
-    told: Told,
+    // that of such a line
+    event: Event,
     text: Vec<u8>,
 }
 
@@ -90,61 +89,6 @@ fn write_end(text: &mut Vec<u8>, told: &Told) -> Result<(), AllocError>
     text.extend_from_slice(b"\n")
 }
 
-fn is_took(told: &Told, start: u64, frame: &Frame) -> bool
-    ensures { result ≡ true → told.now ≡ Took start frame.now }
-{
-    match told {
-        Told::Took {
-            start: since,
-            frame: taken,
-        } => *since == start && taken.is_same(frame),
-        _ => false,
-    }
-}
-
-fn is_lost(told: &Told, start: u64) -> bool
-    ensures { result ≡ true → told.now ≡ Lost start }
-{
-    match told {
-        Told::Lost { start: since } => *since == start,
-        _ => false,
-    }
-}
-
-fn is_started(told: &Told, frame: &Frame) -> bool
-    ensures { result ≡ true → told.now ≡ Started frame.now None }
-{
-    match told {
-        Told::Started {
-            frame: begun,
-            label: None,
-        } => begun.is_same(frame),
-        _ => false,
-    }
-}
-
-fn is_error(told: &Told, kind: ErrorKind) -> bool
-    ensures { result ≡ true → told.now ≡ Error kind }
-{
-    match told {
-        Told::Error(since) => *since == kind,
-        _ => false,
-    }
-}
-
-/// Whether the same was told of a node that started or took a frame, lost arbitration or signals an error.
-fn is_told_again(told: &Told, last: &Told) -> bool
-    ensures { result ≡ true → last.now ≡ told.now }
-{
-    match told {
-        Told::Took { start, frame } => is_took(last, *start, frame),
-        Told::Lost { start } => is_lost(last, *start),
-        Told::Started { frame, label: None } => is_started(last, frame),
-        Told::Error(kind) => is_error(last, *kind),
-        _ => false,
-    }
-}
-
 impl End {
     /// That of a line which tells that a node is back.
     pub(crate) fn new(alloc: Global) -> Result<End, AllocError>
@@ -153,21 +97,26 @@ impl End {
         let told = Told::Back;
         let mut text = Vec::with_capacity(alloc, LONGEST_END)?;
         write_end(&mut text, &told)?;
-        Ok(End { told, text })
+        Ok(End {
+            event: Event::new(0, 0, told),
+            text,
+        })
     }
 
-    /// Adds that of a line which tells this. It is written anew only where another thing was told before.
-    pub(crate) fn push(&mut self, text: &mut Vec<u8>, told: &Told) -> Result<(), AllocError>
-        requires { IsEnd self.old }
+    /// Adds that of the line of this event, which names no request. It is written anew only where another thing was
+    /// told before.
+    pub(crate) fn push(&mut self, text: &mut Vec<u8>, event: &Event) -> Result<(), AllocError>
+        requires end { IsEnd self.old }
+        requires names_none { label_of event.now.told ≡ None }
         ensures end { OnOk result (IsEnd self.new) }
-        ensures text { OnOk result (text.new.items ≡ text.old.items ++ end_text told.now) }
+        ensures text { OnOk result (text.new.items ≡ text.old.items ++ end_text event.now.told) }
         ensures room { vec_len text.old + 65 ≤ vec_capacity text.old → IsOk result }
         ensures len { vec_len text.new ≤ vec_len text.old + 65 }
         ensures capacity { vec_capacity text.old ≤ vec_capacity text.new }
     {
-        if !is_told_again(told, &self.told) {
-            write_end(&mut self.text, told)?;
-            self.told = *told;
+        if !event.tells_as(&self.event) {
+            write_end(&mut self.text, &event.told())?;
+            self.event = *event;
         }
         text.extend_from_slice(self.text.as_slice())
     }
@@ -194,24 +143,40 @@ impl Ends {
         Ok(Ends { started, last })
     }
 
-    /// Adds that of a line which tells this of a node and names no request.
-    pub(crate) fn push(
-        &mut self,
-        text: &mut Vec<u8>,
-        node: usize,
-        told: &Told,
-    ) -> Result<(), AllocError>
-        requires ends { AreEnds (vec_len self.old.started) self.old }
-        requires node { node < vec_len self.old.started }
-        ensures ends { OnOk result (AreEnds (vec_len self.old.started) self.new) }
-        ensures text { OnOk result (text.new.items ≡ text.old.items ++ end_text told.now) }
+    /// Whether the line of this event ends as the last one that told of no start.
+    #[inline(always)]
+    pub(crate) fn ends_as_last(&self, event: &Event) -> bool
+        ensures { result ≡ true → event.now.told ≡ self.now.last.event.told }
+    {
+        event.tells_as(&self.last.event)
+    }
+
+    /// Adds that one once more.
+    #[inline(always)]
+    pub(crate) fn push_last(&self, text: &mut Vec<u8>) -> Result<(), AllocError>
+        requires { IsEnd self.now.last }
+        ensures text { OnOk result (text.new.items ≡ text.old.items ++ end_text self.now.last.event.told) }
         ensures room { vec_len text.old + 65 ≤ vec_capacity text.old → IsOk result }
         ensures len { vec_len text.new ≤ vec_len text.old + 65 }
         ensures capacity { vec_capacity text.old ≤ vec_capacity text.new }
     {
-        match told {
-            Told::Started { .. } => self.started[node].push(text, told),
-            _ => self.last.push(text, told),
+        text.extend_from_slice(self.last.text.as_slice())
+    }
+
+    /// Adds that of the line of this event, which names no request.
+    pub(crate) fn push(&mut self, text: &mut Vec<u8>, event: &Event) -> Result<(), AllocError>
+        requires ends { AreEnds (vec_len self.old.started) self.old }
+        requires node { event.now.node < vec_len self.old.started }
+        requires names_none { label_of event.now.told ≡ None }
+        ensures ends { OnOk result (AreEnds (vec_len self.old.started) self.new) }
+        ensures text { OnOk result (text.new.items ≡ text.old.items ++ end_text event.now.told) }
+        ensures room { vec_len text.old + 65 ≤ vec_capacity text.old → IsOk result }
+        ensures len { vec_len text.new ≤ vec_len text.old + 65 }
+        ensures capacity { vec_capacity text.old ≤ vec_capacity text.new }
+    {
+        match event.told() {
+            Told::Started { .. } => self.started[event.node() as usize].push(text, event),
+            _ => self.last.push(text, event),
         }
     }
 }
