@@ -104,11 +104,11 @@ fn a_request_at_a_seat_is_sent(rt: HostRuntime) -> Result<(), Fail> {
         Ok(RequestAnswer::Taken(0))
     );
     let record = recorded(&rt, rt.alloc(), plan, port)?;
-    let lines = expected(frame, second);
-    assert!(rt; record.events.as_slice() == lines.as_slice());
+    assert!(rt; record.events.as_slice() == expected(frame, second).as_slice());
     // the talker starts its frame once more
-    assert!(rt; lines[0].tells_as(&lines[5]));
-    assert!(rt; !lines[0].tells_as(&lines[1]));
+    let start = started(11, 0, second);
+    assert!(rt; start.tells_as(&started(64, 0, second)));
+    assert!(rt; !start.tells_as(&took(59, 0, 11, second)));
     if seat.last() != 1 {
         return Err(Fail::new("the request has number 1"));
     }
