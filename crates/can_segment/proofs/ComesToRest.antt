@@ -14,7 +14,8 @@ use Rattle.can_segment.specs.declared.rest.Rest.{Rest}
 use Rattle.can_station.specs.declared.place_set.PlaceSet.{PlaceSet}
 use Rattle.can_station.specs.Deeds.{IsQuiet, no_deed}
 use Rattle.can_station.specs.Places.{AtPlaces}
-use Rattle.can_station.proofs.Places.{AtPlacesBut, but_end, but_step, some_there, get_set_other, get_set_same, same_some}
+use Rattle.can_station.proofs.Places.{AtPlacesBut, but_end, but_step, some_there, get_set_other, get_set_same}
+use Rattle.can_station.proofs.Places.{same_some}
 use Rattle.can_station.specs.PlaceSets.{HasPlace, IsEmpty, IsWith, IsWithout}
 use Rattle.can_station.specs.RestingNodes.{AreAlike, AwakeWithin, FallsSilent, IfAwake, IsAlike, MayLieDown, MayRest}
 use Rattle.can_station.specs.RestingNodes.{NoneRests, laid_down, woken}

@@ -36,7 +36,8 @@ loop-place-preserved g c =
     both_step
     (λ k. IfAwakeBoth (PortSettled g.P.TxBus.bus_after g.P.TxBus.bus_asked g.P.TxBus.transmitting g.P.RxSink.sink_after
     g.P.RxSink.port_stays c.args.bit)) c.args.members.now members c.args.ports.now ports c.loop-place.left
-    c.take_first.new.self place _ c.settle.new.self _ c.settle.new.port c.requires.size has c.in-Some.ensures.some.1 found there
+    c.take_first.new.self place _ c.settle.new.self _ c.settle.new.port c.requires.size has c.in-Some.ensures.some.1
+    found there
     (record {
       rests_on = settle.rests;
       stays_awake = λ e. settle.awake ∙ e;

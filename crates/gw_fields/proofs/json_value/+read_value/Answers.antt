@@ -1,11 +1,13 @@
 use Rattle.std.proofs.Math.Seq.{drop-length}
-use Rattle.std.proofs.Common.{◌≡◌, ◌-◌, ◌<◌, [], ◌∷◌, ◌++◌, length, drop, Some, None, refl, sym, ap, ap₂, ◌∙◌, arith, rules}
+use Rattle.std.proofs.Common.{◌≡◌, ◌-◌, ◌<◌, [], ◌∷◌, ◌++◌, length, drop, Some, None, refl, sym, ap, ap₂, ◌∙◌}
+use Rattle.std.proofs.Common.{arith, rules}
 use Rattle.json.specs.Token.{Token}
 use Rattle.json.specs.Json.{Json, array, object, parse_map, after_end_array, read_key, items, members, value}
 use Rattle.json.specs.Reads.{token_of}
 use Rattle.json.specs.Value.{items_view, members_view, value_view}
 use Rattle.json.specs.declared.value.Value.{String, Bool, Null, the_lemmas}
-use Rattle.json.proofs.Grammar.{value_is, value-begin_array, value-begin_object, read_key-shorter, after_end_array-shorter}
+use Rattle.json.proofs.Grammar.{value_is, value-begin_array, value-begin_object, read_key-shorter}
+use Rattle.json.proofs.Grammar.{after_end_array-shorter}
 use Rattle.json.proofs.Trees.{items_before, members_before, items_before-no_items, members_before-no_members}
 use Rattle.json.proofs.Trees.{one_more_item, one_more_member, none_before, view-Array, view-Object}
 use Rattle.gw_fields.specs.JsonValues.{is_finite, are_finite_items, are_finite_members, tested, finite_value}

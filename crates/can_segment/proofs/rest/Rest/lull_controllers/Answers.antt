@@ -50,4 +50,5 @@ returns-clause-lie c =
 
 pub returns-clause-awake : goal.returns-clause-awake
 returns-clause-awake c =
-    counted_end c.loop-place.awake.places c.loop-place.members c.loop-place.left c.in_default.ensures.none.0 c.loop-place.invariant.counted
+    counted_end c.loop-place.awake.places c.loop-place.members c.loop-place.left c.in_default.ensures.none.0
+    c.loop-place.invariant.counted
