@@ -1,6 +1,6 @@
 //! Parts of lines that stay the same in lines in a row.
 
-ghost use Rattle.std.specs.Prelude.{◌≡◌, ◌<◌, ◌≤◌, ◌+◌, ◌++◌, true, None, length, vec_len, vec_capacity};
+ghost use Rattle.std.specs.Prelude.{◌≡◌, ◌≢◌, ◌<◌, ◌≤◌, ◌+◌, ◌++◌, true, false, None, length, vec_len, vec_capacity};
 ghost use Rattle.std.specs.Prelude.{IfOk, IsOk, OnOk};
 ghost use Rattle.gw_script.specs.LineParts.{front_text, end_text, IsFront, IsEnd, AreEnds};
 ghost use Rattle.gw_script.specs.NamedPlaces.{label_of};
@@ -146,7 +146,8 @@ impl Ends {
     /// Whether the line of this event ends as the last one that told of no start.
     #[inline(always)]
     pub(crate) fn ends_as_last(&self, event: &Event) -> bool
-        ensures { result ≡ true → event.now.told ≡ self.now.last.event.told }
+        ensures same { result ≡ true → event.now.told ≡ self.now.last.event.told }
+        ensures another { result ≡ false → event.now.told ≢ self.now.last.event.told }
     {
         event.tells_as(&self.last.event)
     }
