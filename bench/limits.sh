@@ -3,8 +3,11 @@
 # and the most memory that one of them took.
 set -eu
 cd "$(dirname "$0")/.."
-./bxgate --help > /dev/null
-program=${PROGRAM:-crates/bxgate/out/bxgate}
+program=${PROGRAM:-}
+if [ -z "$program" ]; then
+  ./bxgate --help > /dev/null
+  program=crates/bxgate/out/bxgate
+fi
 work=$(mktemp -d)
 trap 'rm -rf "$work"' EXIT
 
