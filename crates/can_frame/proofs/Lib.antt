@@ -20,3 +20,4 @@ pub mod Runs
 pub mod SameFrames
 pub mod Tallies
 pub mod Ahead
+pub mod Anew

@@ -1,6 +1,8 @@
 -- How a text ends, and how much of it is data, level by level.
-use Rattle.std.proofs.Common.{◌≡◌, ℕ, ◌+◌, ◌≤◌, ◌<◌, min, Bool, true, false, List, [], ◌∷◌, length, refl, sym, ap}
-use Rattle.std.proofs.Common.{arith, ◌∙◌, cond}
+use Rattle.std.proofs.Common.{◌≡◌, ℕ, suc, ◌+◌, ◌≤◌, ◌<◌, min, Bool, true, false, List, [], ◌∷◌, ◌++◌, length, refl, sym, ap}
+use Rattle.std.proofs.Common.{arith, ◌∙◌, cond, ◌-◌, inl, inr, take, drop, reverse}
+use Rattle.std.proofs.lemmas.Bool.Decides.{leb_tells}
+use Rattle.std.proofs.lemmas.List.{take-append-drop, reverse-append, length-reverse, length-drop}
 use Rattle.can_frame.specs.Stuffing.{five_equal, unstuffed}
 use Rattle.can_frame.specs.LevelRuns.{EndsIn}
 use Rattle.can_frame.specs.declared.level_run.LevelRun.{LevelRun}
@@ -60,3 +62,68 @@ pub bit_arbitrates : (tally : Tally) (rtr : ℕ) (text : List Bool) → Tallies 
     five_equal text ≡ false → (tally.«data» ≡ 0 → ⊥) → SaysBit Arbitration text rtr
 bit_arbitrates tally rtr text h small few no_five some =
     (no_five, omega (arith, h.data_is, some), omega (arith, h.data_is, small, few))
+
+-- what the newest five levels tell of a text
+pub due_by_five : (newest older : List Bool) → length newest ≡ 5 → five_equal (newest ++ older) ≡ five_equal newest
+due_by_five (a ∷ b ∷ c ∷ d ∷ e ∷ []) older five = refl
+due_by_five (a ∷ b ∷ c ∷ d ∷ e ∷ f ∷ more) older five = absurd (omega (arith, five))
+due_by_five (a ∷ b ∷ c ∷ d ∷ []) older five = absurd (omega (arith, five))
+due_by_five (a ∷ b ∷ c ∷ []) older five = absurd (omega (arith, five))
+due_by_five (a ∷ b ∷ []) older five = absurd (omega (arith, five))
+due_by_five (a ∷ []) older five = absurd (omega (arith, five))
+due_by_five [] older five = absurd (omega (arith, five))
+
+pub newest_tell : (text : List Bool) (n : ℕ) → n ≡ length text - 5 →
+    five_equal (reverse text) ≡ five_equal (reverse (drop n text))
+newest_tell text n is = elim (leb_tells 5 (length text)) [
+  | inl many ↦
+      let apart : reverse text ≡ reverse (drop n text) ++ reverse (take n text) =
+      ap reverse (sym (take-append-drop n text)) ∙ reverse-append (take n text) (drop n text) in
+      let five : length (reverse (drop n text)) ≡ 5 =
+      length-reverse (drop n text) ∙ length-drop n text ∙ omega (arith, is, many.1) in
+      ap five_equal apart ∙ due_by_five (reverse (drop n text)) (reverse (take n text)) five
+  | inr few ↦
+      let none : n ≡ 0 = omega (arith, is, few.1) in
+      ap (λ k. five_equal (reverse (drop k text))) (sym none)
+]
+
+-- a text has no more data than levels, and some where it has a level
+few_or_more : (five level : Bool) (rest : List Bool) (n : ℕ) → length rest ≤ n →
+    length (cond five rest (level ∷ rest)) ≤ suc n
+few_or_more true level rest n few = omega (arith, few)
+few_or_more false level rest n few = omega (arith, few)
+
+data_few : (text : List Bool) → length (unstuffed text) ≤ length text
+unfolding unstuffed
+data_few [] = omega arith
+data_few (level ∷ older) = few_or_more (five_equal older) level (unstuffed older) (length older) (data_few older)
+
+five_are_some : (text : List Bool) → five_equal text ≡ true → 0 < length text
+five_are_some [] five = absurd (cc five)
+five_are_some (level ∷ older) five = omega arith
+
+some_left : (five level : Bool) (rest : List Bool) → (five ≡ true → 1 ≤ length rest) →
+    1 ≤ length (cond five rest (level ∷ rest))
+some_left true level rest h = h refl
+some_left false level rest h = omega arith
+
+data_some : (text : List Bool) → 0 < length text → 1 ≤ length (unstuffed text)
+unfolding unstuffed
+data_some [] some = absurd (omega (arith, some))
+data_some (level ∷ older) some =
+    some_left (five_equal older) level (unstuffed older) (λ five. data_some older (five_are_some older five))
+
+-- what the bit behind a text is that has no more levels than stand before RTR
+pub front_is_sof : (text : List Bool) (rtr : ℕ) → length text ≡ 0 → SaysBit Other text rtr
+front_is_sof text rtr none = (
+  λ same some few. omega (arith, data_few text, none, some),
+  λ five few. omega (arith, five_are_some text five, none),
+)
+
+pub front_stuffs : (text : List Bool) (rtr : ℕ) → length text ≤ rtr → five_equal text ≡ true →
+    SaysBit ArbitrationStuffBit text rtr
+front_stuffs text rtr few five = (five, omega (arith, data_few text, few))
+
+pub front_arbitrates : (text : List Bool) (rtr : ℕ) → length text ≤ rtr → 0 < length text → five_equal text ≡ false →
+    SaysBit Arbitration text rtr
+front_arbitrates text rtr few some no_five = (no_five, data_some text some, omega (arith, data_few text, few))

@@ -26,6 +26,7 @@ ghost use Rattle.can_frame.specs.Reading.{
   read_behind,
 };
 
+mod anew;
 mod outlook;
 
 use crate::frame::Frame;
@@ -134,27 +135,6 @@ impl Reader {
         self.run.push(level);
         keep(&mut self.levels, level);
         true
-    }
-
-    /// A reader that is the same.
-    pub fn copy(&self) -> Reader
-        ensures { result ≡ self.now }
-    {
-        let mut reader = Reader::new();
-        reader.copy_from(self);
-        reader
-    }
-
-    /// It becomes the same as another one, in place.
-    pub fn copy_from(&mut self, other: &Reader)
-        ensures { self.new ≡ other.now }
-    {
-        self.run = other.run;
-        self.levels.clear();
-        // it has the same room
-        let _ = self.levels.try_extend_from_slice(other.levels.as_slice());
-        self.place = other.place;
-        self.told = other.told;
     }
 
     /// Whether both have read the same of a frame: then either may read on for the other. It tells so of none that has

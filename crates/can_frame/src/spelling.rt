@@ -1,7 +1,7 @@
 //! A frame as its sender drives it.
 
 ghost use Rattle.std.specs.Prelude.{◌≡◌, ◌⊎◌, ◌≤◌, ◌<◌, ◌+◌, ◌-◌, ◌∷◌, List, Bool, true};
-ghost use Rattle.std.specs.Prelude.{false, IfNone, IfSome, length, reverse, min, take};
+ghost use Rattle.std.specs.Prelude.{false, IfNone, IfSome, ℕ, length, reverse, min, take};
 ghost use Rattle.can_frame.specs.Sending.{IsSpelling, IsBitAt, SendsOn, StandAhead, left_ahead, level_at, rtr_place};
 ghost use Rattle.can_frame.specs.Sending.{SaysBit, Tallies};
 
@@ -157,7 +157,11 @@ impl Spelling {
         if place > levels.len() {
             return SendBit::Other;
         }
-        bit_behind(&levels[..place], self.rtr)
+        let text = &levels[..place];
+        if place <= usize::from(self.rtr) {
+            return bit_in_front(text);
+        }
+        bit_behind(text, self.rtr)
     }
 }
 
@@ -203,6 +207,22 @@ fn tally_of(text: &[bool]) -> Tally
         tally.push(*level);
     }
     tally
+}
+
+/// What the bit behind this text is, where no more levels stand in the text than before RTR: it makes no difference
+/// how many of them are stuff bits, so the newest five are looked at alone.
+fn bit_in_front(text: &[bool]) -> SendBit
+    ensures { (rtr : ℕ) → length text.now ≤ rtr → SaysBit result (reverse text.now) rtr }
+{
+    if text.is_empty() {
+        return SendBit::Other;
+    }
+    let newest = tally_of(&text[text.len().saturating_sub(5)..]);
+    if newest.run.is_full() {
+        SendBit::ArbitrationStuffBit
+    } else {
+        SendBit::Arbitration
+    }
 }
 
 /// What the bit behind this text is.

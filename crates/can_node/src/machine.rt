@@ -192,10 +192,7 @@ pub(crate) fn reader_after_sof() -> Reader
 fn read_behind(reader: &mut Reader, text: &[bool], level: bool)
     ensures { StandsAfter reader.new (text.now ++ level ∷ []) }
 {
-    *reader = Reader::new();
-    for sampled in text {
-        let _step = reader.push(*sampled);
-    }
+    reader.read_anew(text);
     let _step = reader.push(level);
 }
 

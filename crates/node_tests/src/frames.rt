@@ -214,6 +214,48 @@ fn answers_each_level(rt: HostRuntime) -> Result<(), Fail> {
     Ok(())
 }
 
+/// A reader's answers to the levels of a text behind its first ones, which it has read anew.
+fn answers_behind(
+    alloc: Global,
+    text: &str,
+    first: usize,
+    frame: &Frame,
+) -> Result<String, AllocError> {
+    let mut front = Vec::new(alloc);
+    for byte in text.as_bytes().iter().take(first) {
+        front.push(*byte == b'1')?;
+    }
+    let mut reader = Reader::new();
+    // before, it had ended with a fault
+    let _fault = reader.push(true);
+    reader.read_anew(front.as_slice());
+    let mut answers = String::new(alloc);
+    for byte in text.as_bytes().iter().skip(first) {
+        answers.push(letter_of(reader.push(*byte == b'1'), *frame))?;
+    }
+    Ok(answers)
+}
+
+#[test]
+fn reads_on_behind_what_it_read_anew(rt: HostRuntime) -> Result<(), Fail> {
+    let frame = data(0, &[])?;
+    let text = "00000100000100000100000100000100000100001011111111";
+    // SOF alone, five equal levels, a stuff bit behind them, and more
+    for (first, want) in [
+        (1, "....s.....s.....s.....s.....s.....s...bttttttttTT"),
+        (5, "s.....s.....s.....s.....s.....s...bttttttttTT"),
+        (6, ".....s.....s.....s.....s.....s...bttttttttTT"),
+        (20, "...s.....s.....s...bttttttttTT"),
+    ] {
+        assert_eq!(rt;
+            answers_behind(rt.alloc(), text, first, &frame)?.as_str(),
+            want,
+            "behind {first}"
+        );
+    }
+    Ok(())
+}
+
 #[test]
 fn does_not_check_what_is_reserved(rt: HostRuntime) -> Result<(), Fail> {
     for (frame, text, want) in [
