@@ -27,7 +27,7 @@ impl Reader {
         ensures few { result ≤ length text.now }
         ensures stands { StandsAfter self.new (take result text.now) }
     {
-        // in place: to make one and move it here takes longer than to read five levels
+        // in place: a new one would be moved here
         self.run = LevelRun::new();
         self.levels.clear();
         self.place = Place::Region;
