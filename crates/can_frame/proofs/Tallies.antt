@@ -2,7 +2,7 @@
 use Rattle.std.proofs.Common.{◌≡◌, ℕ, suc, ◌+◌, ◌≤◌, ◌<◌, min, Bool, true, false, List, [], ◌∷◌, ◌++◌, length, refl, sym, ap}
 use Rattle.std.proofs.Common.{arith, ◌∙◌, cond, ◌-◌, inl, inr, take, drop, reverse}
 use Rattle.std.proofs.lemmas.Bool.Decides.{leb_tells}
-use Rattle.std.proofs.lemmas.List.{take-append-drop, reverse-append, length-reverse, length-drop}
+use Rattle.std.proofs.lemmas.List.{take-append-drop, reverse-append, length-reverse, length-drop, take_rest}
 use Rattle.can_frame.specs.Stuffing.{five_equal, unstuffed}
 use Rattle.can_frame.specs.LevelRuns.{EndsIn}
 use Rattle.can_frame.specs.declared.level_run.LevelRun.{LevelRun}
@@ -64,7 +64,7 @@ bit_arbitrates tally rtr text h small few no_five some =
     (no_five, omega (arith, h.data_is, some), omega (arith, h.data_is, small, few))
 
 -- what the newest five levels tell of a text
-pub due_by_five : (newest older : List Bool) → length newest ≡ 5 → five_equal (newest ++ older) ≡ five_equal newest
+due_by_five : (newest older : List Bool) → length newest ≡ 5 → five_equal (newest ++ older) ≡ five_equal newest
 due_by_five (a ∷ b ∷ c ∷ d ∷ e ∷ []) older five = refl
 due_by_five (a ∷ b ∷ c ∷ d ∷ e ∷ f ∷ more) older five = absurd (omega (arith, five))
 due_by_five (a ∷ b ∷ c ∷ d ∷ []) older five = absurd (omega (arith, five))
@@ -73,7 +73,7 @@ due_by_five (a ∷ b ∷ []) older five = absurd (omega (arith, five))
 due_by_five (a ∷ []) older five = absurd (omega (arith, five))
 due_by_five [] older five = absurd (omega (arith, five))
 
-pub newest_tell : (text : List Bool) (n : ℕ) → n ≡ length text - 5 →
+newest_tell : (text : List Bool) (n : ℕ) → n ≡ length text - 5 →
     five_equal (reverse text) ≡ five_equal (reverse (drop n text))
 newest_tell text n is = elim (leb_tells 5 (length text)) [
   | inl many ↦
@@ -86,6 +86,11 @@ newest_tell text n is = elim (leb_tells 5 (length text)) [
       let none : n ≡ 0 = omega (arith, is, few.1) in
       ap (λ k. five_equal (reverse (drop k text))) (sym none)
 ]
+
+pub newest_told : (text : List Bool) (n : ℕ) (full : Bool) → n ≡ length text - 5 →
+    full ≡ five_equal (reverse (take (length text - n) (drop n text))) → five_equal (reverse text) ≡ full
+newest_told text n full is told =
+    newest_tell text n is ∙ ap (λ (xs : List Bool). five_equal (reverse xs)) (sym (take_rest text n)) ∙ sym told
 
 -- a text has no more data than levels, and some where it has a level
 few_or_more : (five level : Bool) (rest : List Bool) (n : ℕ) → length rest ≤ n →
