@@ -16,5 +16,6 @@ pub returns-clause-stands : goal.returns-clause-stands
 returns-clause-stands c =
     let whole : take 1 c.args.text.now ≡ false ∷ [] = begins c.args.text.now false (search rules) c.if-text.false in
     let kept = c.push-2.ensures.items ∙ ap (λ xs. xs ++ false ∷ []) c.clear.ensures in
+    let inside = subst (Inside (false ∷ [])) (sym kept) inside_sof in
     subst (InRegion c.push.new.self c.push-2.new.self.items) (sym whole)
-    (record { ends = c.push.ensures.ends [] c.new-self.ensures; inside = subst (Inside (false ∷ [])) (sym kept) inside_sof })
+    (record { ends = c.push.ensures.ends [] c.new-self.ensures; inside = inside })
