@@ -31,9 +31,9 @@ def frame(draw, talker):
     return identifier | {"data": [draw.randrange(256) for _ in range(draw.randint(0, 8))]}
 
 
-def loaded(bits, count, percent=90):
+def loaded(bits, count, percent=90, seed=16):
     """Talkers with mixed frames that want so many of a hundred bits together; behind them the bus is idle."""
-    draw = random.Random(16)
+    draw = random.Random(seed)
     talkers, left = [[] for _ in range(count)], bits * percent // 100
     while left > 0:
         talker = draw.randrange(count)
@@ -93,3 +93,18 @@ def busy_gateway(bits, count=3, talkers=4, percent=40):
             routes.append({"name": f"r{place}{side}", "from": f"c{place}{side}", "fifo": 0,
                            "to": f"c{(place + 1) % count}{side}"})
     return {"version": 1, "bits": bits, "segments": segments, "controllers": controllers, "routes": routes}
+
+
+def busy_segments(bits, count):
+    """Segments of 15 talkers and a controller, and a route from each segment to the next. Mixed frames fill nine tenths
+    of the bits, on each segment others."""
+    segments = []
+    for place in range(count):
+        members = loaded(bits, 15, seed=place)["segments"][0]["talkers"]
+        segments.append({"name": f"s{place}",
+                         "talkers": [member | {"name": f"s{place}{member['name']}"} for member in members]})
+    return {"version": 1, "bits": bits, "segments": segments,
+            "controllers": [{"name": f"c{place}", "segment": f"s{place}", "on": 0, "banks": [ALL]}
+                            for place in range(count)],
+            "routes": [{"name": f"r{place}", "from": f"c{place}", "fifo": 0, "to": f"c{place + 1}"}
+                       for place in range(count - 1)]}

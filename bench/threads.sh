@@ -1,8 +1,10 @@
 #!/usr/bin/env bash
-# Measures the whole program in threads and in one: 1, 2, 4 and 8 segments of 16 nodes that always have frames to send,
-# over 250,000 bits, with a route from each segment to the next, by one worker and with a slack of 1, of 64 and of all bits;
-# the time by the clock and the processor time of each, the best of three runs. PROGRAM in the environment is the path
-# of the program (that which ./bxgate builds).
+# Measures the whole program in threads and in one: 1, 2, 4 and 8 segments of 16 nodes over 250,000 bits, with a route
+# from each segment to the next, by one worker and with a slack of 1, of 64 and of all bits; the time by the clock, the
+# processor time and the most memory of each, the best of some runs. First all nodes always have the same frames to
+# send, on all segments; then mixed frames, others on each segment, fill nine tenths of the bits (bench/draw.py).
+# From the environment: RUNS, of how many runs the best is taken (3); PROGRAM, the path of the program (that which
+# ./bxgate builds).
 set -eu
 cd "$(dirname "$0")/.."
 program=${PROGRAM:-}
@@ -13,8 +15,8 @@ fi
 work=$(mktemp -d)
 trap 'rm -rf "$work"' EXIT
 
-# script SEGMENTS: 15 talkers and a controller on each, whose FIFO a route empties into the next segment
-script() {
+# same SEGMENTS: 15 talkers and a controller on each, whose FIFO a route empties into the next segment
+same() {
   awk -v segments="$1" 'BEGIN {
     printf "{\"version\":1,\"bits\":250000,\"segments\":["
     for (segment = 0; segment < segments; segment++) {
@@ -38,21 +40,33 @@ script() {
   }'
 }
 
-# timed WORD..: the best of three runs; its time by the clock and of all processors, in seconds
+# mixed SEGMENTS: the same with mixed frames, others on each
+mixed() {
+  (cd bench && python3 -B -c 'import draw, json, sys; print(json.dumps(draw.busy_segments(250_000, int(sys.argv[1]))))' "$1")
+}
+
+# timed WORD..: the best of the runs; its time by the clock and of all processors, in seconds, and its memory in KB
 timed() {
-  for _ in 1 2 3; do
-    /usr/bin/env time -f '%e %U' -o "$work/time" "$program" "$@" < "$work/script" > /dev/null
+  for _ in $(seq "${RUNS:-3}"); do
+    /usr/bin/env time -f '%e %U %M' -o "$work/time" "$program" "$@" < "$work/script" > /dev/null
     cat "$work/time"
   done | sort -n | head -n 1
 }
 
-for segments in 1 2 4 8; do
-  script "$segments" > "$work/script"
-  inline=$(timed run)
-  line="$segments segments: in one thread ${inline% *} s (${inline#* } s of processors)"
-  for slack in 1 64 1000000; do
-    threads=$(timed run --threads 1 --slack "$slack")
-    line="$line; slack $slack: ${threads% *} s (${threads#* } s)"
+# told TIME PROCESSORS MEMORY: these, with what they are
+told() {
+  echo "$1 s ($2 s of processors, $3 KB)"
+}
+
+for kind in same mixed; do
+  for segments in 1 2 4 8; do
+    "$kind" "$segments" > "$work/script"
+    # shellcheck disable=SC2046
+    line="$kind frames, $segments segments: in one thread $(told $(timed run))"
+    for slack in 1 64 1000000; do
+      # shellcheck disable=SC2046
+      line="$line; slack $slack: $(told $(timed run --threads 1 --slack "$slack"))"
+    done
+    echo "$line"
   done
-  echo "$line"
 done

@@ -1,2 +1,2 @@
 pub mod CoreReportLaws
-pub mod PieceLaws
+pub mod RoundLaws

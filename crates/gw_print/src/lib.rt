@@ -2,8 +2,10 @@
 #![tactic(auto)]
 
 mod core_report;
-mod pieces;
 mod printer;
+mod rooms;
+mod rounds;
+mod writer;
 
 pub use crate::core_report::report_on_events;
-pub use crate::printer::print_in_threads;
+pub use crate::printer::print_in_threads_to;

@@ -15,57 +15,55 @@ pub record-at : (shown kept : List Record) (i : ℕ) (x : Record) → shown ≡ 
 record-at shown kept i x same lt is =
     ap (λ rs. slice_get rs i) (sym same) ∙ slice_get_read shown (length shown) i x refl lt is
 
--- that of the first segments, so many of them
-pub record ReadyBelow (s : ScriptValue) (records : List Record) (all : List SegmentLines) (i : ℕ) : Type 0 where
-  pub each : (segment : ℕ) (of : Record) (lines : SegmentLines) → slice_get records segment ≡ Some of →
-      slice_get all segment ≡ Some lines → IsReady s segment of lines
-  pub count : length all ≡ i
+-- where it is said of a place, the record there and what is needed whether that is ready
+module _ {L : Type 0} (Is : ℕ → Record → L → Type 0) (records : List Record) where
+  -- that of the first segments, so many of them
+  pub record ReadyBelow (all : List L) (i : ℕ) : Type 0 where
+    pub each : (segment : ℕ) (of : Record) (lines : L) → slice_get records segment ≡ Some of →
+        slice_get all segment ≡ Some lines → Is segment of lines
+    pub count : length all ≡ i
 
-pub ready-more : (s : ScriptValue) (records : List Record) (all : List SegmentLines) (i : ℕ) (x : Record)
-    (new : SegmentLines) → slice_get records i ≡ Some x → IsReady s i x new → ReadyBelow s records all i →
-    ReadyBelow s records (all ++ new ∷ []) (i + 1)
-ready-more s records all i x new here ready below = record {
-  each = λ k y n e f. elim (pushed all new k n f) [
-    | inl is ↦ below.each k y n e is
-    | inr is ↦ (let place : k ≡ i = omega (arith, is.0, below.count) in
-        let same : x ≡ y = same_some x y (sym here ∙ ap (slice_get records) (sym place) ∙ e) in
-        subst (λ z. IsReady s k y z) is.1
-        (subst (λ z. IsReady s k z new) same (subst (λ j. IsReady s j x new) (sym place) ready)))
-  ];
-  count = omega (arith, length-append all (new ∷ []), below.count);
-}
+  pub ready-more : (all : List L) (i : ℕ) (x : Record) (new : L) → slice_get records i ≡ Some x → Is i x new →
+      ReadyBelow all i → ReadyBelow (all ++ new ∷ []) (i + 1)
+  ready-more all i x new here ready below = record {
+    each = λ k y n e f. elim (pushed all new k n f) [
+      | inl is ↦ below.each k y n e is
+      | inr is ↦ (let place : k ≡ i = omega (arith, is.0, below.count) in
+          let same : x ≡ y = same_some x y (sym here ∙ ap (slice_get records) (sym place) ∙ e) in
+          subst (λ z. Is k y z) is.1
+          (subst (λ z. Is k z new) same (subst (λ j. Is j x new) (sym place) ready)))
+    ];
+    count = omega (arith, length-append all (new ∷ []), below.count);
+  }
 
-pub ready-all : (s : ScriptValue) (records : List Record) (all : List SegmentLines) (i : ℕ) → i ≡ length records →
-    ReadyBelow s records all i → AreReady s records all
-ready-all s records all i whole below = record { count = omega (arith, below.count, whole); each = below.each }
+  -- that of the segments from this place on
+  pub record ReadyFrom (i : ℕ) (all : List L) : Type 0 where
+    pub each : (segment : ℕ) (of : Record) (lines : L) → i ≤ segment → slice_get records segment ≡ Some of →
+        slice_get all segment ≡ Some lines → Is segment of lines
+    pub count : length all ≡ length records
 
--- that of the segments from this place on, with lines for which there is room
-pub record ReadyFrom (s : ScriptValue) (records : List Record) (room i : ℕ) (all : List SegmentLines) : Type 0 where
-  pub each : (segment : ℕ) (of : Record) (lines : SegmentLines) → i ≤ segment → slice_get records segment ≡ Some of →
-      slice_get all segment ≡ Some lines → IsReady s segment of lines
-  pub short : (segment : ℕ) (lines : SegmentLines) → i ≤ segment → slice_get all segment ≡ Some lines →
-      lines.events.longest ≤ room
-  pub count : length all ≡ length records
+  -- with what was used for the first of them no other is told
+  pub ready-next : (i : ℕ) (all : List L) (new : L) → ReadyFrom i all → ReadyFrom (i + 1) (set all i new)
+  ready-next i all new from = record {
+    each = λ k of lines le e f.
+        from.each k of lines (omega (arith, le)) e (sym (get_set_other all i k new (λ is. omega (arith, le, is))) ∙ f);
+    count = length-set all i new ∙ from.count;
+  }
+
+-- that of the segment at this place, with lines for which there is room
+pub record IsReadyWithin (s : ScriptValue) (room segment : ℕ) (of : Record) (lines : SegmentLines) : Type 0 where
+  pub ready : IsReady s segment of lines
+  pub short : lines.events.longest ≤ room
 
 pub ready-from : (s : ScriptValue) (records : List Record) (room : ℕ) (all : List SegmentLines) →
     AreReady s records all → All (λ (lines : SegmentLines). lines.events.longest ≤ room) all →
-    ReadyFrom s records room 0 all
+    ReadyFrom (IsReadyWithin s room) records 0 all
 ready-from s records room all ready short = record {
-  each = λ k of lines le e f. ready.each k of lines e f;
-  short = λ k lines le f.
-      let within = slice_get_within all k lines f in
-      subst (λ (l : SegmentLines). l.events.longest ≤ room) (get_or_from_slice_get all k lines lines f)
-      (short k lines within);
-  count = ready.count;
-}
-
--- with what was used for the first of them no other is told
-pub ready-next : (s : ScriptValue) (records : List Record) (room i : ℕ) (all : List SegmentLines)
-    (new : SegmentLines) → ReadyFrom s records room i all → ReadyFrom s records room (i + 1) (set all i new)
-ready-next s records room i all new from = record {
   each = λ k of lines le e f.
-      from.each k of lines (omega (arith, le)) e (sym (get_set_other all i k new (λ is. omega (arith, le, is))) ∙ f);
-  short = λ k lines le f.
-      from.short k lines (omega (arith, le)) (sym (get_set_other all i k new (λ is. omega (arith, le, is))) ∙ f);
-  count = length-set all i new ∙ from.count;
+      let within = slice_get_within all k lines f in record {
+        ready = ready.each k of lines e f;
+        short = subst (λ (l : SegmentLines). l.events.longest ≤ room) (get_or_from_slice_get all k lines lines f)
+            (short k lines within);
+      };
+  count = ready.count;
 }

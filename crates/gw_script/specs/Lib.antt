@@ -6,3 +6,4 @@ pub mod LineParts
 pub mod NamedPlaces
 pub mod ReportTexts
 pub mod SegmentLines
+pub mod Stretches

@@ -4,11 +4,11 @@ ghost use Rattle.std.specs.Prelude.{◌≡◌, ◌<◌, ◌≤◌, ℕ, length, 
 ghost use Rattle.std.specs.Io.KnownBytes.{Appends, Keeps};
 ghost use Rattle.gw_script.specs.Lines.{lines_from};
 ghost use Rattle.gw_script.specs.NamedPlaces.{NamesNodes, Names};
-ghost use Rattle.gw_script.specs.ReportTexts.{segment_text, route_line, report_text};
+ghost use Rattle.gw_script.specs.ReportTexts.{segment_end, route_line, report_text};
 
 use crate::print_fault::PrintFault;
 use crate::report::Report;
-use crate::report_text::{push_routes, push_segment, text_of};
+use crate::report_text::{push_routes, push_segment_end, text_of};
 use crate::report_writer::write_report;
 use crate::route_report::RouteReport;
 use crate::segment_lines::{lines_of_all, longest_of_all};
@@ -69,8 +69,8 @@ pub fn print_to<W: Write>(
     }
 }
 
-/// The text of one segment alone, as `print` gives it.
-pub fn print_segment(
+/// What is told of one segment behind its events, as `print` gives it: its nodes' lines and that of its end.
+pub fn print_segment_end(
     alloc: Global,
     script: &Script,
     segment: usize,
@@ -78,10 +78,10 @@ pub fn print_segment(
 ) -> Result<Vec<u8>, Memory>
     requires segment { segment < length script.now.segments }
     requires nodes { NamesNodes script.now segment kept.now }
-    ensures text { IfOk result (λ bytes. bytes.items ≡ segment_text script.now segment kept.now) }
+    ensures text { IfOk result (λ bytes. bytes.items ≡ segment_end script.now segment kept.now.counters.items) }
 {
     let mut text = Vec::new(alloc);
-    match push_segment(alloc, &mut text, script, segment, kept) {
+    match push_segment_end(&mut text, script, segment, kept.counters.as_slice()) {
         Ok(()) => Ok(text),
         Err(_) => Err(Memory),
     }

@@ -1,9 +1,7 @@
 -- A text that is written piece by piece.
-use Rattle.std.proofs.Common.{◌≡◌, ◌∙◌, sym, ap, subst, ℕ, suc, ◌+◌, ◌-◌, ◌<◌, ◌≤◌, Option, Some, None, List, [], ◌∷◌}
-use Rattle.std.proofs.Common.{◌++◌, take, drop, drop-cons, add-one, get_or, length, append_assoc, arith}
-use Rattle.std.specs.List.{flat_map}
+use Rattle.std.proofs.Common.{◌≡◌, ◌∙◌, sym, ap, subst, ℕ, ◌+◌, ◌-◌, ◌≤◌, Option, Some, None, List, []}
+use Rattle.std.proofs.Common.{◌++◌, take, drop, length, append_assoc, arith}
 use Rattle.std.proofs.lemmas.List.{append-nil, take_all, take-append-drop, length-drop}
-use Rattle.std.proofs.lemmas.Grind.{flat_map-append}
 use Rattle.std.proofs.Math.Seq.{take-add, take-append-add, take-append_seam}
 use Rattle.std.specs.Io.KnownBytes.{Appends, Keeps}
 
@@ -41,27 +39,6 @@ pub piece_within : (written count : ℕ) (text : List ℕ) → written ≤ lengt
     count ≤ length (take (length text - written) (drop written text)) → written + count ≤ length text
 piece_within written count text before bound =
     omega (arith, before, bound, ap length (rest_is written text), length-drop written text)
-
--- what is said of the first elements, and a front of what is said of the next, is a front of what is said of all
-pub front_more : {A : Type 0} (said : A → List ℕ) (xs : List A) (i : ℕ) (x : A) (n : ℕ) → i < length xs →
-    x ≡ get_or xs i x →
-    flat_map said (take i xs) ++ take n (said x) ≡ take (length (flat_map said (take i xs)) + length (take n (said x)))
-    (flat_map said xs)
-front_more said xs i x n lt is =
-    let front = flat_map said (take i xs) in
-    let begun = take n (said x) in
-    let rest = drop n (said x) ++ flat_map said (drop (i + 1) xs) in
-    let next : drop i xs ≡ x ∷ drop (i + 1) xs =
-    drop-cons xs i x lt ∙ ap (λ y. y ∷ drop (suc i) xs) (sym is) ∙ ap (λ k. x ∷ drop k xs) (sym (add-one i)) in
-    let all : flat_map said xs ≡ front ++ (begun ++ rest) =
-    ap (flat_map said) (sym (take-append-drop i xs))
-    ∙ flat_map-append said (take i xs) (drop i xs)
-    ∙ ap (λ ys. front ++ flat_map said ys) next
-    ∙ ap (λ ys. front ++ (ys ++ flat_map said (drop (i + 1) xs))) (sym (take-append-drop n (said x)))
-    ∙ ap (λ ys. front ++ ys) (append_assoc begun (drop n (said x)) (flat_map said (drop (i + 1) xs))) in
-    sym (ap (take (length front + length begun)) all
-    ∙ take-append-add front (begun ++ rest) (length begun)
-    ∙ ap (λ ys. front ++ ys) (take-append_seam begun rest))
 
 -- what was written already, and a front of the text that follows it, is a front of the whole
 pub front_within : (front text rest whole : List ℕ) (n : ℕ) → front ++ (text ++ rest) ≡ whole →

@@ -9,4 +9,4 @@ mod output;
 pub use crate::files::Files;
 pub use crate::input::{InputFault, read_input};
 pub use crate::no_files::NoFiles;
-pub use crate::output::{WriteFault, write_output, write_pieces};
+pub use crate::output::{WriteFault, write_output};

@@ -2,7 +2,6 @@
 
 ghost use Rattle.std.specs.Prelude.{ℕ, OnOk, OnErr, take};
 ghost use Rattle.std.specs.Io.KnownBytes.{Appends};
-ghost use Rattle.gw_streams.specs.Pieces.{whole_of};
 
 use std::io::{ErrorKind, Write};
 
@@ -38,16 +37,4 @@ pub fn write_output<W: Write>(output: &mut W, text: &[u8]) -> Result<(), WriteFa
     } else {
         Err(WriteFault)
     }
-}
-
-/// Writes a text whose pieces these are, in turn. Where that fails a front of it was written, and nothing else.
-pub fn write_pieces<W: Write>(output: &mut W, pieces: &[Vec<u8>]) -> Result<(), WriteFault>
-    ensures whole { OnOk result (Appends (W.contents output.old) (W.contents output.new) (whole_of pieces.now)) }
-    ensures front { OnErr result ((n : ℕ) × Appends (W.contents output.old) (W.contents output.new)
-        (take n (whole_of pieces.now))) }
-{
-    for piece in pieces {
-        write_output(output, piece.as_slice())?;
-    }
-    Ok(())
 }

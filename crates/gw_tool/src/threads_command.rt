@@ -1,18 +1,16 @@
 //! The command `run` with the option `--threads`.
 
-ghost use Rattle.std.specs.Prelude.{◌≡◌, Some, IfOk, IfErr, length};
+ghost use Rattle.std.specs.Prelude.{◌≡◌, Some, IfOk, length};
 ghost use Rattle.gw_config.specs.SoundScripts.{IsSound};
-ghost use Rattle.gw_streams.specs.Pieces.{whole_of};
-ghost use Rattle.gw_tool.specs.Outcomes.{Ends, IsAnswer, IsFailureOn, IsRunOf};
+ghost use Rattle.gw_tool.specs.Outcomes.{Ends, IsRunOf};
 ghost use Rattle.gw_command.specs.Words.{IsSlack, IsThreads};
 ghost use Rattle.gw_command.specs.declared.task.Task.TheVariants.{RunThreads};
 
 use crate::failure::Failure;
 use bx_core::NoGate;
-use gw_print::print_in_threads;
+use gw_print::print_in_threads_to;
 use gw_run::{RunFault, run_threads};
-use gw_script::{Report, Script, read};
-use gw_streams::{WriteFault, write_pieces};
+use gw_script::{PrintFault, Report, Script, read};
 use std::alloc::{AllocError, Global};
 use std::io::Write;
 use std::sync::Wait;
@@ -44,35 +42,9 @@ fn threaded_report<H: Threads + Wait + Copy + Send + Sync + 'static>(
     }
 }
 
-/// The report on a run in threads of the script that the bytes are, in pieces: the routes by so many threads, and no
-/// segment more than so many bits ahead of another.
-fn threaded_text<H: Threads + Wait + Copy + Send + Sync + 'static>(
-    rt: &H,
-    alloc: Global,
-    bytes: &[u8],
-    threads: u32,
-    slack: u32,
-) -> Result<Vec<Vec<u8>>, Failure>
-    requires threads { IsThreads threads }
-    requires slack { IsSlack slack }
-    ensures ok { IfOk result (λ pieces. IsAnswer (RunThreads threads slack) bytes.now (whole_of pieces.items)) }
-    ensures err { IfErr result (IsFailureOn (RunThreads threads slack) bytes.now) }
-{
-    let script = match read(alloc, bytes) {
-        Ok(script) => script,
-        Err(fault) => return Err(Failure::Script(fault)),
-    };
-    let report = match threaded_report(rt, alloc, &script, threads, slack) {
-        Ok(report) => report,
-        Err(fault) => return Err(Failure::Run(fault)),
-    };
-    match print_in_threads(rt, alloc, &script, &report) {
-        Ok(pieces) => Ok(pieces),
-        Err(_) => Err(Failure::Run(RunFault::Memory)),
-    }
-}
-
-/// Writes that report.
+/// Writes the report on a run in threads of the script that the bytes are: the routes by so many threads, and no
+/// segment more than so many bits ahead of another. Its text is written while threads make it, once all memory is there
+/// that it takes.
 pub fn threads_to<H: Threads + Wait + Copy + Send + Sync + 'static, W: Write>(
     rt: &H,
     alloc: Global,
@@ -85,12 +57,17 @@ pub fn threads_to<H: Threads + Wait + Copy + Send + Sync + 'static, W: Write>(
     requires slack { IsSlack slack }
     ensures { Ends (RunThreads threads slack) (Some bytes.now) (W.contents output.old) (W.contents output.new) result }
 {
-    let pieces = match threaded_text(rt, alloc, bytes, threads, slack) {
-        Ok(pieces) => pieces,
-        Err(failure) => return Err(failure),
+    let script = match read(alloc, bytes) {
+        Ok(script) => script,
+        Err(fault) => return Err(Failure::Script(fault)),
     };
-    match write_pieces(output, pieces.as_slice()) {
+    let report = match threaded_report(rt, alloc, &script, threads, slack) {
+        Ok(report) => report,
+        Err(fault) => return Err(Failure::Run(fault)),
+    };
+    match print_in_threads_to(rt, alloc, &script, &report, output) {
         Ok(()) => Ok(()),
-        Err(WriteFault) => Err(Failure::Write),
+        Err(PrintFault::Memory) => Err(Failure::Run(RunFault::Memory)),
+        Err(PrintFault::Write) => Err(Failure::Write),
     }
 }

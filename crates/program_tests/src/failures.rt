@@ -39,18 +39,14 @@ fn tells_of_a_read_fault(rt: HostRuntime) {
 #[test]
 fn tells_of_a_write_fault(rt: HostRuntime) {
     let alloc = rt.alloc();
-    for (command, script) in [("core", SENDS_ONE_FRAME), ("run", ONE_FRAME)] {
-        let words = ["bxgate", command];
+    for (words, script) in [
+        (["bxgate", "core"].as_slice(), SENDS_ONE_FRAME),
+        (["bxgate", "run"].as_slice(), ONE_FRAME),
+        (["bxgate", "run", "--threads", "2"].as_slice(), ONE_FRAME),
+    ] {
         let mut faults = Vec::new(alloc);
         let mut input = script.as_bytes();
-        let status = tool(
-            &rt,
-            alloc,
-            words.as_slice(),
-            &mut input,
-            &mut Closed,
-            &mut faults,
-        );
+        let status = tool(&rt, alloc, words, &mut input, &mut Closed, &mut faults);
         assert_eq!(rt; status, 74);
         assert_eq!(rt; faults.as_slice(), b"bxgate: write fault\n".as_slice());
     }

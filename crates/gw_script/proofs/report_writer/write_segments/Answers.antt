@@ -4,7 +4,7 @@ use Rattle.std.proofs.lemmas.Option.{slice_get-get_or}
 use Rattle.gw_script.specs.Lines.{lines_from}
 use Rattle.gw_script.specs.ReportTexts.{segment_text}
 use Rattle.gw_script.proofs.Gathering.{at-err, gathered-front, gathered-next, gathered-none, gathered-written}
-use Rattle.gw_script.proofs.Ready.{ready-from, ready-next, record-at}
+use Rattle.gw_script.proofs.Ready.{IsReadyWithin, ready-from, ready-next, record-at}
 use Rattle.gw_script.proofs.report_writer.write_segments.Goals as goal
 
 pub loop-segment-init : goal.loop-segment-init
@@ -32,8 +32,9 @@ write_segment-requires-clause-ready g c =
       ap length c.deref-kept-items.ensures.value,
       c.loop-segment-test.true,
     ) in
-    c.loop-segment.invariant.ready.each i c.kept-item.result lines (omega arith) here
-    (slice_get-get_or all i c.index-all-segment.result within)
+    let there = c.loop-segment.invariant.ready.each i c.kept-item.result lines (omega arith) here
+    (slice_get-get_or all i c.index-all-segment.result within) in
+    there.ready
 
 pub write_segment-requires-clause-names : goal.write_segment-requires-clause-names
 write_segment-requires-clause-names g c =
@@ -45,18 +46,21 @@ write_segment-requires-clause-names g c =
 
 pub write_segment-requires-clause-room : goal.write_segment-requires-clause-room
 write_segment-requires-clause-room g c =
+    let records = c.deref-kept-items.result.now in
     let i = c.loop-segment.segment in
     let all = c.loop-segment.all in
     let lines = slice_index_or all i c.index-all-segment.result in
+    let here = record-at records c.args.report.now.segments.items i c.kept-item.result c.deref-kept-items.ensures.value
+    c.loop-segment-test.true c.kept-item.is in
     let within : i < length all = omega (
       arith,
       c.loop-segment.invariant.ready.count,
       ap length c.deref-kept-items.ensures.value,
       c.loop-segment-test.true,
     ) in
-    let short = c.loop-segment.invariant.ready.short i lines (omega arith)
+    let there = c.loop-segment.invariant.ready.each i c.kept-item.result lines (omega arith) here
     (slice_get-get_or all i c.index-all-segment.result within) in
-    omega (arith, short, c.loop-segment.invariant.capacity)
+    omega (arith, there.short, c.loop-segment.invariant.capacity)
 
 pub returns-in_err-write_segment-clause-front : goal.returns-in_err-write_segment-clause-front
 returns-in_err-write_segment-clause-front g c =
@@ -95,5 +99,6 @@ loop-segment-preserved g c =
           c.in_ok-write_segment.ensures.whole;
       empty = c.in_ok-write_segment.ensures.empty;
       capacity = omega (arith, c.in_ok-write_segment.ensures.capacity, c.loop-segment.invariant.capacity);
-      ready = ready-next s kept _ i c.loop-segment.all c.write_segment.new.lines c.loop-segment.invariant.ready;
+      ready = ready-next (IsReadyWithin s _) kept i c.loop-segment.all c.write_segment.new.lines
+          c.loop-segment.invariant.ready;
     }

@@ -2,7 +2,7 @@ use Rattle.std.proofs.Common.{◌≡◌, ◌≤◌, [], drop, vec_capacity}
 use Rattle.gw_script.specs.Gathering.{IsGathered}
 use Rattle.gw_script.specs.Lines.{lines_from}
 use Rattle.gw_script.specs.ReportTexts.{segment_text}
-use Rattle.gw_script.proofs.Ready.{ReadyFrom}
+use Rattle.gw_script.proofs.Ready.{IsReadyWithin, ReadyFrom}
 use Rattle.gw_script.proofs.report_writer.write_segments.Given as goal
 
 abbrev pub invariant-loop-segment : goal.invariant-loop-segment
@@ -12,5 +12,5 @@ invariant-loop-segment g l = record {
       (lines_from (segment_text l.script) 0 l.report.segments.items);
   empty : l.text.items ≡ [];
   capacity : vec_capacity l.fn.text ≤ vec_capacity l.text;
-  ready : ReadyFrom l.script l.report.segments.items (vec_capacity l.fn.text) l.segment l.all;
+  ready : ReadyFrom (IsReadyWithin l.script (vec_capacity l.fn.text)) l.report.segments.items l.segment l.all;
 }

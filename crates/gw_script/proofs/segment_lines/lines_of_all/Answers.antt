@@ -1,5 +1,6 @@
 -- One segment more.
 use Rattle.std.proofs.Common.{◌+◌, sym, subst}
+use Rattle.gw_script.specs.SegmentLines.{IsReady}
 use Rattle.gw_script.proofs.Ready.{ReadyBelow, ready-more, record-at}
 use Rattle.gw_script.proofs.segment_lines.lines_of_all.Goals as goal
 
@@ -18,6 +19,6 @@ loop-segment-preserved c =
     let i = c.loop-segment.segment in
     let here = record-at records kept i c.kept-item.result c.deref-kept-items.ensures.value c.loop-segment-test.true
     c.kept-item.is in
-    subst (λ all. ReadyBelow s kept all (i + 1)) (sym c.in_ok-push.ensures.items)
-    (ready-more s kept c.loop-segment.all.items i c.kept-item.result c.in_ok-new.field-0 here c.in_ok-new.ensures
-    c.loop-segment.invariant)
+    subst (λ all. ReadyBelow (IsReady s) kept all (i + 1)) (sym c.in_ok-push.ensures.items)
+    (ready-more (IsReady s) kept c.loop-segment.all.items i c.kept-item.result c.in_ok-new.field-0 here
+    c.in_ok-new.ensures c.loop-segment.invariant)

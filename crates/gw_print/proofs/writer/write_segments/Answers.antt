@@ -1,0 +1,84 @@
+-- One segment more; where a write fails, a front of what is told of all was written.
+use Rattle.std.proofs.Common.{◌+◌, ◌<◌, [], ap, arith, drop, length, slice_index_or, refl}
+use Rattle.std.proofs.lemmas.Option.{slice_get-get_or}
+use Rattle.gw_script.specs.Lines.{lines_from}
+use Rattle.gw_script.specs.ReportTexts.{segment_text}
+use Rattle.gw_script.proofs.Gathering.{at-err, gathered-front, gathered-next, gathered-none, gathered-written}
+use Rattle.gw_script.proofs.Ready.{ready-next, record-at}
+use Rattle.gw_print.specs.Rooms.{IsReady}
+use Rattle.gw_print.proofs.writer.write_segments.Goals as goal
+
+pub loop-segment-init : goal.loop-segment-init
+loop-segment-init g c =
+    let s = c.args.script.now in
+    record {
+      gathered = gathered-none (g.W.Write.contents c.args.output.now) []
+          (lines_from (segment_text s) 0 c.args.report.now.segments.items) refl;
+      ready = record {
+        each = λ k of rooms le e f. c.requires.ready.each k of rooms e f;
+        count = c.requires.ready.count;
+      };
+    }
+
+pub write_segment-requires-clause-ready : goal.write_segment-requires-clause-ready
+write_segment-requires-clause-ready g c = λ κs lives.
+    let records = c.deref-kept-items.result.now in
+    let i = c.loop-segment.segment in
+    let all = c.loop-segment.all in
+    let rooms = slice_index_or all i c.index-all-segment.result in
+    let here = record-at records c.args.report.now.segments.items i c.kept-item.result c.deref-kept-items.ensures.value
+    c.loop-segment-test.true c.kept-item.is in
+    let within : i < length all = omega (
+      arith,
+      c.loop-segment.invariant.ready.count,
+      ap length c.deref-kept-items.ensures.value,
+      c.loop-segment-test.true,
+    ) in
+    c.loop-segment.invariant.ready.each i c.kept-item.result rooms (omega arith) here
+    (slice_get-get_or all i c.index-all-segment.result within)
+
+pub write_segment-requires-clause-names : goal.write_segment-requires-clause-names
+write_segment-requires-clause-names g c = λ κs lives.
+    let records = c.deref-kept-items.result.now in
+    let i = c.loop-segment.segment in
+    c.requires.names.records i c.kept-item.result
+    (record-at records c.args.report.now.segments.items i c.kept-item.result c.deref-kept-items.ensures.value
+    c.loop-segment-test.true c.kept-item.is)
+
+pub returns-in_err-write_segment-clause-front : goal.returns-in_err-write_segment-clause-front
+returns-in_err-write_segment-clause-front g c =
+    let s = c.args.script.now in
+    let kept = c.args.report.now.segments.items in
+    let records = c.deref-kept-items.result.now in
+    let i = c.loop-segment.segment in
+    let of = c.kept-item.result in
+    let old = g.W.Write.contents c.args.output.now in
+    let now = g.W.Write.contents c.loop-segment.output in
+    let whole = lines_from (segment_text s) 0 kept in
+    let here = record-at records c.args.report.now.segments.items i of c.deref-kept-items.ensures.value
+    c.loop-segment-test.true c.kept-item.is in
+    at-err c.from_residual.result _
+    (gathered-front old now (g.W.Write.contents c.write_segment.new.output) (segment_text s i of)
+    (lines_from (segment_text s) (i + 1) (drop (i + 1) kept)) whole
+    (gathered-next (segment_text s) kept i of old now whole here c.loop-segment.invariant.gathered)
+    c.in_err-write_segment.ensures.front)
+
+pub loop-segment-preserved : goal.loop-segment-preserved
+loop-segment-preserved g c =
+    let s = c.args.script.now in
+    let kept = c.args.report.now.segments.items in
+    let records = c.deref-kept-items.result.now in
+    let i = c.loop-segment.segment in
+    let of = c.kept-item.result in
+    let old = g.W.Write.contents c.args.output.now in
+    let now = g.W.Write.contents c.loop-segment.output in
+    let whole = lines_from (segment_text s) 0 kept in
+    let here = record-at records c.args.report.now.segments.items i of c.deref-kept-items.ensures.value
+    c.loop-segment-test.true c.kept-item.is in
+    record {
+      gathered = gathered-written old now (g.W.Write.contents c.write_segment.new.output) (segment_text s i of)
+          (lines_from (segment_text s) (i + 1) (drop (i + 1) kept)) whole
+          (gathered-next (segment_text s) kept i of old now whole here c.loop-segment.invariant.gathered)
+          c.in_ok-write_segment.ensures.whole;
+      ready = ready-next (IsReady s) kept i c.loop-segment.all c.write_segment.new.rooms c.loop-segment.invariant.ready;
+    }
