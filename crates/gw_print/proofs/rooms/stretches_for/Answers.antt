@@ -17,5 +17,5 @@ loop-thread-preserved c =
         c.loop-thread.invariant.count,
       );
       each = subst (All Is) (sym c.in_ok-push.ensures.items)
-          (All-push Is made new c.loop-thread.invariant.each c.in_ok-new.ensures);
+          (All-push Is made new c.loop-thread.invariant.each c.in_ok-new.ensures.stretch);
     }
