@@ -5,6 +5,7 @@ mod core_command;
 mod failure;
 mod program;
 mod run_command;
+mod run_report;
 mod threads_command;
 
 pub use crate::program::{refused_arguments, tool, tool_with_files};

@@ -6,14 +6,14 @@ ghost use Rattle.gw_command.specs.Words.{IsTurn};
 ghost use Rattle.gw_command.specs.declared.task.Task.TheVariants.{Run};
 
 use crate::failure::Failure;
-use gw_run::{RunFault, run_inline};
-use gw_script::{PrintFault, print_to, read};
+use crate::run_report::report_to;
+use gw_run::run_inline;
+use gw_script::read;
 use std::alloc::Global;
 use std::io::Write;
 use std::sync::Wait;
 
-/// Writes the report on a run of the script that the bytes are, with a turn of each route after every so many bits. Its
-/// text is written while it is made, once all memory is there that it takes.
+/// Writes the report on a run of the script that the bytes are, with a turn of each route after every so many bits.
 pub fn run_to<H: Wait, W: Write>(
     rt: &H,
     alloc: Global,
@@ -32,9 +32,5 @@ pub fn run_to<H: Wait, W: Write>(
         Ok(report) => report,
         Err(fault) => return Err(Failure::Run(fault)),
     };
-    match print_to(alloc, &script, &report, output) {
-        Ok(()) => Ok(()),
-        Err(PrintFault::Memory) => Err(Failure::Run(RunFault::Memory)),
-        Err(PrintFault::Write) => Err(Failure::Write),
-    }
+    report_to(alloc, &script, &report, output)
 }

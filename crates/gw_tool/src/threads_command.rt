@@ -7,10 +7,10 @@ ghost use Rattle.gw_command.specs.Words.{IsSlack, IsThreads};
 ghost use Rattle.gw_command.specs.declared.task.Task.TheVariants.{RunThreads};
 
 use crate::failure::Failure;
+use crate::run_report::report_to;
 use bx_core::NoGate;
-use gw_print::print_in_threads_to;
 use gw_run::{RunFault, run_threads};
-use gw_script::{PrintFault, Report, Script, read};
+use gw_script::{Report, Script, read};
 use std::alloc::{AllocError, Global};
 use std::io::Write;
 use std::sync::Wait;
@@ -43,8 +43,7 @@ fn threaded_report<H: Threads + Wait + Copy + Send + Sync + 'static>(
 }
 
 /// Writes the report on a run in threads of the script that the bytes are: the routes by so many threads, and no
-/// segment more than so many bits ahead of another. Its text is written while threads make it, once all memory is there
-/// that it takes.
+/// segment more than so many bits ahead of another.
 pub fn threads_to<H: Threads + Wait + Copy + Send + Sync + 'static, W: Write>(
     rt: &H,
     alloc: Global,
@@ -65,9 +64,5 @@ pub fn threads_to<H: Threads + Wait + Copy + Send + Sync + 'static, W: Write>(
         Ok(report) => report,
         Err(fault) => return Err(Failure::Run(fault)),
     };
-    match print_in_threads_to(rt, alloc, &script, &report, output) {
-        Ok(()) => Ok(()),
-        Err(PrintFault::Memory) => Err(Failure::Run(RunFault::Memory)),
-        Err(PrintFault::Write) => Err(Failure::Write),
-    }
+    report_to(alloc, &script, &report, output)
 }
