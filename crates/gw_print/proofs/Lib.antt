@@ -1,2 +1,1 @@
 pub mod CoreReportLaws
-pub mod RoundLaws
