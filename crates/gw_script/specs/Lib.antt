@@ -6,4 +6,3 @@ pub mod LineParts
 pub mod NamedPlaces
 pub mod ReportTexts
 pub mod SegmentLines
-pub mod Stretches

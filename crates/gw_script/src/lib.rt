@@ -16,16 +16,14 @@ mod report_writer;
 mod route_report;
 mod segment_lines;
 mod standing;
-mod stretch;
 
 pub use crate::event_list::{EventList, read_core};
 pub use crate::frame_text::push_frame;
 pub use crate::print_fault::PrintFault;
-pub use crate::printer::{print, print_routes, print_segment_end, print_to};
+pub use crate::printer::{print, print_to};
 pub use crate::report::Report;
 pub use crate::route_report::RouteReport;
 pub use crate::standing::names_stand;
-pub use crate::stretch::Stretch;
 pub use can_frame::Memory;
 pub use gw_config::{
     Controller, NodePlace, PlannedAbort, PlannedFault, Route, Script, Segment, Talker, read,

@@ -1,22 +1,21 @@
 //! The report on a run, as a text.
 
-ghost use Rattle.std.specs.Prelude.{◌≡◌, ◌<◌, ◌≤◌, ℕ, length, take, Err, IfOk, OnOk};
+ghost use Rattle.std.specs.Prelude.{◌≡◌, ◌≤◌, ℕ, length, take, Err, IfOk, OnOk};
 ghost use Rattle.std.specs.Io.KnownBytes.{Appends, Keeps};
 ghost use Rattle.gw_script.specs.Lines.{lines_from};
-ghost use Rattle.gw_script.specs.NamedPlaces.{NamesNodes, Names};
-ghost use Rattle.gw_script.specs.ReportTexts.{segment_end, route_line, report_text};
+ghost use Rattle.gw_script.specs.NamedPlaces.{Names};
+ghost use Rattle.gw_script.specs.ReportTexts.{route_line, report_text};
 
 use crate::print_fault::PrintFault;
 use crate::report::Report;
-use crate::report_text::{push_routes, push_segment_end, text_of};
+use crate::report_text::{push_routes, text_of};
 use crate::report_writer::write_report;
 use crate::route_report::RouteReport;
 use crate::segment_lines::{lines_of_all, longest_of_all};
 use can_frame::Memory;
-use can_segment::Record;
 use gw_config::Script;
 use gw_streams::WriteFault;
-use std::alloc::Global;
+use std::alloc::{AllocError, Global};
 use std::io::Write;
 
 /// The text of a report, with the names that the script gives: for each segment a line for each of its
@@ -30,6 +29,20 @@ pub fn print(alloc: Global, script: &Script, report: &Report) -> Result<Vec<u8>,
         Ok(text) => Ok(text),
         Err(_) => Err(Memory),
     }
+}
+
+/// The lines of the routes, one after another.
+fn text_of_routes(
+    alloc: Global,
+    script: &Script,
+    routes: &[RouteReport],
+) -> Result<Vec<u8>, AllocError>
+    requires { length routes.now ≤ length script.now.routes }
+    ensures { IfOk result (λ bytes. bytes.items ≡ lines_from (route_line script.now) 0 routes.now) }
+{
+    let mut text = Vec::new(alloc);
+    push_routes(&mut text, script, routes)?;
+    Ok(text)
 }
 
 /// How many bytes of a report are gathered before they are written, but for the last line: so few that they stay in
@@ -55,7 +68,7 @@ pub fn print_to<W: Write>(
     let Ok(mut all) = lines_of_all(alloc, script, report) else {
         return Err(PrintFault::Memory);
     };
-    let Ok(routes) = print_routes(alloc, script, report.routes.as_slice()) else {
+    let Ok(routes) = text_of_routes(alloc, script, report.routes.as_slice()) else {
         return Err(PrintFault::Memory);
     };
     let room = longest_of_all(all.as_slice()).saturating_add(GATHERED);
@@ -66,39 +79,5 @@ pub fn print_to<W: Write>(
     match write_report(output, &mut text, lines, routes.as_slice(), script, report) {
         Ok(()) => Ok(()),
         Err(WriteFault) => Err(PrintFault::Write),
-    }
-}
-
-/// What is told of one segment behind its events, as `print` gives it: its nodes' lines and that of its end.
-pub fn print_segment_end(
-    alloc: Global,
-    script: &Script,
-    segment: usize,
-    kept: &Record,
-) -> Result<Vec<u8>, Memory>
-    requires segment { segment < length script.now.segments }
-    requires nodes { NamesNodes script.now segment kept.now }
-    ensures text { IfOk result (λ bytes. bytes.items ≡ segment_end script.now segment kept.now.counters.items) }
-{
-    let mut text = Vec::new(alloc);
-    match push_segment_end(&mut text, script, segment, kept.counters.as_slice()) {
-        Ok(()) => Ok(text),
-        Err(_) => Err(Memory),
-    }
-}
-
-/// The text of the routes alone, as `print` gives it behind that of the segments.
-pub fn print_routes(
-    alloc: Global,
-    script: &Script,
-    routes: &[RouteReport],
-) -> Result<Vec<u8>, Memory>
-    requires { length routes.now ≤ length script.now.routes }
-    ensures text { IfOk result (λ bytes. bytes.items ≡ lines_from (route_line script.now) 0 routes.now) }
-{
-    let mut text = Vec::new(alloc);
-    match push_routes(&mut text, script, routes) {
-        Ok(()) => Ok(text),
-        Err(_) => Err(Memory),
     }
 }
