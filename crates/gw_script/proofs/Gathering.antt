@@ -51,12 +51,6 @@ gathered-written old now new text rest whole g more = record {
   whole_is = append_assoc g.front text rest ∙ g.whole_is;
 }
 
--- and no rest is left
-pub gathered-all : (old now : Option (List ℕ)) (text rest whole : List ℕ) → IsGathered old now text rest whole →
-    text ++ rest ≡ [] → Appends old now whole
-gathered-all old now text rest whole g none =
-    subst (Appends old now) (sym (append-nil g.front) ∙ ap (λ t. g.front ++ t) (sym none) ∙ g.whole_is) g.written
-
 -- or a front of it
 pub gathered-front : (old now new : Option (List ℕ)) (text rest whole : List ℕ) → IsGathered old now text rest whole →
     ((n : ℕ) × Appends now new (take n text)) → (n : ℕ) × Appends old new (take n whole)
