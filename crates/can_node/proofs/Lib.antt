@@ -14,6 +14,7 @@ pub mod Bits
 pub mod Samples
 pub mod Begins
 pub mod Listens
+pub mod Acknowledging
 pub mod Texts
 pub mod ActiveFlags
 pub mod BitsOf

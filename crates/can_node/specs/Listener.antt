@@ -1,5 +1,7 @@
 -- One that follows a line in place of nodes that listen to it and have come equally far.
-use Rattle.std.specs.Prelude.{◌≡◌, ◌⊎◌, ℕ, ◌+◌, ◌||◌, Bool, true, false, None, Some, IfSome, List, [], ◌∷◌}
+use Rattle.std.specs.Prelude.{◌≡◌, ◌⊎◌, ℕ, ◌+◌, ◌||◌, Bool, true, false, None, Some, IfSome, List, [], ◌∷◌, ◌++◌}
+use Rattle.can_confinement.specs.Counters.{StandsAfter as CountersStandAfter}
+use Rattle.can_confinement.specs.declared.confinement.ErrorEvent.{ErrorEvent}
 use Rattle.can_confinement.specs.declared.confinement.ErrorEvent.TheVariants.{Received}
 use Rattle.can_node.specs.declared.outcome.Outcome.TheVariants.{Nothing, Took}
 use Rattle.can_node.specs.declared.state.State.{State}
@@ -61,6 +63,22 @@ abbrev pub Follows : KnownCounts → Listener → ℕ → Bool → Listener → 
 Follows known old bit level new =
     (node : Node) → Knows known (counters_in node) →
     IsSample (caught_up node old bit) level Nothing (caught_up node new (bit + 1))
+
+-- the node has counted that it received a frame, and all else of it is as it was
+pub record Receives (old new : Node) : Type 0 where
+  pub state_is : new.state ≡ old.state
+  pub reader_is : new.reader ≡ old.reader
+  pub spelling_is : new.spelling ≡ old.spelling
+  pub clock_is : new.clock ≡ old.clock
+  pub counts : (events : List ErrorEvent) → CountersStandAfter old.counters events →
+      CountersStandAfter new.counters (events ++ Received ∷ [])
+
+-- What an ACK slot at which each for whom a listener stands acknowledges a frame does to the listener and to each of
+-- those: caught up before, the node samples this level and tells nothing, and then it is the one that has counted the
+-- frame, caught up behind it.
+abbrev pub Acknowledges : Listener → Bool → Listener → Type 0
+Acknowledges old level new = (node counted : Node) (bit : ℕ) → Receives node counted →
+    IsSample (caught_up node old bit) level Nothing (caught_up counted new (bit + 1))
 
 -- A listener may come to stand for the node: caught up with it at its own next bit it stands after each past after
 -- which it stands, and it may begin to send just where it may.

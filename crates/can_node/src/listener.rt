@@ -4,7 +4,8 @@ ghost use Rattle.std.specs.Prelude.{◌≡◌, ◌≤◌, ℕ, Bool, true, false
 ghost use Rattle.can_node.specs.declared.node.Node.{Node};
 ghost use Rattle.can_node.specs.Machine.{GoesReading, is_sending, is_taking};
 ghost use Rattle.can_node.specs.Node.{driven_by, may_begin};
-ghost use Rattle.can_node.specs.Listener.{AllHear, AllTake, IsListening, IsUnseen, Follows, ReadsAlong, ReadsAlongBy};
+ghost use Rattle.can_node.specs.Listener.{Acknowledges, AllHear, AllTake, IsListening, IsUnseen, Follows};
+ghost use Rattle.can_node.specs.Listener.{ReadsAlong, ReadsAlongBy};
 ghost use Rattle.can_node.specs.Listener.{Idles, caught_up, is_reading, may_follow_by};
 ghost use Rattle.can_confinement.specs.declared.known_counts.KnownCounts.{KnownCounts as KnownCountsValue};
 ghost use Rattle.can_confinement.specs.declared.confinement.ErrorState.{ErrorState as ErrorStateValue};
@@ -98,6 +99,25 @@ impl Listener {
             }
         }
         self.turn(bit, level, known)
+    }
+
+    /// Follows the ACK slot of a frame that all of them have read and whose CRC is right, if they sample this level at
+    /// it and it is dominant, and tells whether it did: then each has told nothing, and has still to count the frame
+    /// (`Node::receive`; Bosch CAN Specification 2.0, part B, 3.2.1 DATA FRAME, ACK FIELD). Else it is as it was.
+    #[inline(always)]
+    pub fn acknowledge(&mut self, level: bool) -> bool
+        ensures acknowledges { result ≡ true → Acknowledges self.old level self.new }
+        ensures listens { result ≡ true → IsListening self.new }
+        ensures other { result ≡ false → self.new ≡ self.old }
+    {
+        let State::Taking(start, _may_begin, stage) = self.state else {
+            return false;
+        };
+        if !stage.is_own_slot() || !self.reader.reads_tail(level) {
+            return false;
+        }
+        self.state = State::Taking(start, false, Stage::AfterSlot);
+        true
     }
 
     /// Follows a bit of a frame at which all of them drive recessive, none may begin to send, and each samples this

@@ -4,7 +4,7 @@ ghost use Rattle.std.specs.Prelude.{◌≡◌, ℕ, ◌+◌, ◌<◌, ◌≤◌,
 ghost use Rattle.std.specs.Prelude.{length, min, take};
 ghost use Rattle.can_confinement.specs.Counters.{StandsAfter as CountersStandAfter, counts_of};
 ghost use Rattle.can_node.specs.Histories.{Past, no_past, IsHistory};
-ghost use Rattle.can_node.specs.Listener.{AllHear, SendsTo, StandsWith};
+ghost use Rattle.can_node.specs.Listener.{AllHear, Receives, SendsTo, StandsWith};
 ghost use Rattle.can_node.specs.Machine.{IsMade, is_taking};
 ghost use Rattle.can_node.specs.Listener.{caught_up, listener_of, listens_in, taken_up};
 ghost use Rattle.can_node.specs.declared.listener.Listener.{Listener as ListenerValue};
@@ -22,7 +22,7 @@ use crate::plain_bits::{go_plainly, is_plain};
 use crate::shared_sample::HeardLevel;
 use crate::state::{State, Turn};
 use crate::stays::{count_out, go_out};
-use can_confinement::{Counters, KnownCounts};
+use can_confinement::{Counters, ErrorEvent, KnownCounts};
 use can_frame::{Frame, Reader, Spelled};
 
 /// A node of classical CAN, bit by bit (Bosch CAN Specification 2.0, part B; ISO 11898-1). At each bit it
@@ -168,6 +168,15 @@ impl Node {
                 self.take_turn(&turn, &heard.reader)
             }
         }
+    }
+
+    /// The node counts that it received a frame, and all else of it is as it was: so does each for which a listener
+    /// stood at the ACK slot (`Listener::acknowledge`; Bosch CAN Specification 2.0, part B, 8 FAULT CONFINEMENT).
+    #[inline(always)]
+    pub fn receive(&mut self)
+        ensures { Receives self.old self.new }
+    {
+        self.counters.apply(ErrorEvent::Received);
     }
 
     /// Makes this turn of a node that reads a frame, the reader of which is the same as that one then.

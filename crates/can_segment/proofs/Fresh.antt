@@ -10,9 +10,8 @@ use Rattle.can_station.specs.Fresh.{IsFresh, AreFresh}
 use Rattle.bx_core.specs.TxBus.{Item}
 use Rattle.bx_core.proofs.Words.{pushed}
 use Rattle.can_station.specs.Ports.{item_of}
-use Rattle.can_segment.specs.Segments.{AreFromResting, sending_of_all}
+use Rattle.can_segment.specs.Segments.{sending_of_all}
 use Rattle.can_station.specs.RestingNodes.{NoneRests}
-use Rattle.can_confinement.specs.declared.counters.Counters.{Counters}
 use Rattle.can_station.proofs.Places.{some_there, same_some}
 use Rattle.can_segment.proofs.Shown.{map_at}
 
@@ -83,8 +82,3 @@ fresh_awake on xs members fresh k m e =
     let within = slice_get_within members k m e in
     let x = some_there xs k (omega (arith, within, fresh.size)) in
     (fresh.at k x.0 m x.1 e).awake
-
-pub fresh_shown : {X : Type 0} (on : X → ℕ) (xs : List X) (first : ℕ) (members : List Member)
-    (counters : List Counters) → AreFresh on xs members → AreFromResting first members counters
-fresh_shown on xs first members counters fresh k m shown is e f =
-    absurd (let awake = fresh_awake on xs members fresh k m e in cc (is, awake))

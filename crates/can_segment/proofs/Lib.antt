@@ -23,6 +23,7 @@ pub mod Woken
 pub mod Unmoved
 pub mod Rests
 pub mod Holds
+pub mod Acknowledged
 pub mod ComesToRest
 pub mod Wholes
 pub mod Going

@@ -13,6 +13,8 @@ use Rattle.can_node.specs.Node.{IsSample, IsWanting, StandsAfter, counters_in, d
 use Rattle.can_node.specs.declared.node.Node.{Node}
 use Rattle.can_node.specs.declared.listener.Listener.{Listener}
 use Rattle.can_node.proofs.Samples.{stands_history, wanting}
+use Rattle.can_node.specs.declared.outcome.Outcome.TheVariants.{Nothing}
+use Rattle.can_station.specs.declared.member.Deed.{Deed}
 use Rattle.can_station.specs.declared.member.Member.{Member}
 use Rattle.can_station.specs.declared.plan.NodeFault.{NodeFault}
 use Rattle.can_station.specs.declared.plan.Talker.{Talker}
@@ -89,42 +91,64 @@ sleeper_drives rest bit m drive drives rests =
     ap (λ b. cond b (driven_by (caught_up rest.listener bit m).station.node) true) (on_at m.on bit rests.is_on)
     ∙ sym (drives rests.listening m.station.node bit)
 
--- and samples the level, of which nothing is told
-sleeper_samples_on : (old new : Rest) (bit : ℕ) (level : Bool) (m : Member) → RestsThrough bit level old new →
-    IsResting old bit m → SamplesOn level (caught_up old.listener bit m) (caught_up new.listener (bit + 1) m)
-sleeper_samples_on old new bit level m through rests =
-    let none = rests.quiet.no_end in
+-- One that rests, before a bit and behind it: it has sampled this level, and nothing is told of it.
+pub record Sleeps (bit : ℕ) (level : Bool) (before behind : Listener) (old new : Member) : Type 0 where
+  pub is_on : old.on ≤ bit
+  pub on_is : new.on ≡ old.on
+  pub quiet : IsQuiet new.deed
+  pub deed_is : new.deed ≡ old.deed
+  pub sending_is : new.station.sending ≡ old.station.sending
+  pub completed_is : new.station.completed ≡ old.station.completed
+  pub samples : IsSample (node_caught_up old.station.node before bit) level Nothing
+      (node_caught_up new.station.node behind (bit + 1))
+
+sleeps_through : (old new : Rest) (bit : ℕ) (level : Bool) (m : Member) → RestsThrough bit level old new →
+    IsResting old bit m → Sleeps bit level old.listener new.listener m m
+sleeps_through old new bit level m through rests = record {
+  is_on = rests.is_on;
+  on_is = refl;
+  quiet = rests.quiet;
+  deed_is = refl;
+  sending_is = refl;
+  completed_is = refl;
+  samples = through.follows m.station.node rests.known;
+}
+
+-- so does the one for which it stands
+sleeper_samples_on : (before behind : Listener) (bit : ℕ) (level : Bool) (a b : Member) →
+    Sleeps bit level before behind a b → SamplesOn level (caught_up before bit a) (caught_up behind (bit + 1) b)
+sleeper_samples_on before behind bit level a b h =
+    let none = h.quiet.no_end in
     record {
-      began_is = refl;
-      names = inl rests.quiet;
-      stands = subst (λ o. IsSample (node_caught_up m.station.node old.listener bit) level o
-          (node_caught_up m.station.node new.listener (bit + 1))) (sym none)
-          (through.follows m.station.node rests.known);
-      history = stands_history (caught_up new.listener (bit + 1) m).station.node;
-      sending_is = sym (ap (sending_after m.station.sending) none);
-      completed_is = omega (arith, ap completed_by none);
+      began_is = ap (λ (d : Deed). d.began) h.deed_is;
+      names = inl h.quiet;
+      stands = subst (λ o. IsSample (node_caught_up a.station.node before bit) level o
+          (node_caught_up b.station.node behind (bit + 1))) (sym none) h.samples;
+      history = stands_history (caught_up behind (bit + 1) b).station.node;
+      sending_is = h.sending_is ∙ sym (ap (sending_after a.station.sending) none);
+      completed_is = omega (arith, h.completed_is, ap completed_by none);
       bit_is = refl;
     }
 
-sleeper_samples : (old new : Rest) (bit : ℕ) (level : Bool) (m : Member) → RestsThrough bit level old new →
-    IsResting old bit m → Samples bit level (caught_up old.listener bit m) (caught_up new.listener (bit + 1) m)
-sleeper_samples old new bit level m through rests = record {
-  off = λ early. absurd (omega (arith, early, rests.is_on));
-  on_is = refl;
-  samples = λ late. sleeper_samples_on old new bit level m through rests;
-  reaps_none = λ late. rests.quiet.no_reaping;
+pub sleeper_samples : (before behind : Listener) (bit : ℕ) (level : Bool) (a b : Member) →
+    Sleeps bit level before behind a b → Samples bit level (caught_up before bit a) (caught_up behind (bit + 1) b)
+sleeper_samples before behind bit level a b h = record {
+  off = λ early. absurd (omega (arith, early, h.is_on));
+  on_is = h.on_is;
+  samples = λ late. sleeper_samples_on before behind bit level a b h;
+  reaps_none = λ late. h.quiet.no_reaping;
 }
 
-sleeper_settles : {P : Type 0} (after : P → BusPast → Type 0) (asked : P → List BusCall → Type 0)
-    (transmitting : P → Option Item) (sink : P → List FrameValue → Type 0) (stays : P → P → Type 0) (old new : Rest)
-    (bit : ℕ) (level : Bool) (m : Member) (p : P) →
-    RestsThrough bit level old new → IsResting old bit m → transmitting p ≡ item_of m.station.sending → stays p p →
-    PortSettles after asked transmitting sink stays bit level (caught_up old.listener bit m)
-    (caught_up new.listener (bit + 1) m) p p
-sleeper_settles after asked transmitting sink stays old new bit level m p through rests sends same =
-    unmoved_settles after asked transmitting sink stays bit level (caught_up old.listener bit m)
-    (caught_up new.listener (bit + 1) m) p rests.is_on refl
-    (sleeper_samples_on old new bit level m through rests) rests.quiet sends same
+pub sleeper_settles : {P : Type 0} (after : P → BusPast → Type 0) (asked : P → List BusCall → Type 0)
+    (transmitting : P → Option Item) (sink : P → List FrameValue → Type 0) (stays : P → P → Type 0)
+    (before behind : Listener) (bit : ℕ) (level : Bool) (a b : Member) (p : P) →
+    Sleeps bit level before behind a b → transmitting p ≡ item_of a.station.sending → stays p p →
+    PortSettles after asked transmitting sink stays bit level (caught_up before bit a)
+    (caught_up behind (bit + 1) b) p p
+sleeper_settles after asked transmitting sink stays before behind bit level a b p h sends same =
+    unmoved_settles after asked transmitting sink stays bit level (caught_up before bit a)
+    (caught_up behind (bit + 1) b) p h.is_on h.on_is (sleeper_samples_on before behind bit level a b h) h.quiet
+    (sends ∙ ap item_of (sym h.sending_is)) same
 
 -- The talkers of which those that are awake start: so do all for which they stand.
 pub talkers_start : (rest : Rest) (bit : ℕ) (plan : List Talker) (t0 t1 : List Member) → StartsNone rest →
@@ -194,7 +218,8 @@ members_sample old new bit first level faults before after rests undisturbed thr
     lift_places (NodeSamples first bit level faults) old.listener new.listener bit (bit + 1) before after
     (λ k m e is. subst (λ l. Samples bit l (caught_up old.listener bit m) (caught_up new.listener (bit + 1) m))
     (undisturbed_level faults (first + k) bit level (undisturbed k m e is))
-    (sleeper_samples old new bit level m (through k m e is) (rests k m e is))) moves
+    (sleeper_samples old.listener new.listener bit level m m
+    (sleeps_through old new bit level m (through k m e is) (rests k m e is)))) moves
 
 pub controllers_sample : {P : Type 0} (after : P → BusPast → Type 0) (asked : P → List BusCall → Type 0)
     (transmitting : P → Option Item) (sink : P → List FrameValue → Type 0) (stays : P → P → Type 0) (old new : Rest)
@@ -215,8 +240,8 @@ controllers_sample after asked transmitting sink stays old new bit first level f
     (λ k m p e f is. subst (λ l. PortSettles after asked transmitting sink stays bit l (caught_up old.listener bit m)
     (caught_up new.listener (bit + 1) m) p p)
     (undisturbed_level faults (first + k) bit level (undisturbed k m e is))
-    (sleeper_settles after asked transmitting sink stays old new bit level m p (through k m e is) (rests k m e is)
-    (sends k m p e f) (same p))) moves
+    (sleeper_settles after asked transmitting sink stays old.listener new.listener bit level m m p
+    (sleeps_through old new bit level m (through k m e is) (rests k m e is)) (sends k m p e f) (same p))) moves
 
 -- behind a bit through which they rest
 pub next_rests : (old new : Rest) (bit : ℕ) (level : Bool) (m : Member) → RestsThrough bit level old new →

@@ -3,7 +3,7 @@ use Rattle.std.specs.Prelude.{◌≡◌, ◌⊎◌, ℕ, ◌+◌, ◌≤◌, ◌
 use Rattle.std.specs.Prelude.{None, Some, List, [], ◌∷◌, length, map, slice_get, if◌then◌else◌}
 use Rattle.std.specs.List.{list_all}
 use Rattle.can_confinement.specs.KnownCounts.{Knows}
-use Rattle.can_node.specs.Listener.{Follows, Idles, IsListening, caught_up as node_caught_up}
+use Rattle.can_node.specs.Listener.{Acknowledges, Follows, Idles, IsListening, caught_up as node_caught_up}
 use Rattle.can_node.specs.Node.{counters_in, driven_by, may_begin}
 use Rattle.can_confinement.specs.declared.counters.Counters.{Counters}
 use Rattle.can_node.specs.declared.node.Node.{Node}
@@ -77,6 +77,26 @@ pub record RestsThrough (bit : ℕ) (level : Bool) (old new : Rest) : Type 0 whe
   pub spent_is : new.spent ≡ old.spent
   pub follows : Follows old.known old.listener bit level new.listener
   pub listens : IsListening old.listener → IsListening new.listener
+
+-- the listener follows an ACK slot with this level for those that rest and acknowledge a frame, which they have still to
+-- count
+pub record RestsAcknowledging (level : Bool) (old new : Rest) : Type 0 where
+  pub resting_is : new.resting ≡ old.resting
+  pub talkers_is : new.talkers ≡ old.talkers
+  pub controllers_is : new.controllers ≡ old.controllers
+  pub few_is : new.few ≡ old.few
+  pub spent_is : new.spent ≡ old.spent
+  pub acknowledges : Acknowledges old.listener level new.listener
+  pub listens : IsListening new.listener
+
+-- the same is held alike for all that rest, but for what is known of their counts
+pub record IsSameButKnown (old new : Rest) : Type 0 where
+  pub listener_is : new.listener ≡ old.listener
+  pub resting_is : new.resting ≡ old.resting
+  pub talkers_is : new.talkers ≡ old.talkers
+  pub controllers_is : new.controllers ≡ old.controllers
+  pub few_is : new.few ≡ old.few
+  pub spent_is : new.spent ≡ old.spent
 
 -- The nodes that rest go through a bit at which they sample this level: the listener followed for them. Some may have
 -- woken before it.

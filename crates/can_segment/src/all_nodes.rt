@@ -8,10 +8,12 @@ ghost use Rattle.can_station.specs.Deeds.{AreQuiet};
 ghost use Rattle.can_station.specs.Members.{NodeSamples, PortSettles, PortStarts, TalkerStarts, drives_at, wants_at};
 ghost use Rattle.can_segment.specs.Moves.{NodesMove, PortMoves};
 ghost use Rattle.can_station.specs.Places.{AtBoth, AtPlaces};
-ghost use Rattle.can_station.specs.RestingNodes.{HasRoom, LeavesResting, TransmitsAll};
+ghost use Rattle.can_station.specs.RestingNodes.{AwakeAreQuiet, AwakeWithin, HasRoom, IfAwake, IfAwakeBoth};
+ghost use Rattle.can_station.specs.RestingNodes.{LeavesResting, TransmitsAll};
 ghost use Rattle.can_segment.specs.Rests.{RestHolds, members_at};
 ghost use Rattle.can_station.specs.declared.member.Member.{Member};
 
+use crate::passage::Passage;
 use crate::rest::Rest;
 use crate::taking::sample_together;
 use can_station::{
@@ -55,51 +57,39 @@ fn start_all<R, P: RxSink<R>>(
     )
 }
 
-/// All nodes sample the line, each with its own faults: those that rest as long as the listener can follow for them,
-/// or together, or they wake. Whether something may be told of one of them.
-fn sample_all<R, P: RxSink<R>>(
+/// What is to be looked at behind a bit: whether something may be told of a node, and whether nodes that rest counted
+/// something.
+#[derive(Clone, Copy)]
+pub(crate) struct Sampled {
+    pub(crate) told: bool,
+    pub(crate) counted: bool,
+}
+
+/// The nodes that are awake sample the line, each with its own faults. Whether something may be told of one of them.
+fn sample_awake<R, P: RxSink<R>>(
     rt: &R,
     faults: &[NodeFault],
     talkers: &mut [Member],
     controllers: &mut [Member],
     ports: &mut [P],
-    rest: &mut Rest,
-    plan: &[Talker],
+    rest: &Rest,
     bit: u64,
     level: bool,
 ) -> bool
     requires ports { length ports.old ≡ length controllers.old }
     requires few { length talkers.old + length controllers.old ≤ 1000 }
-    requires talker_room { HasRoom u64.MAX bit (members_at rest.old bit talkers.old) }
-    requires room { HasRoom u64.MAX bit (members_at rest.old bit controllers.old) }
-    requires port { TransmitsAll P.transmitting (members_at rest.old bit controllers.old) ports.old }
-    requires rests { RestHolds rest.old bit plan.now talkers.old controllers.old }
-    ensures talkers { AtPlaces (NodeSamples 0 bit level faults.now)
-        (members_at rest.old bit talkers.old) (members_at rest.new (bit + 1) talkers.new) }
-    ensures controllers { AtBoth (λ k. PortSettles P.bus_after P.bus_asked P.transmitting P.sink_after P.port_stays bit
-        (sampled_level faults.now (length talkers.old + k) bit level))
-        (members_at rest.old bit controllers.old) (members_at rest.new (bit + 1) controllers.new)
-        ports.old ports.new }
-    ensures quiet { result ≡ false → AreQuiet bit (members_at rest.new (bit + 1) talkers.new)
-        × AreQuiet bit (members_at rest.new (bit + 1) controllers.new) }
-    ensures rests { RestHolds rest.new (bit + 1) plan.now talkers.new controllers.new }
-    ensures left { LeavesResting talkers.old talkers.new × LeavesResting controllers.old controllers.new }
+    requires talkers_within { AwakeWithin rest.now.talkers talkers.old }
+    requires controllers_within { AwakeWithin rest.now.controllers controllers.old }
+    requires talker_room { HasRoom u64.MAX bit talkers.old }
+    requires room { HasRoom u64.MAX bit controllers.old }
+    requires port { TransmitsAll P.transmitting controllers.old ports.old }
+    ensures talkers { AtPlaces (λ k. IfAwake (NodeSamples 0 bit level faults.now k)) talkers.old talkers.new }
+    ensures controllers { AtBoth (λ k. IfAwakeBoth (PortSettles P.bus_after P.bus_asked P.transmitting P.sink_after
+        P.port_stays bit (sampled_level faults.now (length talkers.old + k) bit level)))
+        controllers.old controllers.new ports.old ports.new }
+    ensures quiet { result ≡ false → AwakeAreQuiet bit talkers.new × AwakeAreQuiet bit controllers.new }
 {
     let first = talkers.len() as u32;
-    rest.disturb(faults, plan, talkers, controllers, bit);
-    if let Some(shared) = rest.go_through(plan, talkers, controllers, bit, level) {
-        return sample_together(
-            rt,
-            faults,
-            talkers,
-            controllers,
-            ports,
-            rest,
-            bit,
-            level,
-            &shared,
-        );
-    }
     let talkers_told = sample_nodes(talkers, faults, 0, bit, level, rest.talkers);
     let controllers_told = sample_controllers(
         rt,
@@ -114,10 +104,78 @@ fn sample_all<R, P: RxSink<R>>(
     talkers_told | controllers_told
 }
 
-/// What the nodes make of a bit: the level of the line, and whether there may be something to tell.
+/// All nodes sample the line, each with its own faults: those that rest as long as the listener can follow for them,
+/// or together, or they wake.
+fn sample_all<R, P: RxSink<R>>(
+    rt: &R,
+    faults: &[NodeFault],
+    talkers: &mut [Member],
+    controllers: &mut [Member],
+    ports: &mut [P],
+    rest: &mut Rest,
+    plan: &[Talker],
+    bit: u64,
+    level: bool,
+) -> Sampled
+    requires ports { length ports.old ≡ length controllers.old }
+    requires few { length talkers.old + length controllers.old ≤ 1000 }
+    requires talker_room { HasRoom u64.MAX bit (members_at rest.old bit talkers.old) }
+    requires room { HasRoom u64.MAX bit (members_at rest.old bit controllers.old) }
+    requires port { TransmitsAll P.transmitting (members_at rest.old bit controllers.old) ports.old }
+    requires rests { RestHolds rest.old bit plan.now talkers.old controllers.old }
+    ensures talkers { AtPlaces (NodeSamples 0 bit level faults.now)
+        (members_at rest.old bit talkers.old) (members_at rest.new (bit + 1) talkers.new) }
+    ensures controllers { AtBoth (λ k. PortSettles P.bus_after P.bus_asked P.transmitting P.sink_after P.port_stays bit
+        (sampled_level faults.now (length talkers.old + k) bit level))
+        (members_at rest.old bit controllers.old) (members_at rest.new (bit + 1) controllers.new)
+        ports.old ports.new }
+    ensures quiet { result.told ≡ false → AreQuiet bit (members_at rest.new (bit + 1) talkers.new)
+        × AreQuiet bit (members_at rest.new (bit + 1) controllers.new) }
+    ensures rests { RestHolds rest.new (bit + 1) plan.now talkers.new controllers.new }
+    ensures left { result.counted ≡ false
+        → LeavesResting talkers.old talkers.new × LeavesResting controllers.old controllers.new }
+{
+    rest.disturb(faults, plan, talkers, controllers, bit);
+    match rest.go_through(plan, talkers, controllers, bit, level) {
+        Passage::Through => {
+            let told = sample_awake(rt, faults, talkers, controllers, ports, rest, bit, level);
+            Sampled {
+                told,
+                counted: false,
+            }
+        }
+        Passage::Acknowledged => {
+            let told = sample_awake(rt, faults, talkers, controllers, ports, rest, bit, level);
+            rest.count_received(talkers, controllers);
+            Sampled {
+                told,
+                counted: true,
+            }
+        }
+        Passage::Shares(shared) => {
+            let told = sample_together(
+                rt,
+                faults,
+                talkers,
+                controllers,
+                ports,
+                rest,
+                bit,
+                level,
+                &shared,
+            );
+            Sampled {
+                told,
+                counted: false,
+            }
+        }
+    }
+}
+
+/// What the nodes make of a bit: the level of the line, and what is to be looked at behind it.
 pub(crate) struct Moved {
     pub(crate) level: bool,
-    pub(crate) told: bool,
+    pub(crate) sampled: Sampled,
 }
 
 /// What all nodes do at a bit: they start, and sample the line, which has this level.
@@ -147,16 +205,17 @@ pub(crate) fn move_nodes<R, P: RxSink<R>>(
         → slice_get ports.old k ≡ Some p → slice_get ports.new k ≡ Some q
         → PortMoves P.bus_after P.bus_asked P.transmitting P.sink_after P.port_stays bit (wants_at bit a) m p q }
     ensures size { length ports.new ≡ length ports.old }
-    ensures quiet { result.told ≡ false → AreQuiet bit (members_at rest.new (bit + 1) talkers.new)
+    ensures quiet { result.sampled.told ≡ false → AreQuiet bit (members_at rest.new (bit + 1) talkers.new)
         × AreQuiet bit (members_at rest.new (bit + 1) controllers.new) }
     ensures rests { RestHolds rest.new (bit + 1) plan.now.talkers.items talkers.new controllers.new }
-    ensures left { LeavesResting talkers.old talkers.new × LeavesResting controllers.old controllers.new }
+    ensures left { result.sampled.counted ≡ false
+        → LeavesResting talkers.old talkers.new × LeavesResting controllers.old controllers.new }
 {
     let talkers_plan = plan.talkers.as_slice();
     let driven = start_all(rt, talkers_plan, talkers, controllers, ports, rest, bit);
     let level = faults.line_level(bit, driven);
     let here = faults.inverting(bit);
-    let told = sample_all(
+    let sampled = sample_all(
         rt,
         here,
         talkers,
@@ -167,5 +226,5 @@ pub(crate) fn move_nodes<R, P: RxSink<R>>(
         bit,
         level,
     );
-    Moved { level, told }
+    Moved { level, sampled }
 }

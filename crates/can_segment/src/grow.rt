@@ -49,7 +49,7 @@ fn grow_any<R, P: RxSink<R>>(
         (members_at rest.old (length made.old.levels.items) controllers.old)
         (members_at rest.new (length made.new.levels.items) controllers.new) ports.old ports.new }
 {
-    let told = make_bit(
+    let sampled = make_bit(
         rt,
         plan,
         talkers,
@@ -60,13 +60,19 @@ fn grow_any<R, P: RxSink<R>>(
         &mut made.events,
         faults,
     );
-    show_all(&mut made.counters, talkers, controllers, rest);
+    show_all(
+        &mut made.counters,
+        talkers,
+        controllers,
+        rest,
+        sampled.counted,
+    );
     rest.come_to_rest(
         plan.talkers.as_slice(),
         talkers,
         controllers,
         made.levels.len() as u64,
-        told,
+        sampled.told,
         idles,
     );
 }

@@ -1,6 +1,7 @@
 //! A segment: nodes on one line, bit by bit, and what they did.
 #![tactic(auto)]
 
+mod acknowledging;
 mod all_nodes;
 mod awake;
 mod counts_shown;
@@ -10,6 +11,7 @@ mod leader;
 mod lull;
 mod make_bit;
 mod opening;
+mod passage;
 mod record;
 mod rest;
 mod seg_fault;

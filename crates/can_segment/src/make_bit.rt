@@ -11,7 +11,7 @@ ghost use Rattle.can_segment.specs.Kept.{SegmentKept};
 ghost use Rattle.can_station.specs.Tellings.{bit_lines};
 ghost use Rattle.can_station.specs.declared.member.Member.{Member};
 
-use crate::all_nodes::{Moved, move_nodes};
+use crate::all_nodes::{Moved, Sampled, move_nodes};
 use crate::rest::Rest;
 use can_station::{Event, FaultOrder, Member, RxSink, SegmentPlan, tell_rests, tell_starts};
 
@@ -41,8 +41,7 @@ fn tell(events: &mut Vec<Event>, bit: u64, talkers: &[Member], controllers: &[Me
     tell_rests(events, bit, first, controllers);
 }
 
-/// The nodes make one more bit, and the record grows by its level and its lines. Whether something may be told of one
-/// of them.
+/// The nodes make one more bit, and the record grows by its level and its lines.
 pub(crate) fn make_bit<R, P: RxSink<R>>(
     rt: &R,
     plan: &SegmentPlan,
@@ -53,7 +52,7 @@ pub(crate) fn make_bit<R, P: RxSink<R>>(
     levels: &mut Vec<bool>,
     events: &mut Vec<Event>,
     faults: &FaultOrder,
-) -> bool
+) -> Sampled
     requires stands { StandsAt plan.now (length levels.old.items) faults.now }
     requires kept { SegmentKept plan.now levels.old.items events.old.items
         (members_at rest.old (length levels.old.items) talkers.old)
@@ -82,11 +81,12 @@ pub(crate) fn make_bit<R, P: RxSink<R>>(
         (wants_at (length levels.old.items) a) m p q }
     ensures rests { RestHolds rest.new (length levels.old.items + 1) plan.now.talkers.items
         talkers.new controllers.new }
-    ensures left { LeavesResting talkers.old talkers.new × LeavesResting controllers.old controllers.new }
+    ensures left { result.counted ≡ false
+        → LeavesResting talkers.old talkers.new × LeavesResting controllers.old controllers.new }
     ensures size { length ports.new ≡ length ports.old }
 {
     let bit = levels.len() as u64;
-    let Moved { level, told } = move_nodes(
+    let Moved { level, sampled } = move_nodes(
         rt,
         plan,
         talkers,
@@ -96,7 +96,7 @@ pub(crate) fn make_bit<R, P: RxSink<R>>(
         bit,
         faults,
     );
-    tell(events, bit, talkers, controllers, told);
+    tell(events, bit, talkers, controllers, sampled.told);
     keep(levels, level);
-    told
+    sampled
 }

@@ -1,10 +1,13 @@
 //! Nodes that are left alone while a listener follows the line for them.
 
-ghost use Rattle.std.specs.Prelude.{◌≡◌, ◌+◌, ◌<◌, ◌≤◌, true, false, ℕ, IfNone, IfSome, length};
+ghost use Rattle.std.specs.Prelude.{◌≡◌, ◌+◌, ◌<◌, ◌≤◌, true, false, ℕ, length};
 ghost use Rattle.can_node.specs.Listener.{AllShare};
 ghost use Rattle.can_station.specs.RestingNodes.{AwakeWithin, LeavesResting, NoneRests, Undisturbed};
-ghost use Rattle.can_segment.specs.Rests.{Drives, GoesThrough, IsSame, RestHolds, RestsThrough, StartsNone, members_at};
+ghost use Rattle.can_segment.specs.Passage.{IfAcknowledged, IfShares, IfThrough};
+ghost use Rattle.can_segment.specs.Rests.{Drives, GoesThrough, IsSame, RestHolds, RestsAcknowledging};
+ghost use Rattle.can_segment.specs.Rests.{RestsThrough, StartsNone, members_at};
 
+use crate::passage::Passage;
 use can_node::{KnownCounts, Listener, Node, SharedSample};
 use can_station::{Member, NodeFault, PlaceSet, Talker, wake_all, wake_disturbed, wake_unspent};
 
@@ -191,8 +194,9 @@ impl Rest {
         true
     }
 
-    /// The listener follows through a bit at which those that rest sample this level. Where it can't, what that level
-    /// is to each of them; or they wake before it, where that is not known.
+    /// The listener follows through a bit at which those that rest sample this level, where it can: then they may have
+    /// to count a frame that they acknowledge. Else it is as it was, and so are they, where it is known what that level
+    /// is to each of them; or they wake before it.
     #[inline(always)]
     pub(crate) fn go_through(
         &mut self,
@@ -201,25 +205,31 @@ impl Rest {
         controllers: &mut [Member],
         bit: u64,
         level: bool,
-    ) -> Option<SharedSample>
+    ) -> Passage
         requires holds { RestHolds self.old bit plan.now talkers.old controllers.old }
-        ensures shares { IfSome result (λ shared. AllShare self.old.listener level shared × (bit < u64.MAX)) }
-        ensures same { IfSome result (λ shared. (self.new ≡ self.old) × (talkers.new ≡ talkers.old)
+        ensures shares { IfShares result (λ shared. AllShare self.old.listener level shared × (bit < u64.MAX)) }
+        ensures same { IfShares result (λ shared. (self.new ≡ self.old) × (talkers.new ≡ talkers.old)
             × (controllers.new ≡ controllers.old)) }
-        ensures talkers { IfNone result (GoesThrough self.old self.new bit level talkers.old talkers.new) }
-        ensures controllers { IfNone result (GoesThrough self.old self.new bit level controllers.old controllers.new) }
-        ensures holds { IfNone result (RestHolds self.new (bit + 1) plan.now talkers.new controllers.new) }
+        ensures acknowledges { IfAcknowledged result (RestsAcknowledging level self.old self.new
+            × (talkers.new ≡ talkers.old) × (controllers.new ≡ controllers.old)) }
+        ensures talkers { IfThrough result (GoesThrough self.old self.new bit level talkers.old talkers.new) }
+        ensures controllers { IfThrough result (GoesThrough self.old self.new bit level
+            controllers.old controllers.new) }
+        ensures holds { IfThrough result (RestHolds self.new (bit + 1) plan.now talkers.new controllers.new) }
     {
         if let Some(taken) = self.taken(bit, level) {
-            return Some(SharedSample::Takes(taken));
+            return Passage::Shares(SharedSample::Takes(taken));
         }
         if self.follows(bit, level) {
-            return None;
+            return Passage::Through;
+        }
+        if self.acknowledges(level) {
+            return Passage::Acknowledged;
         }
         if let Some(heard) = self.heard(bit, level) {
-            return Some(SharedSample::Hears(heard));
+            return Passage::Shares(SharedSample::Hears(heard));
         }
         self.wake(plan, talkers, controllers, bit);
-        None
+        Passage::Through
     }
 }

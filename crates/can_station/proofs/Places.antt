@@ -73,6 +73,12 @@ places_end Step old new i all b = record {
   size = b.size;
 }
 
+-- a step that is another too
+pub places_as : {M : Type 0} (One Other : ℕ → M → M → Type 0) (old new : List M) (i : ℕ) →
+    ((k : ℕ) (a b : M) → One k a b → Other k a b) → AtPlacesBelow One old new i → AtPlacesBelow Other old new i
+places_as One Other old new i too b =
+    record { below = λ k a c h p q. too k a c (b.below k a c h p q); above = b.above; size = b.size }
+
 same_step : {M : Type 0} (Step : ℕ → M → M → Type 0) (i k : ℕ) (a b c d : M) → i ≡ k → Some a ≡ Some c →
     Some b ≡ Some d → Step i a b → Step k c d
 same_step Step i k a b c d ei ea eb step =

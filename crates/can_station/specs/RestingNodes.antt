@@ -2,8 +2,10 @@
 use Rattle.std.specs.Prelude.{◌≡◌, ◌≢◌, ◌⊎◌, ℕ, ◌+◌, ◌≤◌, ◌<◌, Bool, true, false}
 use Rattle.std.specs.Prelude.{Option, None, Some, List, [], ◌∷◌, length, slice_get, if◌then◌else◌}
 use Rattle.bx_core.specs.TxBus.{Item}
+use Rattle.can_confinement.specs.KnownCounts.{Knows}
+use Rattle.can_confinement.specs.declared.known_counts.KnownCounts.{KnownCounts}
 use Rattle.can_node.specs.Histories.{Past, IsHistory}
-use Rattle.can_node.specs.Listener.{AllShare, SendsTo, StandsWith, caught_up as node_caught_up}
+use Rattle.can_node.specs.Listener.{AllShare, Receives, SendsTo, StandsWith, caught_up as node_caught_up}
 use Rattle.can_node.specs.Node.{IsSample, StandsAfter, bit_of, counters_in, may_begin}
 use Rattle.can_node.specs.declared.outcome.Outcome.TheVariants.{Nothing}
 use Rattle.can_node.specs.declared.shared_sample.SharedSample.{SharedSample}
@@ -58,6 +60,20 @@ pub record Shares (shared : SharedSample) (bit : ℕ) (level : Bool) (old new : 
 -- nothing is told of it if it rested before
 abbrev pub TellsNone : Member → Member → Type 0
 TellsNone old new = old.rests ≡ true → IsQuiet new.deed
+
+-- one that rests has counted that it received a frame, and rests on; any other is as it was
+pub record CountsReceived (old new : Member) : Type 0 where
+  pub was_awake : old.rests ≡ false → new ≡ old
+  pub rests_on : new.rests ≡ old.rests
+  pub on_is : new.on ≡ old.on
+  pub deed_is : new.deed ≡ old.deed
+  pub sending_is : new.station.sending ≡ old.station.sending
+  pub completed_is : new.station.completed ≡ old.station.completed
+  pub receives : old.rests ≡ true → Receives old.station.node new.station.node
+
+-- so much is known of its counts if it rests
+abbrev pub KnowsResting : KnownCounts → Member → Member → Type 0
+KnowsResting known old new = new.rests ≡ true → Knows known (counters_in new.station.node)
 
 -- a step of one that is awake, and stays it; one that rests is left as it is
 pub record IfAwake (Step : Member → Member → Type 0) (old new : Member) : Type 0 where

@@ -32,4 +32,6 @@ pub use crate::rx_sink::RxSink;
 pub use crate::station::Station;
 pub use crate::tell::{tell_rests, tell_starts};
 pub use crate::transmission::Transmission;
-pub use crate::wake::{fall_silent, share_all, wake_all, wake_disturbed, wake_unspent};
+pub use crate::wake::{
+    fall_silent, receive_all, share_all, wake_all, wake_disturbed, wake_unspent,
+};

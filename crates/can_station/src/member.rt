@@ -11,7 +11,8 @@ ghost use Rattle.can_station.specs.Fresh.{IsFresh};
 ghost use Rattle.can_station.specs.Deeds.{IsQuiet, Names, no_deed};
 ghost use Rattle.can_station.specs.Outcomes.{sending_after, completed_by};
 ghost use Rattle.can_station.specs.RestingNodes.{GoesAsItMay, MayGo, MayGoBy, MayWake};
-ghost use Rattle.can_station.specs.RestingNodes.{MemberGoes, MemberSends, Shares, laid_down, silenced, woken};
+ghost use Rattle.can_station.specs.RestingNodes.{CountsReceived, KnowsResting, MemberGoes, MemberSends, Shares};
+ghost use Rattle.can_station.specs.RestingNodes.{laid_down, silenced, woken};
 ghost use Rattle.can_station.specs.Members.{
   AreOf,
   is_on,
@@ -182,6 +183,18 @@ impl Member {
                 self.note(outcome)
             }
         }
+    }
+
+    /// If it rests it counts that it received a frame (`Node::receive`), and rests on. What is known of its counts then.
+    pub(crate) fn receive(&mut self) -> KnownCounts
+        ensures counts { CountsReceived self.old self.new }
+        ensures known { KnowsResting result self.old self.new }
+    {
+        if !self.rests {
+            return KnownCounts::Zero;
+        }
+        self.station.node.receive();
+        self.known_counts()
     }
 
     /// It comes to rest, and nothing is told any more of what it did.

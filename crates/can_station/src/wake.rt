@@ -1,8 +1,9 @@
-//! Nodes that wake, and such of which nothing is told any more.
+//! Nodes that wake, such that rest on, and such of which nothing is told any more.
 
 ghost use Rattle.std.specs.Prelude.{◌≡◌, ◌+◌, ◌<◌, ◌≤◌, ℕ, true, false, Some, length, slice_get};
 ghost use Rattle.can_station.specs.Places.{AtPlaces};
-ghost use Rattle.can_station.specs.RestingNodes.{AwakeWithin, FallsSilent, IfAwake, Shares, TellsNone};
+ghost use Rattle.can_station.specs.RestingNodes.{AwakeWithin, CountsReceived, FallsSilent, IfAwake, KnowsResting};
+ghost use Rattle.can_station.specs.RestingNodes.{Shares, TellsNone};
 ghost use Rattle.can_station.specs.RestingNodes.{WakesDisturbed, WakesUnspent, woken};
 ghost use Rattle.can_station.specs.declared.member.Member.{Member as MemberValue};
 
@@ -10,7 +11,7 @@ use crate::faults::is_inverted;
 use crate::member::Member;
 use crate::place_set::PlaceSet;
 use crate::plan::{NodeFault, Talker};
-use can_node::{Listener, SharedSample};
+use can_node::{KnownCounts, Listener, SharedSample};
 
 /// Nothing is told any more of what those that are awake did at the last bit, if something was told. All but those
 /// at the places of the set rest.
@@ -50,6 +51,18 @@ pub fn share_all(members: &mut [Member], shared: &SharedSample, bit: u64, level:
         told |= members[place].share(shared, bit, level);
     }
     told
+}
+
+/// All of these that rest count that they received a frame, and rest on. What is known of the counts of each then.
+pub fn receive_all(members: &mut [Member]) -> KnownCounts
+    ensures counts { AtPlaces (λ k. CountsReceived) members.old members.new }
+    ensures known { AtPlaces (λ k. KnowsResting result) members.old members.new }
+{
+    let mut known = KnownCounts::Zero;
+    for place in 0..members.len() {
+        known = known.and(members[place].receive());
+    }
+    known
 }
 
 /// Before this bit those talkers that rest wake that have a frame left. Each stands at the place of its plan.

@@ -9,8 +9,8 @@ use Rattle.can_segment.proofs.Rests.{awake_at, members_length}
 use Rattle.can_segment.proofs.Woken.{left_on}
 use Rattle.can_segment.proofs.all_nodes.move_nodes.Goals as goal
 
-pub sample_all-told-requires-clause-talker_room : goal.sample_all-told-requires-clause-talker_room
-sample_all-told-requires-clause-talker_room g c k m e awake on =
+pub sample_all-sampled-requires-clause-talker_room : goal.sample_all-sampled-requires-clause-talker_room
+sample_all-sampled-requires-clause-talker_room g c k m e awake on =
     let starts = c.start_all-driven.ensures.talkers in
     let rest = c.args.rest.now in
     let size = members_length rest c.args.bit c.args.talkers.now in
@@ -23,8 +23,8 @@ sample_all-told-requires-clause-talker_room g c k m e awake on =
     (starts.at k old.0 m old.1 e talker.0 (rw c.as_slice-talkers_plan.ensures.value talker.1))
     (c.requires.talker_clocks k old.0 old.1 (awake_at rest c.args.bit c.args.talkers.now k old.0 old.1)) on
 
-pub sample_all-told-requires-clause-room : goal.sample_all-told-requires-clause-room
-sample_all-told-requires-clause-room g c k m e awake on =
+pub sample_all-sampled-requires-clause-room : goal.sample_all-sampled-requires-clause-room
+sample_all-sampled-requires-clause-room g c k m e awake on =
     let starts = c.start_all-driven.ensures.controllers in
     let rest = c.args.rest.now in
     let size = members_length rest c.args.bit c.args.controllers.now in
@@ -37,8 +37,8 @@ sample_all-told-requires-clause-room g c k m e awake on =
     controller_clock c.args.bit _ old.0 m (starts.at k old.0 m from.0 to.0 old.1 e from.1 to.1).member
     (c.requires.clocks k old.0 old.1 (awake_at rest c.args.bit c.args.controllers.now k old.0 old.1)) on
 
-pub sample_all-told-requires-clause-port : goal.sample_all-told-requires-clause-port
-sample_all-told-requires-clause-port g c k m p e f =
+pub sample_all-sampled-requires-clause-port : goal.sample_all-sampled-requires-clause-port
+sample_all-sampled-requires-clause-port g c k m p e f =
     let starts = c.start_all-driven.ensures.controllers in
     let rest = c.args.rest.now in
     let size = members_length rest c.args.bit c.args.controllers.now in
@@ -51,7 +51,7 @@ sample_all-told-requires-clause-port g c k m p e f =
 pub returns-clause-nodes : goal.returns-clause-nodes
 returns-clause-nodes g c =
     let starts = c.start_all-driven.ensures.controllers in
-    let settles = c.sample_all-told.ensures.controllers in
+    let settles = c.sample_all-sampled.ensures.controllers in
     let rest = c.args.rest.now in
     let bit = c.args.bit in
     let level = c.line_level-level.result in
@@ -76,8 +76,8 @@ returns-clause-nodes g c =
             ≡ sampled_level c.args.plan.now.node_faults.items k bit level =
             ap (λ n. sampled_level c.inverting-here.result.now n bit level) here
             ∙ c.inverting-here.ensures c.args.plan.now c.requires.stands k level in
-            subst (λ l. Samples bit l a b) own (c.sample_all-told.ensures.talkers.at k a b e f);
-        size = c.sample_all-told.ensures.talkers.size;
+            subst (λ l. Samples bit l a b) own (c.sample_all-sampled.ensures.talkers.at k a b e f);
+        size = c.sample_all-sampled.ensures.talkers.size;
       };
       controls = record {
         starts = λ k a b ea eb.
@@ -90,7 +90,7 @@ returns-clause-nodes g c =
             let within = slice_get_within (members_at mid bit c.start_all-driven.new.controllers) k a ea in
             let from = some_there c.start_all-driven.new.ports k
             (omega (arith, within, size, starts.size, starts.size_too, c.requires.ports)) in
-            let to = some_there c.sample_all-told.new.ports k
+            let to = some_there c.sample_all-sampled.new.ports k
             (omega (arith, within, size, starts.size, starts.size_too, settles.size_too, c.requires.ports)) in
             subst (λ n. SamplesAndSettles bit (sampled_level c.args.plan.now.node_faults.items (n + k) bit level) a b)
             talkers_size
@@ -108,12 +108,12 @@ returns-clause-nodes g c =
 pub returns-clause-port : goal.returns-clause-port
 returns-clause-port g c k a m p q d e f h =
     let starts = c.start_all-driven.ensures.controllers in
-    let settles = c.sample_all-told.ensures.controllers in
+    let settles = c.sample_all-sampled.ensures.controllers in
     let rest = c.args.rest.now in
     let start = c.start_all-driven.new.rest in
-    let after = c.sample_all-told.new.rest in
+    let after = c.sample_all-sampled.new.rest in
     let size = members_length rest c.args.bit c.args.controllers.now in
-    let within = slice_get_within (members_at after (c.args.bit + 1) c.sample_all-told.new.controllers) k m e in
+    let within = slice_get_within (members_at after (c.args.bit + 1) c.sample_all-sampled.new.controllers) k m e in
     let mid = some_there (members_at start c.args.bit c.start_all-driven.new.controllers) k
     (omega (arith, within, settles.size)) in
     let between = some_there c.start_all-driven.new.ports k
@@ -124,7 +124,7 @@ returns-clause-port g c k a m p q d e f h =
     (starts.at k a mid.0 p between.0 d mid.1 f between.1) (settles.at k mid.0 m between.0 q mid.1 e between.1 h)
 
 pub returns-clause-left : goal.returns-clause-left
-returns-clause-left g c =
+returns-clause-left g c none =
     let started = c.start_all-driven.ensures.left in
-    let sampled = c.sample_all-told.ensures.left in
+    let sampled = c.sample_all-sampled.ensures.left none in
     (left_on _ _ _ started.0 sampled.0, left_on _ _ _ started.1 sampled.1)

@@ -16,8 +16,8 @@ use Rattle.can_segment.proofs.Rests.{members_length}
 use Rattle.can_segment.proofs.Wholes.{from_left, from_real, from_whole, holds_alike}
 use Rattle.can_segment.proofs.grow.grow_any.Goals as goal
 
-pub make_bit-told-requires-clause-few : goal.make_bit-told-requires-clause-few
-make_bit-told-requires-clause-few g c =
+pub make_bit-sampled-requires-clause-few : goal.make_bit-sampled-requires-clause-few
+make_bit-sampled-requires-clause-few g c =
     let rest = c.args.rest.now in
     let bit = length c.args.made.now.levels.items in
     omega (
@@ -30,9 +30,9 @@ make_bit-told-requires-clause-few g c =
 pub show_all-requires-clause-size : goal.show_all-requires-clause-size
 show_all-requires-clause-size g c =
     let bit = length c.args.made.now.levels.items in
-    let new = c.make_bit-told.new.rest in
+    let new = c.make_bit-sampled.new.rest in
     let before = c.requires.holds.kept.stands in
-    let behind = c.make_bit-told.ensures.kept.stands in
+    let behind = c.make_bit-sampled.ensures.kept.stands in
     omega (
       arith,
       c.requires.holds.size,
@@ -40,68 +40,68 @@ show_all-requires-clause-size g c =
       before.controllers_size,
       behind.talkers_size,
       behind.controllers_size,
-      members_length new (bit + 1) c.make_bit-told.new.talkers,
-      members_length new (bit + 1) c.make_bit-told.new.controllers,
+      members_length new (bit + 1) c.make_bit-sampled.new.talkers,
+      members_length new (bit + 1) c.make_bit-sampled.new.controllers,
     )
 
 pub show_all-requires-clause-talkers : goal.show_all-requires-clause-talkers
-show_all-requires-clause-talkers g c =
+show_all-requires-clause-talkers g c none =
     let old = c.args.rest.now in
     let counters = c.args.made.now.counters.items in
-    from_left 0 c.args.talkers.now c.make_bit-told.new.talkers counters
+    from_left 0 c.args.talkers.now c.make_bit-sampled.new.talkers counters
     (from_whole 0 old (length c.args.made.now.levels.items) c.args.talkers.now counters
-    c.requires.holds.talkers_shown) c.make_bit-told.ensures.left.0
+    c.requires.holds.talkers_shown) (c.make_bit-sampled.ensures.left none).0
 
 pub show_all-requires-clause-controllers : goal.show_all-requires-clause-controllers
-show_all-requires-clause-controllers g c =
+show_all-requires-clause-controllers g c none =
     let old = c.args.rest.now in
-    let new = c.make_bit-told.new.rest in
+    let new = c.make_bit-sampled.new.rest in
     let bit = length c.args.made.now.levels.items in
     let counters = c.args.made.now.counters.items in
-    let size : length (members_at old bit c.args.talkers.now) ≡ length c.make_bit-told.new.talkers =
+    let size : length (members_at old bit c.args.talkers.now) ≡ length c.make_bit-sampled.new.talkers =
     omega (
       arith,
       c.requires.holds.kept.stands.talkers_size,
-      c.make_bit-told.ensures.kept.stands.talkers_size,
-      members_length new (bit + 1) c.make_bit-told.new.talkers,
+      c.make_bit-sampled.ensures.kept.stands.talkers_size,
+      members_length new (bit + 1) c.make_bit-sampled.new.talkers,
     ) in
-    from_left (length c.make_bit-told.new.talkers) c.args.controllers.now c.make_bit-told.new.controllers counters
+    from_left (length c.make_bit-sampled.new.talkers) c.args.controllers.now c.make_bit-sampled.new.controllers counters
     (subst (λ first. AreFrom first c.args.controllers.now counters) size
     (from_whole _ old bit c.args.controllers.now counters c.requires.holds.controllers_shown))
-    c.make_bit-told.ensures.left.1
+    (c.make_bit-sampled.ensures.left none).1
 
 pub come_to_rest-requires-clause-plan : goal.come_to_rest-requires-clause-plan
 come_to_rest-requires-clause-plan g c =
     let bit = length c.args.made.now.levels.items in
-    let behind = c.make_bit-told.ensures.kept.stands in
+    let behind = c.make_bit-sampled.ensures.kept.stands in
     omega (
       arith,
       ap length c.as_slice.ensures.value,
       behind.talkers_size,
-      members_length c.make_bit-told.new.rest (bit + 1) c.make_bit-told.new.talkers,
+      members_length c.make_bit-sampled.new.rest (bit + 1) c.make_bit-sampled.new.talkers,
     )
 
 pub returns-clause-holds : goal.returns-clause-holds
 returns-clause-holds g c =
-    let made = c.make_bit-told.ensures in
+    let made = c.make_bit-sampled.ensures in
     let old = c.args.rest.now in
-    let mid = c.make_bit-told.new.rest in
+    let mid = c.make_bit-sampled.new.rest in
     let new = c.come_to_rest.new.self in
     let bit = length c.args.made.now.levels.items in
-    let next = length c.make_bit-told.new.levels.items in
+    let next = length c.make_bit-sampled.new.levels.items in
     let longer : bit + 1 ≡ next =
     sym (ap length made.level.1 ∙ length-append c.args.made.now.levels.items (made.level.0 ∷ [])) in
     let here : c.len.result ≡ next = search rules in
-    let t1 = c.make_bit-told.new.talkers in
-    let c1 = c.make_bit-told.new.controllers in
-    let kept = subst (λ n. SegmentKept c.args.plan.now c.make_bit-told.new.levels.items c.make_bit-told.new.events.items
+    let t1 = c.make_bit-sampled.new.talkers in
+    let c1 = c.make_bit-sampled.new.controllers in
+    let kept = subst (λ n. SegmentKept c.args.plan.now c.make_bit-sampled.new.levels.items c.make_bit-sampled.new.events.items
     (members_at mid n t1) (members_at mid n c1)) longer made.kept in
     let talkers_size = members_length mid next t1 in
     let controllers_size = members_length mid next c1 in
     let before = c.requires.holds.kept.stands in
     holds_alike c.args.plan.now (record {
-      levels = c.make_bit-told.new.levels;
-      events = c.make_bit-told.new.events;
+      levels = c.make_bit-sampled.new.levels;
+      events = c.make_bit-sampled.new.events;
       counters = c.show_all.new.counters;
     }) (members_at mid next t1)
     (members_at new next c.come_to_rest.new.talkers)
@@ -125,21 +125,21 @@ returns-clause-holds g c =
 
 pub returns-clause-bit : goal.returns-clause-bit
 returns-clause-bit g c =
-    let made = c.make_bit-told.ensures in
-    let mid = c.make_bit-told.new.rest in
+    let made = c.make_bit-sampled.ensures in
+    let mid = c.make_bit-sampled.new.rest in
     let new = c.come_to_rest.new.self in
     let bit = length c.args.made.now.levels.items in
-    let next = length c.make_bit-told.new.levels.items in
+    let next = length c.make_bit-sampled.new.levels.items in
     let longer : bit + 1 ≡ next =
     sym (ap length made.level.1 ∙ length-append c.args.made.now.levels.items (made.level.0 ∷ [])) in
     let here : c.len.result ≡ next = search rules in
-    let talkers = members_at mid (bit + 1) c.make_bit-told.new.talkers in
-    let controllers = members_at mid (bit + 1) c.make_bit-told.new.controllers in
+    let talkers = members_at mid (bit + 1) c.make_bit-sampled.new.talkers in
+    let controllers = members_at mid (bit + 1) c.make_bit-sampled.new.controllers in
     let lines = bit_lines bit talkers controllers in
     let stands = made.kept.stands in
-    let alike = subst (λ n. AreAlike (members_at mid n c.make_bit-told.new.controllers)
+    let alike = subst (λ n. AreAlike (members_at mid n c.make_bit-sampled.new.controllers)
     (members_at new next c.come_to_rest.new.controllers)) (sym longer)
-    (subst (λ n. AreAlike (members_at mid n c.make_bit-told.new.controllers)
+    (subst (λ n. AreAlike (members_at mid n c.make_bit-sampled.new.controllers)
     (members_at new n c.come_to_rest.new.controllers)) here c.come_to_rest.ensures.controllers) in
     record {
       level = made.level.0;

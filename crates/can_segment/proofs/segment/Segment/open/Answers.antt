@@ -6,23 +6,11 @@ use Rattle.can_station.specs.FaultOrder.{StandsAt}
 use Rattle.can_station.specs.Fresh.{AreFresh}
 use Rattle.can_segment.specs.Rests.{members_at}
 use Rattle.can_segment.specs.Segments.{SegmentHolds}
-use Rattle.can_segment.proofs.Fresh.{fresh_awake, fresh_shown, kept_fresh, idle_fresh}
+use Rattle.can_segment.proofs.Fresh.{fresh_awake, kept_fresh, idle_fresh}
 use Rattle.can_segment.proofs.Holds.{none_rests}
 use Rattle.can_segment.proofs.Woken.{none_resting}
 use Rattle.can_segment.proofs.Wholes.{holds_awake}
 use Rattle.can_segment.proofs.segment.Segment.open.Goals as goal
-
-pub show_all-requires-clause-talkers : goal.show_all-requires-clause-talkers
-show_all-requires-clause-talkers c =
-    rw c.as_slice-5.ensures.value
-    (fresh_shown (λ talker. talker.on) c.args.plan.talkers.items 0 c.in_ok-talkers.talkers.items
-    c.in_ok-counters.counters.items (rw c.as_slice.ensures.value at c.in_ok-talkers.ensures))
-
-pub show_all-requires-clause-controllers : goal.show_all-requires-clause-controllers
-show_all-requires-clause-controllers c =
-    rw c.as_slice-6.ensures.value
-    (fresh_shown (λ controller. controller.on) c.args.plan.controllers.items _ c.in_ok-controllers.controllers.items
-    c.in_ok-counters.counters.items (rw c.as_slice-2.ensures.value at c.in_ok-controllers.ensures))
 
 pub invariant_of-result : goal.invariant_of-result
 invariant_of-result c =
