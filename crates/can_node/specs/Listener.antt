@@ -1,11 +1,12 @@
 -- One that follows a line in place of nodes that listen to it and have come equally far.
-use Rattle.std.specs.Prelude.{◌≡◌, ◌⊎◌, ℕ, ◌+◌, ◌||◌, Bool, true, false, None, Some, IfSome, List, [], ◌∷◌, ◌++◌}
+use Rattle.std.specs.Prelude.{◌≡◌, ◌⊎◌, ℕ, ◌+◌, ◌||◌, nat_eq, Bool, true, false, None, Some, IfSome, List, [], ◌∷◌}
+use Rattle.std.specs.Prelude.{◌++◌}
 use Rattle.can_confinement.specs.Counters.{StandsAfter as CountersStandAfter}
 use Rattle.can_confinement.specs.declared.confinement.ErrorEvent.{ErrorEvent}
 use Rattle.can_confinement.specs.declared.confinement.ErrorEvent.TheVariants.{Received}
 use Rattle.can_node.specs.declared.outcome.Outcome.TheVariants.{Nothing, Took}
 use Rattle.can_node.specs.declared.state.State.{State}
-use Rattle.can_node.specs.declared.state.State.TheVariants.{Closing, Taking}
+use Rattle.can_node.specs.declared.state.State.TheVariants.{Closing, Delimiting, Taking}
 use Rattle.can_node.specs.declared.state.Stage.TheVariants.{AfterSlot}
 use Rattle.can_node.specs.declared.shared_sample.HeardLevel.{HeardLevel}
 use Rattle.can_node.specs.declared.shared_sample.SharedSample.{SharedSample}
@@ -37,6 +38,11 @@ is_reading listener = is_in_region listener.state
 abbrev pub may_follow_by : State → Bool
 may_follow_by (Taking start false AfterSlot) = true
 may_follow_by state = is_in_region state || stays_out true state
+
+-- it has sampled the first recessive level of a delimiter, and no other yet
+abbrev pub begins_delimiter : State → Bool
+begins_delimiter (Delimiting role ones) = nat_eq ones 1
+begins_delimiter state = false
 
 -- it has come as far as this node
 abbrev pub listener_of : Node → Listener

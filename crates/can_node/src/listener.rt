@@ -6,7 +6,7 @@ ghost use Rattle.can_node.specs.Machine.{GoesReading, is_sending, is_taking};
 ghost use Rattle.can_node.specs.Node.{driven_by, may_begin};
 ghost use Rattle.can_node.specs.Listener.{Acknowledges, AllHear, AllTake, IsListening, IsUnseen, Follows};
 ghost use Rattle.can_node.specs.Listener.{ReadsAlong, ReadsAlongBy};
-ghost use Rattle.can_node.specs.Listener.{Idles, caught_up, is_reading, may_follow_by};
+ghost use Rattle.can_node.specs.Listener.{Idles, begins_delimiter, caught_up, is_reading, may_follow_by};
 ghost use Rattle.can_confinement.specs.declared.known_counts.KnownCounts.{KnownCounts as KnownCountsValue};
 ghost use Rattle.can_confinement.specs.declared.confinement.ErrorState.{ErrorState as ErrorStateValue};
 
@@ -78,6 +78,15 @@ impl Listener {
             }
             state => waits_on(state),
         }
+    }
+
+    /// Whether each of them has sampled the first bit of a delimiter, and no other yet: no flag stands on the line any
+    /// more (Bosch CAN Specification 2.0, part B, 3.2.3 ERROR FRAME, 3.2.4 OVERLOAD FRAME).
+    #[inline(always)]
+    pub fn begins_delimiter(&self) -> bool
+        ensures { result ≡ begins_delimiter self.now.state }
+    {
+        matches!(self.state, State::Delimiting(_, 1))
     }
 
     /// Follows the line through a bit at which all of them sample this level, and tells whether it did: then each
