@@ -6,12 +6,11 @@ ghost use Rattle.can_station.specs.Places.{AtPlaces};
 ghost use Rattle.can_station.specs.RestingNodes.{CountsReceived, KnowsResting};
 
 use crate::rest::Rest;
-use can_node::KnownCounts;
 use can_station::{Member, receive_all};
 
 impl Rest {
-    /// Whether nodes rest whose counts may change, and the listener has followed for them the ACK slot of a frame that
-    /// they acknowledge, if they sample this level at it: they have still to count it. Else it is as it was.
+    /// Whether nodes rest, and the listener has followed for them the ACK slot of a frame that they acknowledge, if they
+    /// sample this level at it: they have still to count it. Else it is as it was.
     #[inline(always)]
     pub(crate) fn acknowledges(&mut self, level: bool) -> bool
         ensures acknowledges { result ≡ true → RestsAcknowledging level self.old self.new }

@@ -105,7 +105,7 @@ fn sample_awake<R, P: RxSink<R>>(
 }
 
 /// All nodes sample the line, each with its own faults: those that rest as long as the listener can follow for them,
-/// or together, or they wake.
+/// and count a frame that they acknowledge, or they sample it together, or they wake.
 fn sample_all<R, P: RxSink<R>>(
     rt: &R,
     faults: &[NodeFault],
