@@ -3,7 +3,7 @@
 # memory beyond the input, and how many times more the second costs.
 set -eu
 cd "$(dirname "$0")/.."
-./bxgate --help > /dev/null
+program=${PROGRAM:-$(scripts/program)}
 work=$(mktemp -d)
 trap 'rm -rf "$work"' EXIT
 
@@ -28,11 +28,11 @@ measure() {
   best=
   for _ in $(seq 15); do
     start=$(date +%s%N)
-    ./crates/bxgate/out/bxgate core < "$work/list" > "$work/report"
+    "$program" core < "$work/list" > "$work/report"
     took=$((($(date +%s%N) - start) / 1000))
     if [ -z "$best" ] || [ "$took" -lt "$best" ]; then best=$took; fi
   done
-  /usr/bin/time -f '%M' -o "$work/cost" ./crates/bxgate/out/bxgate core < "$work/list" > "$work/report"
+  /usr/bin/time -f '%M' -o "$work/cost" "$program" core < "$work/list" > "$work/report"
   read -r kilobytes < "$work/cost"
   bytes=$(wc -c < "$work/list")
   beyond=$((kilobytes - bytes / 1024))

@@ -3,11 +3,7 @@
 # and the most memory that one of them took.
 set -eu
 cd "$(dirname "$0")/.."
-program=${PROGRAM:-}
-if [ -z "$program" ]; then
-  ./bxgate --help > /dev/null
-  program=crates/bxgate/out/bxgate
-fi
+program=${PROGRAM:-$(scripts/program)}
 work=$(mktemp -d)
 trap 'rm -rf "$work"' EXIT
 

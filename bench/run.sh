@@ -4,16 +4,12 @@
 # faults, and with routes; then what ten times the bits, nodes, events and faults cost in time and memory; then a bus
 # on which all always want to send. All in one run, on one core, in turn.
 # From the environment: CORE, the core (the last one); RUNS, of how many runs the best is taken (5); PROGRAM, the path
-# of the program (that which ./bxgate builds).
+# of the program (that of scripts/program).
 set -eu
 cd "$(dirname "$0")/.."
 core=${CORE:-$(($(nproc --all) - 1))}
 runs=${RUNS:-5}
-program=${PROGRAM:-}
-if [ -z "$program" ]; then
-  ./bxgate --help > /dev/null
-  program=crates/bxgate/out/bxgate
-fi
+program=${PROGRAM:-$(scripts/program)}
 by_hand=$(bench/by-hand.sh) || {
   [ $? -eq 3 ] || exit 1
   echo "There is no rustc here, so the simulation written by hand is not built: these are the program's figures alone."

@@ -3,15 +3,11 @@
 # from each segment to the next, by one worker and with a slack of 1, of 64 and of all bits; the time by the clock, the
 # processor time and the most memory of each, the best of some runs. First all nodes always have the same frames to
 # send, on all segments; then mixed frames, others on each segment, fill nine tenths of the bits (bench/draw.py).
-# From the environment: RUNS, of how many runs the best is taken (3); PROGRAM, the path of the program (that which
-# ./bxgate builds).
+# From the environment: RUNS, of how many runs the best is taken (3); PROGRAM, the path of the program (that of
+# scripts/program).
 set -eu
 cd "$(dirname "$0")/.."
-program=${PROGRAM:-}
-if [ -z "$program" ]; then
-  ./bxgate --help > /dev/null
-  program=crates/bxgate/out/bxgate
-fi
+program=${PROGRAM:-$(scripts/program)}
 work=$(mktemp -d)
 trap 'rm -rf "$work"' EXIT
 

@@ -1,4 +1,4 @@
-"""The built program, or that which the environment names in PROGRAM."""
+"""The program that was made from these sources (scripts/program), or the one that the environment names in PROGRAM."""
 
 import json
 import os
@@ -6,7 +6,7 @@ import pathlib
 import subprocess
 
 ROOT = pathlib.Path(__file__).resolve().parent.parent
-PROGRAM = pathlib.Path(os.environ.get("PROGRAM") or ROOT / "crates/bxgate/out/bxgate")
+PROGRAM = pathlib.Path(os.environ.get("PROGRAM") or subprocess.check_output([ROOT / "scripts/program"], text=True).strip())
 
 
 def reported(script, turn):
