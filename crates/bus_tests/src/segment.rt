@@ -4,6 +4,7 @@ mod one_fault;
 mod requests;
 mod shared;
 mod talkers;
+mod worked;
 
 ghost use Rattle.std.specs.Prelude.{◌≡◌, None, IfOk, IfSome, length};
 ghost use Rattle.bx_core.specs.PlainMail.{core_of, sending};

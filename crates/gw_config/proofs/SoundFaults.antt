@@ -3,8 +3,8 @@ use Rattle.std.proofs.Common.{◌≡◌, ◌∙◌, ap, refl, subst, ℕ, suc, �
 use Rattle.std.proofs.Common.{Bool, true, false, cond, Option, Some, None, Ok, codes, arith}
 use Rattle.std.specs.List.{position_from}
 use Rattle.std.specs.Str.{bytes_eq}
-use Rattle.json.specs.Json.{Json}
-use Rattle.json.specs.Find.{get}
+use Rattle.serde_json.specs.Data.{Data}
+use Rattle.serde_json.specs.Find.{get}
 use Rattle.bx_core.specs.Lists.{Each}
 use Rattle.gw_config.specs.declared.node_place.NodePlace.{NodePlace}
 use Rattle.gw_config.specs.declared.planned_fault.PlannedFault.{PlannedFault}
@@ -89,8 +89,8 @@ named_ok segments controllers node found = (
   found.below,
 )
 
-fault_ok : (bits : ℕ) (segments : List SegmentValue) (controllers : List ControllerValue) (from : Json)
-    (given : Option Json) (f : PlannedFault) →
+fault_ok : (bits : ℕ) (segments : List SegmentValue) (controllers : List ControllerValue) (from : Data)
+    (given : Option Data) (f : PlannedFault) →
     fault_with bits segments controllers from given ≡ Ok f → IsFaultAtNode segments controllers f
 unfolding node_fault line_fault
 fault_ok bits segments controllers from (Some value) f e =
@@ -111,7 +111,7 @@ fault_ok bits segments controllers from None f e =
     let P : PlannedFault → Type 0 = IsFaultAtNode segments controllers in
     subst P same tt)))
 
-planned_ok : (bits : ℕ) (segments : List SegmentValue) (controllers : List ControllerValue) (value : Json)
+planned_ok : (bits : ℕ) (segments : List SegmentValue) (controllers : List ControllerValue) (value : Data)
     (f : PlannedFault) → planned_fault_of bits segments controllers value ≡ Ok f →
     IsFaultAtNode segments controllers f
 unfolding planned_fault_of
@@ -119,7 +119,7 @@ planned_ok bits segments controllers value f e =
     from_bind (object_of (codes "faults") value) _ f e
     (λ from is_object e1. fault_ok bits segments controllers from (get (codes "node") from) f e1)
 
-pub faults_ok : (bits : ℕ) (segments : List SegmentValue) (controllers : List ControllerValue) (from : Json)
+pub faults_ok : (bits : ℕ) (segments : List SegmentValue) (controllers : List ControllerValue) (from : Data)
     (fs : List PlannedFault) → planned_faults_of bits segments controllers from ≡ Ok fs →
     Each (IsFaultAtNode segments controllers) fs
 unfolding planned_faults_of

@@ -9,7 +9,7 @@ use Rattle.std.proofs.lemmas.Grind.{flat_map-append}
 use Rattle.std.proofs.lemmas.Slice.Eq.{bytes_eq-Decides}
 use Rattle.std.specs.List.{list_any}
 use Rattle.std.specs.Str.{bytes_eq}
-use Rattle.json.specs.Json.{Json, Items}
+use Rattle.serde_json.specs.Data.{Data, Items}
 use Rattle.bx_core.specs.Lists.{Each}
 use Rattle.gw_fields.specs.Faults.{too_many}
 use Rattle.gw_fields.specs.Fields.{object_of, whole, list, some_list, filled_list, each_after, each}
@@ -50,7 +50,7 @@ new_talker : (taken : List (List ℕ)) (front : List TalkerValue) (read t : Talk
 new_talker taken front read t same name frames few = let P : TalkerValue → Type 0 = IsNewTalker taken front in
     subst P same (record { name = name; frames = frames; few = few })
 
-talker_ok : (bits : ℕ) (taken : List (List ℕ)) (front : List TalkerValue) (value : Json) (t : TalkerValue) →
+talker_ok : (bits : ℕ) (taken : List (List ℕ)) (front : List TalkerValue) (value : Data) (t : TalkerValue) →
     talker_of bits taken front value ≡ Ok t → IsNewTalker taken front t
 unfolding talker_of
 talker_ok bits taken front value t e =
@@ -115,7 +115,7 @@ segments_more front s before new talkers = record {
   few = each-push HasFewTalkers front s before.few talkers.few;
 }
 
-segment_ok : (bits : ℕ) (front : List SegmentValue) (value : Json) (s : SegmentValue) → AreNewSegments front →
+segment_ok : (bits : ℕ) (front : List SegmentValue) (value : Data) (s : SegmentValue) → AreNewSegments front →
     segment_of bits front value ≡ Ok s → AreNewSegments (front ++ s ∷ [])
 unfolding segment_of
 segment_ok bits front value s before e =
@@ -129,7 +129,7 @@ segment_ok bits front value s before e =
     (new_name_ok (codes "segments") (segment_names front) from name is_name)
     (talkers_ok bits (all_talker_names front) items talkers before.talkers are_talkers))))))
 
-pub segments_ok : (bits : ℕ) (from : Json) (ss : List SegmentValue) → segments_of bits from ≡ Ok ss → AreNewSegments ss
+pub segments_ok : (bits : ℕ) (from : Data) (ss : List SegmentValue) → segments_of bits from ≡ Ok ss → AreNewSegments ss
 unfolding segments_of
 segments_ok bits from ss e =
     from_bind (filled_list (codes "segments") 8 from) _ ss e (λ items is_list e1.

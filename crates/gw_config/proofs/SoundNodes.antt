@@ -7,7 +7,7 @@ use Rattle.std.proofs.lemmas.List.{append-nil, map-append}
 use Rattle.std.proofs.lemmas.List.Quantifiers.{all_pairs_push}
 use Rattle.std.proofs.lemmas.List.Sums.{sum_by-append}
 use Rattle.std.specs.List.{list_any}
-use Rattle.json.specs.Json.{Json}
+use Rattle.serde_json.specs.Data.{Data}
 use Rattle.bx_core.specs.Lists.{Each}
 use Rattle.gw_config.specs.declared.version.Version.{Version}
 use Rattle.gw_config.specs.declared.planned_fault.PlannedFault.{PlannedFault}
@@ -86,7 +86,7 @@ controllers_more segments front c before here = record {
 }
 
 controller_room : (version : Version) (bits : ℕ) (segments : List SegmentValue) (front : List ControllerValue)
-    (name : List ℕ) (segment : ℕ) (from : Json) (c : ControllerValue) →
+    (name : List ℕ) (segment : ℕ) (from : Data) (c : ControllerValue) →
     controller_with version bits segments front name segment from ≡ Ok c → (name ≡ c.name)
     × (node_count front c.segment (slice_get segments c.segment) < 16)
 unfolding controller_with
@@ -102,7 +102,7 @@ controller_room version bits segments front name segment from c e =
     subst P test.1 (refl, ltb-true (node_count front segment (slice_get segments segment)) 16 test.0))))
 
 controller_ok : (version : Version) (bits : ℕ) (segments : List SegmentValue) (front : List ControllerValue)
-    (value : Json) (c : ControllerValue) → controller_of version bits segments front value ≡ Ok c →
+    (value : Data) (c : ControllerValue) → controller_of version bits segments front value ≡ Ok c →
     IsNewController segments front c
 unfolding controller_of
 controller_ok version bits segments front value c e =
@@ -124,7 +124,7 @@ few_at [] k place few = omega arith
 few_at (s ∷ ss) zero place few = omega (arith, few.0)
 few_at (s ∷ ss) (suc k) place few = few_at ss k place few.1
 
-pub controllers_ok : (version : Version) (bits : ℕ) (segments : List SegmentValue) (from : Json)
+pub controllers_ok : (version : Version) (bits : ℕ) (segments : List SegmentValue) (from : Data)
     (cs : List ControllerValue) → AreApart (all_talker_names segments) → Each HasFewTalkers segments →
     controllers_of version bits segments from ≡ Ok cs → AreNewControllers segments cs
 unfolding controllers_of
@@ -194,7 +194,7 @@ placed_ok front read r e =
           subst P h.0 (ltb-true (routes_into read.target front) 8 h.2),
     )
 
-route_ok : (version : Version) (controllers : List ControllerValue) (front : List RouteValue) (value : Json)
+route_ok : (version : Version) (controllers : List ControllerValue) (front : List RouteValue) (value : Data)
     (r : RouteValue) → route_of version controllers front value ≡ Ok r → IsNewRoute front r
 unfolding route_of route_with
 route_ok version controllers front value r e =
@@ -213,7 +213,7 @@ route_ok version controllers front value r e =
       room = h.2;
     }))))))
 
-pub routes_ok : (version : Version) (controllers : List ControllerValue) (from : Json) (rs : List RouteValue) →
+pub routes_ok : (version : Version) (controllers : List ControllerValue) (from : Data) (rs : List RouteValue) →
     routes_of version controllers from ≡ Ok rs → AreNewRoutes rs
 unfolding routes_of
 routes_ok version controllers from rs e =
@@ -269,7 +269,7 @@ each_weaker P Q goes [] h = tt
 each_weaker P Q goes (x ∷ xs) h = (goes x h.0, each_weaker P Q goes xs h.1)
 
 -- a script whose lists are read is orderly
-pub script_orderly : (version : Version) (s : ScriptValue) (bits : ℕ) (from : Json) →
+pub script_orderly : (version : Version) (s : ScriptValue) (bits : ℕ) (from : Data) →
     segments_of bits from ≡ Ok s.segments → controllers_of version bits s.segments from ≡ Ok s.controllers →
     routes_of version s.controllers from ≡ Ok s.routes → planned_faults_of bits s.segments s.controllers from
     ≡ Ok s.faults → IsOrderly s

@@ -1,7 +1,7 @@
 -- A controller: a node that routes send and receive through.
 use Rattle.std.specs.Prelude.{ℕ, ◌-◌, ◌+◌, ◌==◌, nat_lt, Bool, true, List, [], ◌++◌, length, map, filter}
 use Rattle.std.specs.Prelude.{count_by, codes, Option, Some, None, slice_get, Result, Ok, Err, if◌then◌else◌}
-use Rattle.json.specs.Json.{Json}
+use Rattle.serde_json.specs.Data.{Data}
 use Rattle.bx_rx.specs.Bank.{BankValue}
 use Rattle.gw_config.specs.declared.version.Version.{Version}
 use Rattle.gw_fields.specs.Faults.{Fault, too_many}
@@ -45,7 +45,7 @@ with_room segments front c =
     else Err (too_many (codes "controllers"))
 
 -- `on`, `txfp` and `banks` of a controller with this name and segment, and the room for it
-unfoldable pub controller_with : Version → ℕ → List SegmentValue → List ControllerValue → List ℕ → ℕ → Json →
+unfoldable pub controller_with : Version → ℕ → List SegmentValue → List ControllerValue → List ℕ → ℕ → Data →
     Result ControllerValue Fault
 controller_with version bits segments front name segment from = do
   on ← whole (codes "on") 0 (bits - 1) from
@@ -54,7 +54,7 @@ controller_with version bits segments front name segment from = do
   with_room segments front (record { name = name; segment = segment; on = on; txfp = txfp; banks = banks })
 
 -- A controller in a run of so many bits, behind those in front of it. Its name is none of a talker either.
-unfoldable pub controller_of : Version → ℕ → List SegmentValue → List ControllerValue → Json →
+unfoldable pub controller_of : Version → ℕ → List SegmentValue → List ControllerValue → Data →
     Result ControllerValue Fault
 controller_of version bits segments front value = do
   from ← object_of (codes "controllers") value
@@ -63,7 +63,7 @@ controller_of version bits segments front value = do
   controller_with version bits segments front name segment from
 
 -- at most 16 of them
-unfoldable pub controllers_of : Version → ℕ → List SegmentValue → Json → Result (List ControllerValue) Fault
+unfoldable pub controllers_of : Version → ℕ → List SegmentValue → Data → Result (List ControllerValue) Fault
 controllers_of version bits segments from = do
   items ← list (codes "controllers") 16 from
   each_after (controller_of version bits segments) [] items

@@ -1,13 +1,13 @@
 -- An abort that a script plans: of the request with this number, at a turn of its route.
 use Rattle.std.specs.Prelude.{List, codes, Result, Ok}
-use Rattle.json.specs.Json.{Json}
+use Rattle.serde_json.specs.Data.{Data}
 use Rattle.gw_config.specs.declared.planned_abort.PlannedAbort.{PlannedAbort}
 use Rattle.gw_fields.specs.Faults.{Fault}
 use Rattle.gw_fields.specs.Fields.{◌>>=◌, object_of, whole, optional_list, each}
 use Rattle.gw_fields.specs.Names.{place_named}
 use Rattle.gw_config.specs.Routes.{RouteValue, route_names}
 
-unfoldable pub planned_abort_of : List RouteValue → Json → Result PlannedAbort Fault
+unfoldable pub planned_abort_of : List RouteValue → Data → Result PlannedAbort Fault
 planned_abort_of routes value = do
   from ← object_of (codes "aborts") value
   route ← place_named (codes "route") (route_names routes) from
@@ -16,7 +16,7 @@ planned_abort_of routes value = do
   Ok (record { route = route; number = number; turn = turn })
 
 -- at most 1,000 of them, and none where the field is not there
-unfoldable pub planned_aborts_of : List RouteValue → Json → Result (List PlannedAbort) Fault
+unfoldable pub planned_aborts_of : List RouteValue → Data → Result (List PlannedAbort) Fault
 planned_aborts_of routes from = do
   items ← optional_list (codes "aborts") 1000 from
   each (planned_abort_of routes) items

@@ -2,8 +2,8 @@
 use Rattle.std.specs.Prelude.{ℕ, ◌-◌, ◌+◌, ◌==◌, List, [], ◌∷◌, codes, Option, Some, None, Result, Ok}
 use Rattle.std.specs.List.{position_from}
 use Rattle.std.specs.Str.{bytes_eq}
-use Rattle.json.specs.Json.{Json}
-use Rattle.json.specs.Find.{get}
+use Rattle.serde_json.specs.Data.{Data}
+use Rattle.serde_json.specs.Find.{get}
 use Rattle.gw_config.specs.declared.node_place.NodePlace.{NodePlace}
 use Rattle.gw_config.specs.declared.planned_fault.PlannedFault.{PlannedFault}
 use Rattle.gw_config.specs.declared.planned_fault.PlannedFault.TheVariants.{AtNode, OnLine}
@@ -25,14 +25,14 @@ node_from controllers name place (s ∷ ss) =
     or_later place (position_from (bytes_eq name) 0 (node_names controllers place s))
     (node_from controllers name (place + 1) ss)
 
-unfoldable pub node_fault : ℕ → List SegmentValue → List ControllerValue → Json → Json → Result PlannedFault Fault
+unfoldable pub node_fault : ℕ → List SegmentValue → List ControllerValue → Data → Data → Result PlannedFault Fault
 node_fault bits segments controllers value from = do
   name ← text_of (codes "node") value
   place ← or_fault (unknown_name (codes "node")) (node_from controllers name 0 segments)
   bit ← whole (codes "bit") 0 (bits - 1) from
   Ok (AtNode place bit)
 
-unfoldable pub line_fault : ℕ → List SegmentValue → Json → Result PlannedFault Fault
+unfoldable pub line_fault : ℕ → List SegmentValue → Data → Result PlannedFault Fault
 line_fault bits segments from = do
   segment ← place_named (codes "segment") (segment_names segments) from
   bit ← whole (codes "bit") 0 (bits - 1) from
@@ -40,17 +40,17 @@ line_fault bits segments from = do
   Ok (OnLine segment bit (level == 1))
 
 -- a fault at a node where `node` is given, else one on the line
-abbrev pub fault_with : ℕ → List SegmentValue → List ControllerValue → Json → Option Json → Result PlannedFault Fault
+abbrev pub fault_with : ℕ → List SegmentValue → List ControllerValue → Data → Option Data → Result PlannedFault Fault
 fault_with bits segments controllers from (Some value) = node_fault bits segments controllers value from
 fault_with bits segments controllers from None = line_fault bits segments from
 
-unfoldable pub planned_fault_of : ℕ → List SegmentValue → List ControllerValue → Json → Result PlannedFault Fault
+unfoldable pub planned_fault_of : ℕ → List SegmentValue → List ControllerValue → Data → Result PlannedFault Fault
 planned_fault_of bits segments controllers value = do
   from ← object_of (codes "faults") value
   fault_with bits segments controllers from (get (codes "node") from)
 
 -- at most 10,000 of them, and none where the field is not there
-unfoldable pub planned_faults_of : ℕ → List SegmentValue → List ControllerValue → Json →
+unfoldable pub planned_faults_of : ℕ → List SegmentValue → List ControllerValue → Data →
     Result (List PlannedFault) Fault
 planned_faults_of bits segments controllers from = do
   items ← optional_list (codes "faults") 10000 from

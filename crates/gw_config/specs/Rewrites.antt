@@ -1,6 +1,6 @@
 -- The new identifiers that a route gives to frames.
 use Rattle.std.specs.Prelude.{ℕ, List, [], codes, Result, Ok}
-use Rattle.json.specs.Json.{Json}
+use Rattle.serde_json.specs.Data.{Data}
 use Rattle.can_frame.specs.declared.rewrite.Rewrite.{Rewrite}
 use Rattle.gw_config.specs.declared.version.Version.{Version}
 use Rattle.gw_config.specs.declared.version.Version.TheVariants.{One, Two}
@@ -13,7 +13,7 @@ abbrev pub most_rewrites : ℕ
 most_rewrites = 32
 
 -- an entry: `id`, `ext`, `new_id`, `new_ext`, then the range of the old identifier and that of the new one
-unfoldable pub rewrite_of : Json → Result Rewrite Fault
+unfoldable pub rewrite_of : Data → Result Rewrite Fault
 rewrite_of value = do
   from ← object_of (codes "rewrite") value
   old ← natural (codes "id") from
@@ -25,12 +25,12 @@ rewrite_of value = do
   Ok (record { from = old_id; to = new_id })
 
 -- at most 32 of them, and none where the field is not there
-unfoldable pub listed_rewrites : Json → Result (List Rewrite) Fault
+unfoldable pub listed_rewrites : Data → Result (List Rewrite) Fault
 listed_rewrites from = do
   items ← optional_list (codes "rewrite") most_rewrites from
   each rewrite_of items
 
 -- in version 1 the field says nothing
-abbrev pub rewrites_of : Version → Json → Result (List Rewrite) Fault
+abbrev pub rewrites_of : Version → Data → Result (List Rewrite) Fault
 rewrites_of One from = Ok []
 rewrites_of Two from = listed_rewrites from

@@ -2,7 +2,7 @@
 use Rattle.std.specs.Prelude.{ℕ, ◌&&◌, ◌==◌, nat_lt, Bool, List, [], length}
 use Rattle.std.specs.Prelude.{map, count_by, codes, Result, Ok, Err, if◌then◌else◌}
 use Rattle.std.specs.List.{list_any}
-use Rattle.json.specs.Json.{Json}
+use Rattle.serde_json.specs.Data.{Data}
 use Rattle.can_frame.specs.declared.rewrite.Rewrite.{Rewrite}
 use Rattle.gw_config.specs.declared.version.Version.{Version}
 use Rattle.gw_fields.specs.Faults.{Fault, fifo_twice, too_many}
@@ -39,7 +39,7 @@ placed front r =
     else (if nat_lt (routes_into r.target front) 8 then Ok r else Err (too_many (codes "routes")))
 
 -- the fields behind the name
-unfoldable pub route_with : Version → List ControllerValue → List RouteValue → List ℕ → Json → Result RouteValue Fault
+unfoldable pub route_with : Version → List ControllerValue → List RouteValue → List ℕ → Data → Result RouteValue Fault
 route_with version controllers front name from = do
   source ← place_named (codes "from") (controller_names controllers) from
   fifo ← whole (codes "fifo") 0 1 from
@@ -48,14 +48,14 @@ route_with version controllers front name from = do
   placed front (record { name = name; source = source; fifo = fifo; target = target; rewrites = rewrites })
 
 -- a route behind those in front of it
-unfoldable pub route_of : Version → List ControllerValue → List RouteValue → Json → Result RouteValue Fault
+unfoldable pub route_of : Version → List ControllerValue → List RouteValue → Data → Result RouteValue Fault
 route_of version controllers front value = do
   from ← object_of (codes "routes") value
   name ← new_name (codes "routes") (route_names front) from
   route_with version controllers front name from
 
 -- at most 16 of them
-unfoldable pub routes_of : Version → List ControllerValue → Json → Result (List RouteValue) Fault
+unfoldable pub routes_of : Version → List ControllerValue → Data → Result (List RouteValue) Fault
 routes_of version controllers from = do
   items ← list (codes "routes") 16 from
   each_after (route_of version controllers) [] items

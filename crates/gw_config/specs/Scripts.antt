@@ -1,6 +1,6 @@
 -- A script: segments with talkers, controllers with filter banks, routes between them, and planned faults and aborts.
 use Rattle.std.specs.Prelude.{ℕ, List, codes, Result, Ok}
-use Rattle.json.specs.Json.{Json}
+use Rattle.serde_json.specs.Data.{Data}
 use Rattle.gw_config.specs.declared.planned_fault.PlannedFault.{PlannedFault}
 use Rattle.gw_config.specs.declared.planned_abort.PlannedAbort.{PlannedAbort}
 use Rattle.gw_config.specs.declared.version.Version.{Version}
@@ -23,7 +23,7 @@ pub record ScriptValue : Type 0 where
   pub aborts : List PlannedAbort
 
 -- the lists of a script of this version that runs for so many bits
-unfoldable pub lists_of : Version → ℕ → Json → Result ScriptValue Fault
+unfoldable pub lists_of : Version → ℕ → Data → Result ScriptValue Fault
 lists_of version bits from = do
   segments ← segments_of bits from
   controllers ← controllers_of version bits segments from
@@ -41,7 +41,7 @@ lists_of version bits from = do
   })
 
 -- the script that a JSON value describes, or its first fault
-unfoldable pub script_of : Json → Result ScriptValue Fault
+unfoldable pub script_of : Data → Result ScriptValue Fault
 script_of value = do
   from ← object_of (codes "script") value
   version ← version_of from

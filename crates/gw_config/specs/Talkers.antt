@@ -1,6 +1,6 @@
 -- A talker: a node that sends frames of its own.
 use Rattle.std.specs.Prelude.{ℕ, ◌-◌, nat_lt, List, ◌++◌, length, map, codes, Result, Ok, Err, if◌then◌else◌}
-use Rattle.json.specs.Json.{Json}
+use Rattle.serde_json.specs.Data.{Data}
 use Rattle.can_frame.specs.Frames.{FrameValue}
 use Rattle.gw_fields.specs.Faults.{Fault, too_many}
 use Rattle.gw_fields.specs.Fields.{◌>>=◌, object_of, whole, list, each}
@@ -21,14 +21,14 @@ abbrev pub talker_names : List TalkerValue → List (List ℕ)
 talker_names talkers = map (λ (t : TalkerValue). t.name) talkers
 
 -- an element of the list of frames
-unfoldable pub listed_frame : Json → Result FrameValue Fault
+unfoldable pub listed_frame : Data → Result FrameValue Fault
 listed_frame value = do
   from ← object_of (codes "frames") value
   frame_of from
 
 -- A talker in a run of so many bits, behind those in front of it in its segment. `taken` are the names of the talkers
 -- of the segments before.
-unfoldable pub talker_of : ℕ → List (List ℕ) → List TalkerValue → Json → Result TalkerValue Fault
+unfoldable pub talker_of : ℕ → List (List ℕ) → List TalkerValue → Data → Result TalkerValue Fault
 talker_of bits taken front value = do
   from ← object_of (codes "talkers") value
   name ← new_name (codes "talkers") (taken ++ talker_names front) from

@@ -1,6 +1,6 @@
 -- The version of a script, which says what may stand in it.
 use Rattle.std.specs.Prelude.{ℕ, ◌==◌, codes, Result, Ok, Err, if◌then◌else◌}
-use Rattle.json.specs.Json.{Json}
+use Rattle.serde_json.specs.Data.{Data}
 use Rattle.gw_config.specs.declared.version.Version.{Version}
 use Rattle.gw_config.specs.declared.version.Version.TheVariants.{One, Two}
 use Rattle.gw_fields.specs.Faults.{Fault, wrong_version}
@@ -15,7 +15,7 @@ abbrev pub version_with : ℕ → Result Version Fault
 version_with number = if number == 1 then Ok One else (if number == 2 then Ok Two else Err wrong_version)
 
 -- the version is 1 or 2
-unfoldable pub version_of : Json → Result Version Fault
+unfoldable pub version_of : Data → Result Version Fault
 version_of from = do
   number ← natural (codes "version") from
   version_with number

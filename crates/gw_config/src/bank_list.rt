@@ -2,7 +2,7 @@
 
 ghost use Rattle.std.specs.Prelude.{◌≡◌, ◌<◌, ◌==◌, All, IfOk, replicate};
 ghost use Rattle.std.specs.List.{list_any};
-ghost use Rattle.json.specs.Value.{value_view as view, items_view};
+ghost use Rattle.serde_json.specs.View.{view, items_view};
 ghost use Rattle.bx_rx.specs.Bank.{unlisted};
 ghost use Rattle.bx_rx.specs.Banks.{bank_count};
 ghost use Rattle.gw_fields.specs.Faults.{Reads, ReadsUnlessMemory};
@@ -14,7 +14,7 @@ use bx_rx::{Bank, Banks, Mode, Scale};
 use gw_fields::{
     ReadsElement, ScriptFault, list, natural, object_of, read_each, text, truth, whole,
 };
-use json::Value;
+use serde_json::Value;
 use std::alloc::Global;
 
 /// A bank's number, and what is set of it.
@@ -35,7 +35,7 @@ fn scale_with(bits: u64) -> Result<Scale, ScriptFault>
 }
 
 #[tactic(auto, unfolding(crate::specs::BankLists::scale_of))]
-fn scale_of(from: &Value<'_>) -> Result<Scale, ScriptFault>
+fn scale_of(from: &Value) -> Result<Scale, ScriptFault>
     ensures { Reads (λ scale. scale) result (scale_of (view from.now)) }
 {
     let bits = natural(from, "scale")?;
@@ -53,7 +53,7 @@ fn mode_with(word: &str) -> Result<Mode, ScriptFault>
 }
 
 #[tactic(auto, unfolding(crate::specs::BankLists::mode_of))]
-fn mode_of(from: &Value<'_>) -> Result<Mode, ScriptFault>
+fn mode_of(from: &Value) -> Result<Mode, ScriptFault>
     ensures { Reads (λ mode. mode) result (mode_of (view from.now)) }
 {
     let word = text(from, "mode")?;
@@ -62,7 +62,7 @@ fn mode_of(from: &Value<'_>) -> Result<Mode, ScriptFault>
 
 /// What is set of a bank.
 #[tactic(auto, unfolding(crate::specs::BankLists::settings_of))]
-fn settings_of(from: &Value<'_>) -> Result<Bank, ScriptFault>
+fn settings_of(from: &Value) -> Result<Bank, ScriptFault>
     ensures { Reads (λ bank. bank) result (settings_of (view from.now)) }
 {
     let scale = scale_of(from)?;
@@ -82,7 +82,7 @@ fn is_listed(banks: &[ListedBank], number: u8) -> bool
 
 /// A bank's number, where none in front of it has it.
 #[tactic(auto, unfolding(crate::specs::BankLists::number_of))]
-fn number_of(from: &Value<'_>, version: Version, front: &[ListedBank]) -> Result<u8, ScriptFault>
+fn number_of(from: &Value, version: Version, front: &[ListedBank]) -> Result<u8, ScriptFault>
     ensures value { Reads (λ n. n) result (number_of version front.now (view from.now)) }
     ensures range { IfOk result (λ n. n < bank_count) }
 {
@@ -116,7 +116,7 @@ impl ReadsElement for BankReader {
     fn read(
         &self,
         _alloc: Global,
-        value: &Value<'_>,
+        value: &Value,
         front: &[ListedBank],
     ) -> Result<ListedBank, ScriptFault> {
         let from = object_of(value, "banks")?;
@@ -142,7 +142,7 @@ fn set_all(listed: &[ListedBank]) -> Banks
 
 /// All banks of a controller, after the listed ones are set.
 #[tactic(auto, unfolding(crate::specs::BankLists::banks_with))]
-fn banks_with(alloc: Global, items: &[Value<'_>], version: Version) -> Result<Banks, ScriptFault>
+fn banks_with(alloc: Global, items: &[Value], version: Version) -> Result<Banks, ScriptFault>
     ensures { ReadsUnlessMemory (λ banks. banks) result (banks_with version (items_view items.now)) }
 {
     let listed = read_each(alloc, items, &BankReader { version })?;
@@ -151,7 +151,7 @@ fn banks_with(alloc: Global, items: &[Value<'_>], version: Version) -> Result<Ba
 
 /// All banks of a controller, by its list of as many as the version allows.
 #[tactic(auto, unfolding(crate::specs::BankLists::banks_of))]
-pub fn banks_of(alloc: Global, from: &Value<'_>, version: Version) -> Result<Banks, ScriptFault>
+pub fn banks_of(alloc: Global, from: &Value, version: Version) -> Result<Banks, ScriptFault>
     ensures { ReadsUnlessMemory (λ banks. banks) result (banks_of version (view from.now)) }
 {
     let items = list(from, "banks", version.listed_banks())?;

@@ -2,7 +2,7 @@
 
 ghost use Rattle.std.specs.Prelude.{◌≡◌, ◌+◌, ◌<◌, ◌≤◌, ◌==◌, length, count_by, nat_lt, slice_get, IfOk};
 ghost use Rattle.bx_core.specs.Lists.{Each};
-ghost use Rattle.json.specs.Value.{value_view as view};
+ghost use Rattle.serde_json.specs.View.{view};
 ghost use Rattle.gw_fields.specs.Faults.{ReadsUnlessMemory};
 ghost use Rattle.gw_config.specs.Talkers.{most_nodes};
 ghost use Rattle.gw_config.specs.Controllers.{node_count, controller_with, controllers_of};
@@ -17,7 +17,7 @@ use gw_fields::{
     Named, ReadsElement, ScriptFault, list, object_of, optional_truth, owned, place_named,
     read_each, whole,
 };
-use json::Value;
+use serde_json::Value;
 use std::alloc::Global;
 use std::marker::Model;
 
@@ -127,7 +127,7 @@ impl<'a> ControllerReader<'a> {
     fn controller_with(
         &self,
         alloc: Global,
-        from: &Value<'_>,
+        from: &Value,
         front: &[Controller],
         name: &str,
         segment: usize,
@@ -173,7 +173,7 @@ impl<'a> ReadsElement for ControllerReader<'a> {
     fn read(
         &self,
         alloc: Global,
-        value: &Value<'_>,
+        value: &Value,
         front: &[Controller],
     ) -> Result<Controller, ScriptFault> {
         let from = object_of(value, "controllers")?;
@@ -187,7 +187,7 @@ impl<'a> ReadsElement for ControllerReader<'a> {
 #[tactic(auto, unfolding(crate::specs::Controllers::controllers_of), using(crate::proofs::Lists::each_from_all))]
 pub fn controllers_of(
     alloc: Global,
-    from: &Value<'_>,
+    from: &Value,
     version: Version,
     bits: u32,
     segments: &[Segment],

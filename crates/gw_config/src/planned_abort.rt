@@ -2,7 +2,7 @@
 
 ghost use Rattle.std.specs.Prelude.{IfOk, length, ◌≤◌};
 ghost use Rattle.bx_core.specs.Lists.{Each};
-ghost use Rattle.json.specs.Value.{value_view as view};
+ghost use Rattle.serde_json.specs.View.{view};
 ghost use Rattle.gw_fields.specs.Faults.{ReadsUnlessMemory};
 ghost use Rattle.gw_config.specs.PlannedAborts.{planned_aborts_of};
 ghost use Rattle.gw_config.specs.SoundScripts.{IsAbortIn};
@@ -11,7 +11,7 @@ use crate::route::Route;
 use gw_fields::{
     ReadsElement, ScriptFault, object_of, optional_list, place_named, read_each, whole,
 };
-use json::Value;
+use serde_json::Value;
 use std::alloc::Global;
 
 /// The greatest number of aborts in a script.
@@ -46,7 +46,7 @@ impl<'a> ReadsElement for AbortReader<'a> {
     fn read(
         &self,
         _alloc: Global,
-        value: &Value<'_>,
+        value: &Value,
         _front: &[PlannedAbort],
     ) -> Result<PlannedAbort, ScriptFault> {
         let from = object_of(value, "aborts")?;
@@ -65,7 +65,7 @@ impl<'a> ReadsElement for AbortReader<'a> {
 #[tactic(auto, unfolding(crate::specs::PlannedAborts::planned_aborts_of), using(crate::proofs::Lists::each_from_all))]
 pub fn planned_aborts_of(
     alloc: Global,
-    from: &Value<'_>,
+    from: &Value,
     routes: &[Route],
 ) -> Result<Vec<PlannedAbort>, ScriptFault>
     ensures value { ReadsUnlessMemory (λ v. v.items) result (planned_aborts_of routes.now (view from.now)) }

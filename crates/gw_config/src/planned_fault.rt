@@ -2,7 +2,7 @@
 
 ghost use Rattle.std.specs.Prelude.{◌≤◌, IfOk, length};
 ghost use Rattle.bx_core.specs.Lists.{Each};
-ghost use Rattle.json.specs.Value.{value_view as view};
+ghost use Rattle.serde_json.specs.View.{view};
 ghost use Rattle.gw_fields.specs.Faults.{Reads, ReadsUnlessMemory};
 ghost use Rattle.gw_config.specs.PlannedFaults.{node_fault, line_fault, planned_faults_of};
 ghost use Rattle.gw_config.specs.SoundScripts.{IsFaultIn};
@@ -13,7 +13,7 @@ use crate::segment::Segment;
 use gw_fields::{
     ReadsElement, ScriptFault, object_of, optional_list, place_named, read_each, text_of, whole,
 };
-use json::Value;
+use serde_json::Value;
 use std::alloc::Global;
 
 /// The greatest number of faults in a script.
@@ -38,8 +38,8 @@ pub enum PlannedFault {
 /// A fault at the node that the field `node` names.
 #[tactic(auto, unfolding(crate::specs::PlannedFaults::node_fault))]
 fn node_fault(
-    value: &Value<'_>,
-    from: &Value<'_>,
+    value: &Value,
+    from: &Value,
     bits: u32,
     segments: &[Segment],
     controllers: &[Controller],
@@ -60,11 +60,7 @@ fn node_fault(
 
 /// A fault on the line of a segment.
 #[tactic(auto, unfolding(crate::specs::PlannedFaults::line_fault))]
-fn line_fault(
-    from: &Value<'_>,
-    bits: u32,
-    segments: &[Segment],
-) -> Result<PlannedFault, ScriptFault>
+fn line_fault(from: &Value, bits: u32, segments: &[Segment]) -> Result<PlannedFault, ScriptFault>
     requires { 1 ≤ bits }
     ensures value { Reads (λ f. f) result (line_fault bits segments.now (view from.now)) }
     ensures range { IfOk result (IsFaultIn bits segments.now) }
@@ -103,7 +99,7 @@ impl<'a> ReadsElement for FaultReader<'a> {
     fn read(
         &self,
         _alloc: Global,
-        value: &Value<'_>,
+        value: &Value,
         _front: &[PlannedFault],
     ) -> Result<PlannedFault, ScriptFault> {
         let from = object_of(value, "faults")?;
@@ -118,7 +114,7 @@ impl<'a> ReadsElement for FaultReader<'a> {
 #[tactic(auto, unfolding(crate::specs::PlannedFaults::planned_faults_of), using(crate::proofs::Lists::each_from_all))]
 pub fn planned_faults_of(
     alloc: Global,
-    from: &Value<'_>,
+    from: &Value,
     bits: u32,
     segments: &[Segment],
     controllers: &[Controller],

@@ -1,7 +1,7 @@
 //! The new identifiers that a route gives to frames.
 
 ghost use Rattle.std.specs.Prelude.{◌≡◌, ◌≤◌, length};
-ghost use Rattle.json.specs.Value.{value_view as view, items_view};
+ghost use Rattle.serde_json.specs.View.{view, items_view};
 ghost use Rattle.gw_fields.specs.Faults.{Reads};
 ghost use Rattle.gw_fields.specs.Fields.{each};
 ghost use Rattle.gw_config.specs.Rewrites.{most_rewrites, rewrite_of, listed_rewrites, rewrites_of};
@@ -10,14 +10,14 @@ use crate::version::Version;
 use arrayvec::ArrayVec;
 use can_frame::Rewrite;
 use gw_fields::{ScriptFault, identifier_with, natural, object_of, optional_list, truth};
-use json::Value;
+use serde_json::Value;
 
 /// How many entries a route may have.
 pub const MOST_REWRITES: usize = 32;
 
 /// An entry: its four fields, then the ranges of its two identifiers.
 #[tactic(auto, unfolding(crate::specs::Rewrites::rewrite_of))]
-fn rewrite_of(value: &Value<'_>) -> Result<Rewrite, ScriptFault>
+fn rewrite_of(value: &Value) -> Result<Rewrite, ScriptFault>
     ensures { Reads (λ entry. entry) result (rewrite_of (view value.now)) }
 {
     let from = object_of(value, "rewrite")?;
@@ -36,7 +36,7 @@ fn rewrite_of(value: &Value<'_>) -> Result<Rewrite, ScriptFault>
 }
 
 /// The entries of a list of at most 32.
-fn each_rewrite(items: &[Value<'_>]) -> Result<ArrayVec<Rewrite, MOST_REWRITES>, ScriptFault>
+fn each_rewrite(items: &[Value]) -> Result<ArrayVec<Rewrite, MOST_REWRITES>, ScriptFault>
     requires { length items.now ≤ most_rewrites }
     ensures { Reads (λ entries. entries.items) result (each rewrite_of (items_view items.now)) }
 {
@@ -53,7 +53,7 @@ fn each_rewrite(items: &[Value<'_>]) -> Result<ArrayVec<Rewrite, MOST_REWRITES>,
 
 /// The entries that a route lists; none where it lists none.
 #[tactic(auto, unfolding(crate::specs::Rewrites::listed_rewrites))]
-fn listed_rewrites(from: &Value<'_>) -> Result<ArrayVec<Rewrite, MOST_REWRITES>, ScriptFault>
+fn listed_rewrites(from: &Value) -> Result<ArrayVec<Rewrite, MOST_REWRITES>, ScriptFault>
     ensures { Reads (λ entries. entries.items) result (listed_rewrites (view from.now)) }
 {
     let items = optional_list(from, "rewrite", MOST_REWRITES)?;
@@ -62,7 +62,7 @@ fn listed_rewrites(from: &Value<'_>) -> Result<ArrayVec<Rewrite, MOST_REWRITES>,
 
 /// The entries of a route: those that it lists in version 2, and none in version 1.
 pub fn rewrites_of(
-    from: &Value<'_>,
+    from: &Value,
     version: Version,
 ) -> Result<ArrayVec<Rewrite, MOST_REWRITES>, ScriptFault>
     ensures { Reads (λ entries. entries.items) result (rewrites_of version (view from.now)) }

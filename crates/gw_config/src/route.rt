@@ -3,7 +3,7 @@
 ghost use Rattle.std.specs.Prelude.{◌≡◌, IfOk, length, ◌≤◌};
 ghost use Rattle.std.specs.List.{list_any};
 ghost use Rattle.bx_core.specs.Lists.{Each};
-ghost use Rattle.json.specs.Value.{value_view as view};
+ghost use Rattle.serde_json.specs.View.{view};
 ghost use Rattle.gw_fields.specs.Faults.{ReadsUnlessMemory};
 ghost use Rattle.gw_config.specs.Routes.{takes_from, routes_into, route_with, routes_of};
 ghost use Rattle.gw_config.specs.Rewrites.{most_rewrites};
@@ -18,7 +18,7 @@ use gw_fields::{
     Named, ReadsElement, ScriptFault, list, new_name, object_of, owned, place_named, read_each,
     whole,
 };
-use json::Value;
+use serde_json::Value;
 use std::alloc::Global;
 use std::marker::Model;
 
@@ -120,7 +120,7 @@ fn count_into(routes: &[Route], target: usize) -> usize
 #[tactic(auto, unfolding(crate::specs::Routes::route_with))]
 fn route_with(
     alloc: Global,
-    from: &Value<'_>,
+    from: &Value,
     version: Version,
     controllers: &[Controller],
     front: &[Route],
@@ -172,12 +172,7 @@ impl<'a> ReadsElement for RouteReader<'a> {
     ghost keeps = { λ s. IsRouteIn s.controllers.now };
 
     #[tactic(auto, unfolding(crate::specs::Routes::route_of))]
-    fn read(
-        &self,
-        alloc: Global,
-        value: &Value<'_>,
-        front: &[Route],
-    ) -> Result<Route, ScriptFault> {
+    fn read(&self, alloc: Global, value: &Value, front: &[Route]) -> Result<Route, ScriptFault> {
         let from = object_of(value, "routes")?;
         let name = new_name(from, "routes", front)?;
         route_with(alloc, from, self.version, self.controllers, front, name)
@@ -188,7 +183,7 @@ impl<'a> ReadsElement for RouteReader<'a> {
 #[tactic(auto, unfolding(crate::specs::Routes::routes_of), using(crate::proofs::Lists::each_from_all))]
 pub fn routes_of(
     alloc: Global,
-    from: &Value<'_>,
+    from: &Value,
     version: Version,
     controllers: &[Controller],
 ) -> Result<Vec<Route>, ScriptFault>

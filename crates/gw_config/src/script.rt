@@ -2,7 +2,7 @@
 
 ghost use Rattle.std.specs.Prelude.{◌≡◌, ◌<◌, ◌≤◌, length, slice_get, option_and_then, IfOk, IfErr, IfSome};
 ghost use Rattle.std.specs.Option.{option_map};
-ghost use Rattle.json.specs.Value.{value_view as view};
+ghost use Rattle.serde_json.specs.View.{view};
 ghost use Rattle.gw_fields.specs.Faults.{ReadsUnlessMemory, UnlessMemory};
 ghost use Rattle.gw_fields.specs.Documents.{IsTextOf, FirstFault};
 ghost use Rattle.gw_config.specs.Controllers.{controllers_on};
@@ -19,7 +19,7 @@ use crate::segment::{Segment, segments_of};
 use crate::talker::Talker;
 use crate::version::{Version, version_of};
 use gw_fields::{ScriptFault, object_of, read_document, whole};
-use json::{Scratch, Value};
+use serde_json::Value;
 use std::alloc::Global;
 use std::marker::Model;
 
@@ -157,12 +157,7 @@ impl Script {
 
 /// The lists of a script of this version that runs for so many bits.
 #[tactic(auto, unfolding(crate::specs::Scripts::lists_of))]
-fn lists_of(
-    alloc: Global,
-    from: &Value<'_>,
-    version: Version,
-    bits: u32,
-) -> Result<Script, ScriptFault>
+fn lists_of(alloc: Global, from: &Value, version: Version, bits: u32) -> Result<Script, ScriptFault>
     requires some { 1 ≤ bits }
     requires few { bits ≤ 1000000 }
     ensures value { ReadsUnlessMemory (λ s. s) result (lists_of version bits (view from.now)) }
@@ -191,7 +186,7 @@ fn lists_of(
 
 /// The whole script, up to its first fault.
 #[tactic(auto, unfolding(crate::specs::Scripts::script_of))]
-fn script_of(alloc: Global, value: &Value<'_>) -> Result<Script, ScriptFault>
+fn script_of(alloc: Global, value: &Value) -> Result<Script, ScriptFault>
     ensures value { ReadsUnlessMemory (λ s. s) result (script_of (view value.now)) }
     ensures sound { IfOk result IsSound }
 {
@@ -208,7 +203,6 @@ pub fn read(alloc: Global, bytes: &[u8]) -> Result<Script, ScriptFault>
     ensures err { IfErr result (λ e. UnlessMemory e (FirstFault script_of bytes.now)) }
     ensures sound { IfOk result IsSound }
 {
-    let mut scratch = Scratch::new(alloc);
-    let value = read_document(alloc, bytes, &mut scratch)?;
+    let value = read_document(alloc, bytes)?;
     script_of(alloc, &value)
 }

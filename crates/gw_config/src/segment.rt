@@ -2,7 +2,7 @@
 
 ghost use Rattle.std.specs.Prelude.{◌≡◌, ◌≤◌, ◌++◌, map, IfOk, length};
 ghost use Rattle.bx_core.specs.Lists.{Each};
-ghost use Rattle.json.specs.Value.{value_view as view};
+ghost use Rattle.serde_json.specs.View.{view};
 ghost use Rattle.gw_fields.specs.Faults.{Reads, ReadsUnlessMemory};
 ghost use Rattle.gw_fields.specs.Names.{is_among, new_name};
 ghost use Rattle.gw_config.specs.Segments.{all_talker_names, segments_of};
@@ -13,7 +13,7 @@ use gw_fields::{
     Named, ReadsElement, ScriptFault, filled_list, formed_name, is_among, new_name, object_of,
     owned, read_each, some_list,
 };
-use json::Value;
+use serde_json::Value;
 use std::alloc::Global;
 use std::marker::Model;
 
@@ -88,7 +88,7 @@ fn is_node<T: Named>(segments: &[Segment], nodes: &[T], name: &str) -> bool
 /// double name is told with its list.
 #[tactic(auto, unfolding(gw_fields::specs::Names::new_name))]
 pub fn node_name<'v, T: Named>(
-    object: &'v Value<'_>,
+    object: &'v Value,
     list: &'static str,
     segments: &[Segment],
     front: &[T],
@@ -126,7 +126,7 @@ impl ReadsElement for SegmentReader {
     fn read(
         &self,
         alloc: Global,
-        value: &Value<'_>,
+        value: &Value,
         front: &[Segment],
     ) -> Result<Segment, ScriptFault> {
         let from = object_of(value, "segments")?;
@@ -140,7 +140,7 @@ impl ReadsElement for SegmentReader {
 
 /// The segments of a script, 1 to 8.
 #[tactic(auto, unfolding(crate::specs::Segments::segments_of), using(crate::proofs::Lists::each_from_all))]
-pub fn segments_of(alloc: Global, from: &Value<'_>, bits: u32) -> Result<Vec<Segment>, ScriptFault>
+pub fn segments_of(alloc: Global, from: &Value, bits: u32) -> Result<Vec<Segment>, ScriptFault>
     requires { 1 ≤ bits }
     ensures value { ReadsUnlessMemory (λ v. v.items) result (segments_of bits (view from.now)) }
     ensures range { IfOk result (λ v. Each (IsSegmentIn bits) v.items) }

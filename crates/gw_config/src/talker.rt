@@ -2,7 +2,7 @@
 
 ghost use Rattle.std.specs.Prelude.{◌≡◌, ◌≤◌, [], IfOk};
 ghost use Rattle.bx_core.specs.Lists.{Each};
-ghost use Rattle.json.specs.Value.{items_view};
+ghost use Rattle.serde_json.specs.View.{items_view};
 ghost use Rattle.gw_fields.specs.Faults.{ReadsUnlessMemory};
 ghost use Rattle.gw_fields.specs.Fields.{each_after};
 ghost use Rattle.gw_config.specs.Segments.{all_talker_names};
@@ -14,7 +14,7 @@ use can_frame::Frame;
 use gw_fields::{
     Named, ReadsElement, ScriptFault, frame_of, list, object_of, owned, read_each, whole,
 };
-use json::Value;
+use serde_json::Value;
 use std::alloc::Global;
 use std::marker::Model;
 
@@ -88,12 +88,7 @@ impl ReadsElement for FrameReader {
     ghost keeps = { λ s frame. Unit {0} };
 
     #[tactic(auto, unfolding(crate::specs::Talkers::listed_frame))]
-    fn read(
-        &self,
-        _alloc: Global,
-        value: &Value<'_>,
-        _front: &[Frame],
-    ) -> Result<Frame, ScriptFault> {
+    fn read(&self, _alloc: Global, value: &Value, _front: &[Frame]) -> Result<Frame, ScriptFault> {
         let from = object_of(value, "frames")?;
         frame_of(from)
     }
@@ -119,12 +114,7 @@ impl<'a> ReadsElement for TalkerReader<'a> {
     ghost keeps = { λ s. IsTalkerIn s.bits };
 
     #[tactic(auto, unfolding(crate::specs::Talkers::talker_of))]
-    fn read(
-        &self,
-        alloc: Global,
-        value: &Value<'_>,
-        front: &[Talker],
-    ) -> Result<Talker, ScriptFault> {
+    fn read(&self, alloc: Global, value: &Value, front: &[Talker]) -> Result<Talker, ScriptFault> {
         let from = object_of(value, "talkers")?;
         let name = node_name(from, "talkers", self.segments, front)?;
         let on = whole(from, "on", 0, u64::from(self.bits - 1))? as u32;
@@ -142,7 +132,7 @@ impl<'a> ReadsElement for TalkerReader<'a> {
 #[tactic(auto, using(crate::proofs::Lists::each_from_all))]
 pub fn talkers_of(
     alloc: Global,
-    items: &[Value<'_>],
+    items: &[Value],
     bits: u32,
     segments: &[Segment],
 ) -> Result<Vec<Talker>, ScriptFault>

@@ -1,13 +1,13 @@
 //! The version of a script.
 
 ghost use Rattle.std.specs.Prelude.{◌≡◌, ◌≤◌};
-ghost use Rattle.json.specs.Value.{value_view as view};
+ghost use Rattle.serde_json.specs.View.{view};
 ghost use Rattle.bx_rx.specs.Banks.{bank_count};
 ghost use Rattle.gw_fields.specs.Faults.{Reads};
 ghost use Rattle.gw_config.specs.Versions.{listed_banks, version_with, version_of};
 
 use gw_fields::{ScriptFault, natural};
-use json::Value;
+use serde_json::Value;
 
 /// What a script may say. A script of version 2 may list all 28 banks and rewrite identifiers; in one of
 /// version 1 a field `rewrite` is ignored.
@@ -43,7 +43,7 @@ fn version_with(number: u64) -> Result<Version, ScriptFault>
 
 /// The version, 1 or 2.
 #[tactic(auto, unfolding(crate::specs::Versions::version_of))]
-pub fn version_of(from: &Value<'_>) -> Result<Version, ScriptFault>
+pub fn version_of(from: &Value) -> Result<Version, ScriptFault>
     ensures { Reads (λ version. version) result (version_of (view from.now)) }
 {
     let number = natural(from, "version")?;

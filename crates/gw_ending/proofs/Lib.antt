@@ -10,3 +10,4 @@ pub mod Closes
 pub mod Labels
 pub mod Named
 pub mod Reports
+pub mod Turns

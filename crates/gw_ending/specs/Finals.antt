@@ -107,6 +107,14 @@ pub record EndsLane (sites : List Site) (lane : Lane) (r : RouteReport) : Type 0
   pub completed_is : (to : Port) → (to_is : IsAt sites lane.target to) →
       r.completed.items ≡ entries_of lane.number (all_in sent_in (told_at to_is.site lane.target.port))
 
+-- how many turns each of these routes made
+abbrev pub turns_made : List Lane → List ℕ
+turns_made lanes = map (λ (lane : Lane). lane.hand.turns) lanes
+
+-- how many turns each of these reports has
+abbrev pub turns_told : List RouteReport → List ℕ
+turns_told reports = map (λ (r : RouteReport). r.turns) reports
+
 -- the record of a segment
 pub record IsRecordAt (site : Site) (record_of : Record) : Type 0 where
   pub value : IsRecordOf site.segment record_of

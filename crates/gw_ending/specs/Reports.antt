@@ -52,9 +52,13 @@ pub record IsSegmentRun (s : ScriptValue) (segment : ℕ) (record_of : Record) :
   pub once : NeverAgain plan record_of.events.items
   pub requests : TriesFailures plan record_of
 
--- so is the record of each segment
+-- the record of each segment is that of a run of it
 abbrev pub RunsSegments : ScriptValue → Report → Type 0
 RunsSegments s report = Pairs (λ segment said. IsSegmentRun s segment) s.segments report.segments.items
+
+-- each route made so many turns
+abbrev pub EachTurned : ℕ → Report → Type 0
+EachTurned count report = Each (λ (r : RouteReport). r.turns ≡ count) report.routes.items
 
 -- the lines of each segment
 abbrev pub lines_of : Report → List (List Event)

@@ -16,6 +16,7 @@ ghost use Rattle.gw_opening.specs.Slots.{SetsSlot};
 ghost use Rattle.gw_ending.specs.Ends.{IsEndOf};
 ghost use Rattle.gw_ending.specs.Finals.{AreDoneSites, IsOver, IsRecordAt, EndsLane};
 ghost use Rattle.gw_ending.specs.Finals.{WasOffered, WaitAtMost, HasTalkers, lines_at, told_at};
+ghost use Rattle.gw_ending.specs.Finals.{turns_made, turns_told};
 ghost use Rattle.gw_ending.specs.Ports.{Port as AnyClosed};
 ghost use Rattle.gw_ending.specs.Reports.{IsRouteRun};
 
@@ -82,6 +83,7 @@ fn end_hand<R: Wait>(
         → IsEndOf r intake (hand_value hand) (left_of number to.mail.left.items)) }
     ensures completed { IfOk result (λ r. (to : AnyClosed) → (to_is : IsAt sites.now target to)
         → r.completed.items ≡ entries_of number (all_in sent_in (told_at to_is.site target.port))) }
+    ensures turns { IfOk result (λ r. r.turns ≡ (hand_value hand).turns) }
 {
     let completed = sent_at(alloc, sites, target, talkers, number)?;
     let waiting = waiting_of(alloc, left_at(sites, target), number)?;
@@ -105,6 +107,7 @@ fn end_lane<R: Wait>(
     requires room { WaitAtMost 12 sites.old }
     ensures sets { PortChanges (SetsSlot lane.fifo None) sites.old sites.new lane.source }
     ensures ends { IfOk result (EndsLane sites.old lane) }
+    ensures turns { IfOk result (λ r. r.turns ≡ lane.hand.turns) }
 {
     let intake = take(sites, lane.source, lane.fifo);
     let Lane {
@@ -141,6 +144,7 @@ pub(crate) fn end_lanes<R: Wait>(
     ensures routes { IfOk result (λ reports. (room : ℕ) → WaitAtMost room sites.old
         → Pairs (λ k route. IsRouteRun room script.now (lines_at sites.old) k route) script.now.routes reports.items) }
     ensures size { IfOk result (λ reports. length reports.items ≡ length script.now.routes) }
+    ensures turns { IfOk result (λ reports. turns_told reports.items ≡ turns_made lanes.items) }
 {
     let mut reports = Vec::with_capacity(alloc, script.routes().len())?;
     for lane in lanes {

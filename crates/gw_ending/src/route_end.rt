@@ -43,6 +43,7 @@ pub(crate) fn report_of<R: Wait>(
     requires intake { (offered : List FrameValue) × IntakeStands intake offered }
     requires few { length waiting.now ≤ 12 }
     ensures completed { IfOk result (λ r. r.completed.items ≡ completed.items) }
+    ensures turns { IfOk result (λ r. r.turns ≡ (hand_value hand).turns) }
     ensures ends { IfOk result (λ r. (left : List Entry) → numbers left ≡ waiting.now
         → IsEndOf r intake (hand_value hand) left) }
 {
@@ -50,7 +51,7 @@ pub(crate) fn report_of<R: Wait>(
         out,
         hand: in_hand,
         tickets: _,
-        turns: _,
+        turns,
         aborts: _,
         log,
         rewrites: _,
@@ -74,5 +75,6 @@ pub(crate) fn report_of<R: Wait>(
         released,
         aborted,
         completed,
+        turns,
     })
 }

@@ -1,27 +1,26 @@
 -- Laws of lists in an input.
 use Rattle.std.proofs.Common.{◌≡◌, ℕ, suc, ◌+◌, ◌<◌, List, [], ◌∷◌, ◌++◌, length, drop, get_or, refl, sym, ap, ◌∙◌}
 use Rattle.std.proofs.Common.{Result, Ok, Err, is_ok, is_err, false, if◌then◌else◌, drop-cons, add-one, length-append}
-use Rattle.json.specs.Json.{Json, item}
-use Rattle.json.specs.Value.{value_view as view, items_view}
-use Rattle.std.specs.declared.alloc.Global.{Global}
-use Rattle.json.specs.declared.value.Value.{Value}
+use Rattle.serde_json.specs.Data.{Data, item}
+use Rattle.serde_json.specs.View.{view, items_view}
+use Rattle.serde_json.specs.declared.value.Value.{Value}
 use Rattle.gw_fields.specs.Faults.{Fault}
 use Rattle.gw_fields.specs.Fields.{items_count, each_after, ◌>>=◌}
 
-pub count-view : (vs : List (Value Global)) → items_count (items_view vs) ≡ length vs
+pub count-view : (vs : List Value) → items_count (items_view vs) ≡ length vs
 count-view [] = refl
 count-view (v ∷ vs) = ap suc (count-view vs)
 
 -- the first element of what is left
-next_element : (vs : List (Value Global)) (i : ℕ) (v : Value Global) → i < length vs → v ≡ get_or vs i v →
+next_element : (vs : List Value) (i : ℕ) (v : Value) → i < length vs → v ≡ get_or vs i v →
     items_view (drop i vs) ≡ item (view v) (items_view (drop (i + 1) vs))
 next_element vs i v lt is =
     ap items_view (drop-cons vs i v lt) ∙ ap (λ w. item (view w) (items_view (drop (suc i) vs))) (sym is)
     ∙ ap (λ n. item (view v) (items_view (drop n vs))) (sym (add-one i))
 
 -- one more element was read
-pub each-step : {A : Type 0} (read : List A → Json → Result A Fault) (front : List A) (x : A) (vs : List (Value Global))
-    (i : ℕ) (v : Value Global) → i < length vs → v ≡ get_or vs i v →
+pub each-step : {A : Type 0} (read : List A → Data → Result A Fault) (front : List A) (x : A) (vs : List Value)
+    (i : ℕ) (v : Value) → i < length vs → v ≡ get_or vs i v →
     read front (view v) ≡ Ok x →
     each_after read (front ++ x ∷ []) (items_view (drop (i + 1) vs)) ≡ each_after read front (items_view (drop i vs))
 each-step read front x vs i v lt is e =
@@ -29,8 +28,8 @@ each-step read front x vs i v lt is e =
     ∙ ap (λ r. r >>= λ y. each_after read (front ++ y ∷ []) (items_view (drop (i + 1) vs))) e)
 
 -- an element that is refused
-pub each-stops : {A : Type 0} (read : List A → Json → Result A Fault) (front : List A) (fault : Fault)
-    (vs : List (Value Global)) (i : ℕ) (v : Value Global) → i < length vs → v ≡ get_or vs i v →
+pub each-stops : {A : Type 0} (read : List A → Data → Result A Fault) (front : List A) (fault : Fault)
+    (vs : List Value) (i : ℕ) (v : Value) → i < length vs → v ≡ get_or vs i v →
     read front (view v) ≡ Err fault →
     each_after read front (items_view (drop i vs)) ≡ Err fault
 each-stops read front fault vs i v lt is e =
@@ -38,8 +37,8 @@ each-stops read front fault vs i v lt is e =
     ∙ ap (λ r. r >>= λ y. each_after read (front ++ y ∷ []) (items_view (drop (i + 1) vs))) e
 
 -- one more element was read and kept
-pub each_grows : {A : Type 0} (read : List A → Json → Result A Fault) (old new front : List A) (x : A)
-    (all : Result (List A) Fault) (vs : List (Value Global)) (i : ℕ) (v : Value Global) →
+pub each_grows : {A : Type 0} (read : List A → Data → Result A Fault) (old new front : List A) (x : A)
+    (all : Result (List A) Fault) (vs : List Value) (i : ℕ) (v : Value) →
     i < length vs → v ≡ get_or vs i v → front ≡ old → read front (view v) ≡ Ok x → new ≡ old ++ x ∷ [] →
     each_after read old (items_view (drop i vs)) ≡ all →
     each_after read new (items_view (drop (i + 1) vs)) ≡ all

@@ -2,8 +2,8 @@
 use Rattle.std.proofs.Common.{◌≡◌, ◌∙◌, ap, sym, refl, subst, ℕ, ◌+◌, ◌≤◌, nat_le, length-append, List, [], ◌∷◌, ◌++◌}
 use Rattle.std.proofs.Common.{length, Bool, true, false, Option, Some, None, Result, Ok, Err, if◌then◌else◌, arith}
 use Rattle.std.proofs.lemmas.Bool.{leb-true}
-use Rattle.json.specs.Find.{as_array}
-use Rattle.json.specs.Json.{Json, Items, no_items, item}
+use Rattle.serde_json.specs.Find.{as_array}
+use Rattle.serde_json.specs.Data.{Data, Items, no_items, item}
 use Rattle.gw_fields.specs.Faults.{Fault, wrong_kind, double_name, too_many}
 use Rattle.gw_fields.specs.Fields.{◌>>=◌, or_fault, each_after, items_count, field, list, list_of}
 use Rattle.gw_fields.specs.Names.{is_among, formed_name, new_name}
@@ -36,8 +36,8 @@ found_ok fault None x e = cc
 found_ok fault (Some y) x e = cc
 
 -- what holds in front of each element, and stays so behind it, holds of the whole list
-pub each_after_keeps : {A : Type 0} (read : List A → Json → Result A Fault) (P : List A → Type 0) →
-    ((front : List A) (d : Json) (x : A) → P front → read front d ≡ Ok x → P (front ++ x ∷ [])) →
+pub each_after_keeps : {A : Type 0} (read : List A → Data → Result A Fault) (P : List A → Type 0) →
+    ((front : List A) (d : Data) (x : A) → P front → read front d ≡ Ok x → P (front ++ x ∷ [])) →
     (front all : List A) (items : Items) → P front → each_after read front items ≡ Ok all → P all
 each_after_keeps read P goes front all no_items here e = subst P (let same : front ≡ all = cc in same) here
 each_after_keeps read P goes front all (item d ds) here e =
@@ -45,7 +45,7 @@ each_after_keeps read P goes front all (item d ds) here e =
     each_after_keeps read P goes (front ++ h.0 ∷ []) all ds (goes front d h.0 here h.1) h.2
 
 -- a new name is none of those that are taken
-pub new_name_ok : (list_name : List ℕ) (taken : List (List ℕ)) (from : Json) (name : List ℕ) →
+pub new_name_ok : (list_name : List ℕ) (taken : List (List ℕ)) (from : Data) (name : List ℕ) →
     new_name list_name taken from ≡ Ok name → is_among name taken ≡ false
 unfolding new_name
 new_name_ok list_name taken from name e =
@@ -55,7 +55,7 @@ new_name_ok list_name taken from name e =
     ap (λ (one : List ℕ). is_among one taken) (sym t.1) ∙ t.0
 
 -- as many elements as are listed
-pub count_ok : {A : Type 0} (read : List A → Json → Result A Fault) (front all : List A) (items : Items) →
+pub count_ok : {A : Type 0} (read : List A → Data → Result A Fault) (front all : List A) (items : Items) →
     each_after read front items ≡ Ok all →
     length all ≡ length front + items_count items
 count_ok read front all no_items e =
@@ -66,7 +66,7 @@ count_ok read front all (item d ds) e =
     ∙ (let same : length (front ++ h.0 ∷ []) + items_count ds ≡ length front + items_count (item d ds) =
     omega (arith, length-append front (h.0 ∷ [])) in same)
 
-pub list_ok : (name : List ℕ) (most : ℕ) (from : Json) (items : Items) → list name most from ≡ Ok items →
+pub list_ok : (name : List ℕ) (most : ℕ) (from : Data) (items : Items) → list name most from ≡ Ok items →
     items_count items ≤ most
 unfolding list list_of
 list_ok name most from items e =

@@ -1,63 +1,29 @@
 //! Fields of a JSON object.
 
-ghost use Rattle.std.specs.Prelude.{◌≡◌, ◌≤◌, Bool, [], IfOk, IsOkAnd, length, is_some, option_map};
-ghost use Rattle.json.specs.Value.{value_view as view, items_view};
-ghost use Rattle.json.specs.Find.{as_array, as_object};
+ghost use Rattle.std.specs.Prelude.{◌≡◌, ◌≤◌, Bool, IfOk, length};
+ghost use Rattle.serde_json.specs.View.{view, items_view};
 ghost use Rattle.gw_fields.specs.Faults.{Reads};
 ghost use Rattle.gw_fields.specs.Fields.{object_of, field, natural_of, whole_of, natural, whole, truth};
 ghost use Rattle.gw_fields.specs.Fields.{optional_truth, text_of, text, list_of, list, some_list, filled_list};
 ghost use Rattle.gw_fields.specs.Fields.{optional_list};
 
-use crate::numbers::whole_number;
 use crate::script_fault::ScriptFault;
-use json::Value;
-
-/// Whether the value is an object.
-fn is_object(value: &Value<'_>) -> bool
-    ensures { result ≡ is_some (as_object (view value.now)) }
-{
-    matches!(value, Value::Object(_))
-}
-
-/// The elements, where the value is a list.
-fn items_of<'v, 'a>(value: &'v Value<'a>) -> Option<&'v [Value<'a>]>
-    ensures { option_map (λ v. items_view v.now) result ≡ as_array (view value.now) }
-{
-    match value {
-        Value::Array(items) => Some(items.as_slice()),
-        _ => None,
-    }
-}
-
-/// No elements. A reader answers it whole, since a slice that nothing lends has no lifetime of its own to
-/// put into an answer.
-fn empty_list<'v, T>() -> Result<&'v [T], ScriptFault>
-    ensures { IsOkAnd result (λ v. v.now ≡ []) }
-{
-    Ok(&[])
-}
+use serde_json::Value;
 
 /// The value itself, which must be an object.
 #[tactic(auto, unfolding(crate::specs::Fields::object_of))]
-pub fn object_of<'v, 'a>(
-    value: &'v Value<'a>,
-    name: &'static str,
-) -> Result<&'v Value<'a>, ScriptFault>
+pub fn object_of<'v>(value: &'v Value, name: &'static str) -> Result<&'v Value, ScriptFault>
     ensures { Reads (λ v. view v.now) result (object_of name.entry.now (view value.now)) }
 {
-    if is_object(value) {
-        Ok(value)
-    } else {
-        Err(ScriptFault::Kind(name))
+    match value.as_object() {
+        Some(_) => Ok(value),
+        None => Err(ScriptFault::Kind(name)),
     }
 }
 
 /// A field of an object.
 #[tactic(auto, unfolding(crate::specs::Fields::field))]
-pub fn field<'v, 'a>(
-    object: &'v Value<'a>,
-    name: &'static str,
-) -> Result<&'v Value<'a>, ScriptFault>
+pub fn field<'v>(object: &'v Value, name: &'static str) -> Result<&'v Value, ScriptFault>
     ensures { Reads (λ v. view v.now) result (field name.entry.now (view object.now)) }
 {
     match object.get(name) {
@@ -68,10 +34,10 @@ pub fn field<'v, 'a>(
 
 /// A whole number.
 #[tactic(auto, unfolding(crate::specs::Fields::natural_of))]
-fn natural_of(value: &Value<'_>, name: &'static str) -> Result<u64, ScriptFault>
+fn natural_of(value: &Value, name: &'static str) -> Result<u64, ScriptFault>
     ensures { Reads (λ n. n) result (natural_of name.entry.now (view value.now)) }
 {
-    match whole_number(value) {
+    match value.as_u64() {
         Some(number) => Ok(number),
         None => Err(ScriptFault::Kind(name)),
     }
@@ -79,12 +45,7 @@ fn natural_of(value: &Value<'_>, name: &'static str) -> Result<u64, ScriptFault>
 
 /// A whole number from `low` to `high`.
 #[tactic(auto, unfolding(crate::specs::Fields::whole_of))]
-pub fn whole_of(
-    value: &Value<'_>,
-    name: &'static str,
-    low: u64,
-    high: u64,
-) -> Result<u64, ScriptFault>
+pub fn whole_of(value: &Value, name: &'static str, low: u64, high: u64) -> Result<u64, ScriptFault>
     ensures value { Reads (λ n. n) result (whole_of name.entry.now low high (view value.now)) }
     ensures range { IfOk result (λ n. (low ≤ n) × (n ≤ high)) }
 {
@@ -98,7 +59,7 @@ pub fn whole_of(
 
 /// A field that is a whole number.
 #[tactic(auto, unfolding(crate::specs::Fields::natural))]
-pub fn natural(object: &Value<'_>, name: &'static str) -> Result<u64, ScriptFault>
+pub fn natural(object: &Value, name: &'static str) -> Result<u64, ScriptFault>
     ensures { Reads (λ n. n) result (natural name.entry.now (view object.now)) }
 {
     let value = field(object, name)?;
@@ -107,12 +68,7 @@ pub fn natural(object: &Value<'_>, name: &'static str) -> Result<u64, ScriptFaul
 
 /// A field that is a whole number from `low` to `high`.
 #[tactic(auto, unfolding(crate::specs::Fields::whole))]
-pub fn whole(
-    object: &Value<'_>,
-    name: &'static str,
-    low: u64,
-    high: u64,
-) -> Result<u64, ScriptFault>
+pub fn whole(object: &Value, name: &'static str, low: u64, high: u64) -> Result<u64, ScriptFault>
     ensures value { Reads (λ n. n) result (whole name.entry.now low high (view object.now)) }
     ensures range { IfOk result (λ n. (low ≤ n) × (n ≤ high)) }
 {
@@ -122,7 +78,7 @@ pub fn whole(
 
 /// A field that is true or false.
 #[tactic(auto, unfolding(crate::specs::Fields::truth))]
-pub fn truth(object: &Value<'_>, name: &'static str) -> Result<bool, ScriptFault>
+pub fn truth(object: &Value, name: &'static str) -> Result<bool, ScriptFault>
     ensures { Reads (λ b. b) result (truth name.entry.now (view object.now)) }
 {
     let value = field(object, name)?;
@@ -134,11 +90,7 @@ pub fn truth(object: &Value<'_>, name: &'static str) -> Result<bool, ScriptFault
 
 /// A field that is true or false, and `absent` where it is not there.
 #[tactic(auto, unfolding(crate::specs::Fields::optional_truth))]
-pub fn optional_truth(
-    object: &Value<'_>,
-    name: &'static str,
-    absent: bool,
-) -> Result<bool, ScriptFault>
+pub fn optional_truth(object: &Value, name: &'static str, absent: bool) -> Result<bool, ScriptFault>
     ensures { Reads (λ b. b) result (optional_truth name.entry.now absent (view object.now)) }
 {
     match object.get(name) {
@@ -152,7 +104,7 @@ pub fn optional_truth(
 
 /// A text.
 #[tactic(auto, unfolding(crate::specs::Fields::text_of))]
-pub fn text_of<'v>(value: &'v Value<'_>, name: &'static str) -> Result<&'v str, ScriptFault>
+pub fn text_of<'v>(value: &'v Value, name: &'static str) -> Result<&'v str, ScriptFault>
     ensures { Reads (λ t. t.now) result (text_of name.entry.now (view value.now)) }
 {
     match value.as_str() {
@@ -163,7 +115,7 @@ pub fn text_of<'v>(value: &'v Value<'_>, name: &'static str) -> Result<&'v str, 
 
 /// A field that is a text.
 #[tactic(auto, unfolding(crate::specs::Fields::text))]
-pub fn text<'v>(object: &'v Value<'_>, name: &'static str) -> Result<&'v str, ScriptFault>
+pub fn text<'v>(object: &'v Value, name: &'static str) -> Result<&'v str, ScriptFault>
     ensures { Reads (λ t. t.now) result (text name.entry.now (view object.now)) }
 {
     let value = field(object, name)?;
@@ -172,19 +124,19 @@ pub fn text<'v>(object: &'v Value<'_>, name: &'static str) -> Result<&'v str, Sc
 
 /// A list of at most `most` elements.
 #[tactic(auto, unfolding(crate::specs::Fields::list_of))]
-pub fn list_of<'v, 'a>(
-    value: &'v Value<'a>,
+pub fn list_of<'v>(
+    value: &'v Value,
     name: &'static str,
     most: usize,
-) -> Result<&'v [Value<'a>], ScriptFault>
+) -> Result<&'v [Value], ScriptFault>
     ensures value { Reads (λ v. items_view v.now) result (list_of name.entry.now most (view value.now)) }
     ensures few { IfOk result (λ v. length v.now ≤ most) }
 {
-    let Some(items) = items_of(value) else {
+    let Some(items) = value.as_array() else {
         return Err(ScriptFault::Kind(name));
     };
     if items.len() <= most {
-        Ok(items)
+        Ok(items.as_slice())
     } else {
         Err(ScriptFault::TooMany(name))
     }
@@ -192,11 +144,11 @@ pub fn list_of<'v, 'a>(
 
 /// A field that is a list of at most `most` elements.
 #[tactic(auto, unfolding(crate::specs::Fields::list))]
-pub fn list<'v, 'a>(
-    object: &'v Value<'a>,
+pub fn list<'v>(
+    object: &'v Value,
     name: &'static str,
     most: usize,
-) -> Result<&'v [Value<'a>], ScriptFault>
+) -> Result<&'v [Value], ScriptFault>
     ensures value { Reads (λ v. items_view v.now) result (list name.entry.now most (view object.now)) }
     ensures few { IfOk result (λ v. length v.now ≤ most) }
 {
@@ -206,26 +158,23 @@ pub fn list<'v, 'a>(
 
 /// A field that is a list of any length.
 #[tactic(auto, unfolding(crate::specs::Fields::some_list))]
-pub fn some_list<'v, 'a>(
-    object: &'v Value<'a>,
-    name: &'static str,
-) -> Result<&'v [Value<'a>], ScriptFault>
+pub fn some_list<'v>(object: &'v Value, name: &'static str) -> Result<&'v [Value], ScriptFault>
     ensures { Reads (λ v. items_view v.now) result (some_list name.entry.now (view object.now)) }
 {
     let value = field(object, name)?;
-    match items_of(value) {
-        Some(items) => Ok(items),
+    match value.as_array() {
+        Some(items) => Ok(items.as_slice()),
         None => Err(ScriptFault::Kind(name)),
     }
 }
 
 /// A field that is a list of at least one and at most `most` elements.
 #[tactic(auto, unfolding(crate::specs::Fields::filled_list))]
-pub fn filled_list<'v, 'a>(
-    object: &'v Value<'a>,
+pub fn filled_list<'v>(
+    object: &'v Value,
     name: &'static str,
     most: usize,
-) -> Result<&'v [Value<'a>], ScriptFault>
+) -> Result<&'v [Value], ScriptFault>
     ensures value { Reads (λ v. items_view v.now) result (filled_list name.entry.now most (view object.now)) }
     ensures some { IfOk result (λ v. 1 ≤ length v.now) }
     ensures few { IfOk result (λ v. length v.now ≤ most) }
@@ -240,16 +189,16 @@ pub fn filled_list<'v, 'a>(
 
 /// A field that is a list of at most `most` elements where it is there.
 #[tactic(auto, unfolding(crate::specs::Fields::optional_list))]
-pub fn optional_list<'v, 'a>(
-    object: &'v Value<'a>,
+pub fn optional_list<'v>(
+    object: &'v Value,
     name: &'static str,
     most: usize,
-) -> Result<&'v [Value<'a>], ScriptFault>
+) -> Result<&'v [Value], ScriptFault>
     ensures value { Reads (λ v. items_view v.now) result (optional_list name.entry.now most (view object.now)) }
     ensures few { IfOk result (λ v. length v.now ≤ most) }
 {
-    let Some(given) = object.get(name) else {
-        return empty_list();
-    };
-    list_of(given, name, most)
+    match object.get(name) {
+        Some(value) => list_of(value, name, most),
+        None => Ok(&[]),
+    }
 }

@@ -1,7 +1,7 @@
 //! A frame as a JSON object.
 
 ghost use Rattle.std.specs.Prelude.{◌≡◌, ◌≤◌, ◌<◌, ◌^◌, codes, length, MatchOption};
-ghost use Rattle.json.specs.Value.{value_view as view, items_view};
+ghost use Rattle.serde_json.specs.View.{view, items_view};
 ghost use Rattle.can_frame.specs.Frames.{standard, extended};
 ghost use Rattle.gw_fields.specs.Faults.{Reads};
 ghost use Rattle.gw_fields.specs.Fields.{whole_of, each};
@@ -11,7 +11,7 @@ use crate::fields::{list_of, natural, truth, whole_of};
 use crate::script_fault::ScriptFault;
 use arrayvec::ArrayVec;
 use can_frame::{Frame, Id};
-use json::Value;
+use serde_json::Value;
 
 fn extended_id(number: u64) -> Option<Id>
     ensures { MatchOption result (2 ^ 29 ≤ number) (λ id. (number < 2 ^ 29) × (id ≡ extended number)) }
@@ -52,7 +52,7 @@ pub fn identifier_with(
 
 /// The identifier of a frame: `id`, then `ext`, then the range.
 #[tactic(auto, unfolding(crate::specs::Frames::identifier_of))]
-fn identifier_of(from: &Value<'_>) -> Result<Id, ScriptFault>
+fn identifier_of(from: &Value) -> Result<Id, ScriptFault>
     ensures { Reads (λ id. id) result (identifier_of (view from.now)) }
 {
     let number = natural(from, "id")?;
@@ -61,7 +61,7 @@ fn identifier_of(from: &Value<'_>) -> Result<Id, ScriptFault>
 }
 
 /// The bytes in a list of at most eight.
-fn bytes_of(items: &[Value<'_>]) -> Result<ArrayVec<u8, 8>, ScriptFault>
+fn bytes_of(items: &[Value]) -> Result<ArrayVec<u8, 8>, ScriptFault>
     requires { length items.now ≤ 8 }
     ensures { Reads (λ bytes. bytes.items) result
         (each (whole_of (codes "data") 0 255) (items_view items.now)) }
@@ -79,7 +79,7 @@ fn bytes_of(items: &[Value<'_>]) -> Result<ArrayVec<u8, 8>, ScriptFault>
 
 /// A data frame of at most eight bytes.
 #[tactic(auto, unfolding(crate::specs::Frames::data_frame))]
-fn data_frame(id: Id, value: &Value<'_>) -> Result<Frame, ScriptFault>
+fn data_frame(id: Id, value: &Value) -> Result<Frame, ScriptFault>
     ensures { Reads (λ frame. frame) result (data_frame id (view value.now)) }
 {
     let items = list_of(value, "data", 8)?;
@@ -92,7 +92,7 @@ fn data_frame(id: Id, value: &Value<'_>) -> Result<Frame, ScriptFault>
 
 /// A remote frame with its data length code.
 #[tactic(auto, unfolding(crate::specs::Frames::remote_frame))]
-fn remote_frame(id: Id, value: &Value<'_>) -> Result<Frame, ScriptFault>
+fn remote_frame(id: Id, value: &Value) -> Result<Frame, ScriptFault>
     ensures { Reads (λ frame. frame) result (remote_frame id (view value.now)) }
 {
     let code = whole_of(value, "remote", 0, 8)?;
@@ -104,7 +104,7 @@ fn remote_frame(id: Id, value: &Value<'_>) -> Result<Frame, ScriptFault>
 
 /// A frame: its identifier, then `data` where it is given, else `remote`.
 #[tactic(auto, unfolding(crate::specs::Frames::frame_of))]
-pub fn frame_of(from: &Value<'_>) -> Result<Frame, ScriptFault>
+pub fn frame_of(from: &Value) -> Result<Frame, ScriptFault>
     ensures { Reads (λ frame. frame) result (frame_of (view from.now)) }
 {
     let id = match identifier_of(from) {

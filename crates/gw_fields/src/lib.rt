@@ -4,13 +4,9 @@
 mod document;
 mod fields;
 mod frames;
-mod json_value;
 mod name;
-mod numbers;
 mod reads_element;
 mod script_fault;
-mod stack;
-mod unclosed;
 
 pub use crate::document::{LIMIT, read_document};
 pub use crate::fields::{

@@ -3,13 +3,13 @@
 ghost use Rattle.std.specs.Prelude.{◌≡◌, ◌<◌, length, map, string_bytes, IfOk, IfSome, MatchResult};
 ghost use Rattle.std.specs.List.{list_all, position_from};
 ghost use Rattle.std.specs.Str.{bytes_eq};
-ghost use Rattle.json.specs.Value.{value_view as view};
+ghost use Rattle.serde_json.specs.View.{view};
 ghost use Rattle.gw_fields.specs.Faults.{Reads};
 ghost use Rattle.gw_fields.specs.Names.{is_name_byte, is_name, is_among, formed_name, new_name, place_named};
 
 use crate::fields::text;
 use crate::script_fault::ScriptFault;
-use json::Value;
+use serde_json::Value;
 use std::alloc::Global;
 
 /// What has a name in a script.
@@ -71,7 +71,7 @@ pub fn is_among<T: Named>(all: &[T], name: &str) -> bool
 /// The place of the one that a field names.
 #[tactic(auto, unfolding(crate::specs::Names::place_named))]
 pub fn place_named<T: Named>(
-    object: &Value<'_>,
+    object: &Value,
     name: &'static str,
     all: &[T],
 ) -> Result<usize, ScriptFault>
@@ -87,7 +87,7 @@ pub fn place_named<T: Named>(
 
 /// The field `name`, where it is well formed.
 #[tactic(auto, unfolding(crate::specs::Names::formed_name))]
-pub fn formed_name<'v>(object: &'v Value<'_>) -> Result<&'v str, ScriptFault>
+pub fn formed_name<'v>(object: &'v Value) -> Result<&'v str, ScriptFault>
     ensures { Reads (λ t. t.now) result (formed_name (view object.now)) }
 {
     let name = text(object, "name")?;
@@ -101,7 +101,7 @@ pub fn formed_name<'v>(object: &'v Value<'_>) -> Result<&'v str, ScriptFault>
 /// The field `name`, where none in front of the element has it. A double name is told with its list.
 #[tactic(auto, unfolding(crate::specs::Names::new_name))]
 pub fn new_name<'v, T: Named>(
-    object: &'v Value<'_>,
+    object: &'v Value,
     list: &'static str,
     front: &[T],
 ) -> Result<&'v str, ScriptFault>

@@ -42,17 +42,6 @@ pub enum ScriptFault {
     Memory,
 }
 
-impl From<json::Invalid> for ScriptFault {
-    ghost use Rattle.std.specs.Prelude.{◌≡◌};
-    ghost use Rattle.gw_fields.specs.declared.script_fault.ScriptFault.TheVariants.{NotJson};
-
-    ghost from_gives = { λ _ e. e ≡ NotJson };
-
-    fn from(_invalid: json::Invalid) -> ScriptFault {
-        ScriptFault::NotJson
-    }
-}
-
 impl From<AllocError> for ScriptFault {
     ghost use Rattle.std.specs.Prelude.{◌≡◌};
     ghost use Rattle.gw_fields.specs.declared.script_fault.ScriptFault.TheVariants.{Memory};

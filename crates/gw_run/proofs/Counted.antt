@@ -1,6 +1,6 @@
 -- Laws of how many turns routes made, and of memory that was not refused.
 use Rattle.std.proofs.Common.{◌≡◌, ◌≢◌, ℕ, zero, suc, ◌+◌, ◌*◌, ◌/◌, ◌%◌, ◌<◌, ◌≤◌, inl, inr, ◌⊎◌, if◌then◌else◌, false}
-use Rattle.std.proofs.Common.{List, slice_get, refl, sym, ap, arith, ◌∙◌}
+use Rattle.std.proofs.Common.{List, [], ◌∷◌, slice_get, refl, sym, ap, arith, ◌∙◌}
 use Rattle.std.proofs.lemmas.Option.{slice_get_within}
 use Rattle.std.proofs.lemmas.Bool.{lt-ltb}
 use Rattle.std.proofs.Math.Nat.{div-eq_of_lt-le, div-add-mod, div-le_self, mod-lt, zero-div, mul-suc, suc-mul, mul_comm}
@@ -17,6 +17,11 @@ use Rattle.gw_opening.specs.Openings.{IsNewLane}
 use Rattle.gw_run.proofs.Starts.{new_mail_at}
 use Rattle.gw_run.specs.Sites.{SiteMoves}
 use Rattle.gw_opening.specs.Places.{IsAt, PortChanges}
+use Rattle.gw_ending.specs.Finals.{turns_made, turns_told}
+use Rattle.gw_ending.specs.Reports.{EachTurned}
+use Rattle.gw_script.specs.declared.report.Report.{Report}
+use Rattle.gw_script.specs.declared.route_report.RouteReport.{RouteReport}
+use Rattle.bx_core.specs.Lists.{Each}
 use Rattle.gw_run.specs.Worlds.{Opens, LaneTurns, CountsTurn, HaveTurned, NoneShort}
 use Rattle.gw_opening.proofs.Changes.{place_cases}
 use Rattle.gw_site.proofs.Pairs.{pair_at}
@@ -49,6 +54,15 @@ same-quotient turn bit some none =
         sym (div-eq_of_lt-le turn (let low : q * turn ≤ bit = omega (arith, same, e) in low)
         (let high : bit < (q + 1) * turn = omega (arith, same, next, e, lt) in high))
 
+cons_not_nil : (x : ℕ) (xs : List ℕ) → x ∷ xs ≡ [] → ⊥
+cons_not_nil x xs e = cc
+
+first_same : (x y : ℕ) (xs ys : List ℕ) → x ∷ xs ≡ y ∷ ys → x ≡ y
+first_same x y xs ys e = cc
+
+rest_same : (x y : ℕ) (xs ys : List ℕ) → x ∷ xs ≡ y ∷ ys → xs ≡ ys
+rest_same x y xs ys e = cc
+
 -- below a million turns each one counts
 one-more : (turns : ℕ) → turns < 1000000 → next_turn turns ≡ turns + 1
 one-more turns few = ap (λ b. if b then turns + 1 else turns) (lt-ltb turns 1000000 few)
@@ -74,6 +88,19 @@ pub none_turned : (s : ScriptValue) (sites : List Site) (lanes : List Lane) (tur
 none_turned s sites lanes turn o k lane e =
     (pair_at (λ j route. IsNewLane s j route) s.routes lanes k lane o.opens.each_lane e).2.turns_is
     ∙ sym (zero-div turn)
+
+-- the reports have the turns that the routes made
+pub each_turned : (turn bits : ℕ) (lanes : List Lane) (report : Report) → HaveTurned turn bits lanes →
+    turns_told report.routes.items ≡ turns_made lanes → EachTurned (bits / turn) report
+each_turned turn bits lanes report have told = reported lanes report.routes.items have told
+  where
+    reported : (lanes : List Lane) (reports : List RouteReport) → HaveTurned turn bits lanes →
+        turns_told reports ≡ turns_made lanes → Each (λ (r : RouteReport). r.turns ≡ bits / turn) reports
+    reported lanes [] have told = tt
+    reported [] (r ∷ reports) have told = absurd (cons_not_nil _ _ told)
+    reported (lane ∷ lanes) (r ∷ reports) have told =
+        (first_same _ _ _ _ told ∙ have 0 lane refl,
+        reported lanes reports (λ k. have (suc k)) (rest_same _ _ _ _ told))
 
 -- a port of those behind a change of one: that one, or another
 port_before : (Change : Port → Port → Type 0) (old new : List Site) (there : Place)

@@ -1,13 +1,13 @@
 //! Runs in one thread.
 
-ghost use Rattle.std.specs.Prelude.{◌≡◌, ◌<◌, ℕ, List, IfOk, IfErr, OnOk, Some, slice_get};
+ghost use Rattle.std.specs.Prelude.{◌≡◌, ◌<◌, ◌/◌, ℕ, List, IfOk, IfErr, OnOk, Some, slice_get};
 ghost use Rattle.bx_core.specs.Lists.{Each};
 ghost use Rattle.bx_core.specs.declared.entry.Entry.{Entry};
 ghost use Rattle.gw_script.specs.NamedPlaces.{Names};
 ghost use Rattle.gw_config.specs.SoundScripts.{IsSound};
 ghost use Rattle.gw_script.specs.declared.route_report.RouteReport.{RouteReport};
 ghost use Rattle.gw_ending.specs.Headline.{NotRefilled, Balances};
-ghost use Rattle.gw_ending.specs.Reports.{AreOrdered, RunsSegments, RunsRoutes, AreStartsOf, lines_of};
+ghost use Rattle.gw_ending.specs.Reports.{AreOrdered, EachTurned, RunsSegments, RunsRoutes, AreStartsOf, lines_of};
 ghost use Rattle.gw_opening.specs.Openings.{AreNewSites, HaveMails};
 ghost use Rattle.gw_run.specs.Finals.{HasRun};
 ghost use Rattle.gw_run.specs.Ports.{IsNewMail};
@@ -57,7 +57,8 @@ fn run_routes<R: Wait>(
     requires turn { 0 < turn }
     requires sites { AreNewSites script.now sites.old }
     requires mails { HaveMails IsNewMail script.now sites.old }
-    ensures { IfOk result (λ lanes. HasRun script.now sites.new lanes.items) }
+    ensures run { IfOk result (λ lanes. HasRun script.now sites.new lanes.items) }
+    ensures turned { IfOk result (λ lanes. HaveTurned turn script.now.bits lanes.items) }
 {
     let mut lanes = lanes_of(alloc, script, sites)?;
     make_bits_and_turns(rt, script, sites, lanes.as_mut_slice(), turn)?;
@@ -71,6 +72,7 @@ fn run<R: Wait>(rt: &R, alloc: Global, script: &Script, turn: u32) -> Result<Rep
     ensures segments { IfOk result (RunsSegments script.now) }
     ensures routes { IfOk result (RunsRoutes 3 script.now) }
     ensures names { IfOk result (Names script.now) }
+    ensures turns { IfOk result (EachTurned (script.now.bits / turn)) }
 {
     let mut sites = sites_of(alloc, script)?;
     let lanes = run_routes(rt, alloc, script, sites.as_mut_slice(), turn)?;
@@ -80,8 +82,10 @@ fn run<R: Wait>(rt: &R, alloc: Global, script: &Script, turn: u32) -> Result<Rep
 
 /// Runs a script in this thread: for each of its bits, each segment in the order of the script makes one
 /// bit; and where the number of bits made is a multiple of `turn`, each route in the order of the script
-/// then makes one turn. Bits at which no port is needed are made earlier, and turns at which nothing waits are counted
-/// and not made, which makes no difference to anyone.
+/// then makes one turn. Bits at which no controller needs its mailboxes may be simulated earlier, and turns at which
+/// nothing waits are only counted. Each route's `turns` in the report is the script's bits divided by `turn`, rounded
+/// down.
+///
 /// Each controller has three transmit mailboxes and two receive FIFOs of three frames (RM0008, bxCAN, "Transmission
 /// handling" and "Reception handling").
 ///
@@ -108,6 +112,7 @@ pub fn run_inline<R: Wait>(
     ensures segments { IfOk result (RunsSegments script.now) }
     ensures routes { IfOk result (RunsRoutes 3 script.now) }
     ensures names { IfOk result (Names script.now) }
+    ensures turns { IfOk result (EachTurned (script.now.bits / turn)) }
     ensures err { IfErr result (λ fault. fault ≡ WantOfMemory) }
 {
     match run(rt, alloc, script, turn) {

@@ -1,6 +1,6 @@
 //! A segment of a run in one thread, bit by bit.
 
-ghost use Rattle.std.specs.Prelude.{◌≡◌, ◌<◌, ◌≤◌, ℕ, OnOk, true, false, length};
+ghost use Rattle.std.specs.Prelude.{◌≡◌, ◌⊎◌, ◌<◌, ◌≤◌, ℕ, OnOk, true, false, length};
 ghost use Rattle.gw_run.specs.Ports.{NoneWaits};
 ghost use Rattle.gw_run.specs.Sites.{IsAheadUpTo, SiteHolds, SiteIdles, SiteMakes};
 
@@ -21,14 +21,16 @@ fn none_waits(ports: &[Port]) -> bool
     true
 }
 
-/// Bits of an idle bus until a segment has made so many, where no request waits for any of its controllers: their ports
-/// need not be asked at each of them. Whether it has made so many then, also where it had before.
+/// Simulates bits of an idle bus until a segment has made `until` of them, where no request waits for any of its
+/// controllers: their ports need not be asked at these bits. Else it changes nothing. Returns whether the segment has
+/// `until` bits then, also where it had as many before.
 pub(crate) fn idle_on(site: &mut Site, until: u64) -> bool
     requires holds { SiteHolds site.old.segment site.old.ports.items }
     requires ahead { IsAheadUpTo until site.old.segment }
     ensures idles { SiteIdles until site.old site.new }
     ensures far { result ≡ true → until ≤ length site.new.segment.levels }
     ensures near { result ≡ false → length site.new.segment.levels < until }
+    ensures unasked { (site.new ≡ site.old) ⊎ NoneWaits site.old.ports.items }
 {
     if until <= site.segment.record().levels.len() as u64 {
         return true;

@@ -1,7 +1,7 @@
 -- An event list as a JSON object: a count of routes, the priority of the mailboxes, and mailbox events in order.
 use Rattle.std.specs.Prelude.{ℕ, ◌-◌, Bool, true, List, codes, Result, Ok, Err, if◌then◌else◌}
 use Rattle.std.specs.Str.{bytes_eq}
-use Rattle.json.specs.Json.{Json}
+use Rattle.serde_json.specs.Data.{Data}
 use Rattle.bx_core.specs.declared.event.Event.{Event}
 use Rattle.bx_core.specs.declared.event.Event.TheVariants as event
 use Rattle.gw_script.specs.declared.event_list.EventList.{EventList}
@@ -32,20 +32,20 @@ name_of word =
     else (if bytes_eq word (codes "reap") then Ok name.Reap
     else Err (out_of_range (codes "event"))))))))))
 
-unfoldable pub mailbox_of : Json → Result ℕ Fault
+unfoldable pub mailbox_of : Data → Result ℕ Fault
 mailbox_of from = whole (codes "mailbox") 0 2 from
 
 -- the route, below `routes`
-unfoldable pub route_of : ℕ → Json → Result ℕ Fault
+unfoldable pub route_of : ℕ → Data → Result ℕ Fault
 route_of routes from = whole (codes "route") 0 (routes - 1) from
 
-unfoldable pub claim_in : ℕ → Json → Result Event Fault
+unfoldable pub claim_in : ℕ → Data → Result Event Fault
 claim_in routes from = do
   route ← route_of routes from
   mailbox ← mailbox_of from
   Ok (event.Claim route mailbox)
 
-unfoldable pub request_in : ℕ → Json → Result Event Fault
+unfoldable pub request_in : ℕ → Data → Result Event Fault
 request_in routes from = do
   route ← route_of routes from
   mailbox ← mailbox_of from
@@ -55,26 +55,26 @@ request_in routes from = do
   frame ← frame_of object
   Ok (event.Request route mailbox number frame)
 
-unfoldable pub withdraw_in : ℕ → Json → Result Event Fault
+unfoldable pub withdraw_in : ℕ → Data → Result Event Fault
 withdraw_in routes from = do
   route ← route_of routes from
   mailbox ← mailbox_of from
   Ok (event.Withdraw route mailbox)
 
-unfoldable pub abort_in : ℕ → Json → Result Event Fault
+unfoldable pub abort_in : ℕ → Data → Result Event Fault
 abort_in routes from = do
   route ← route_of routes from
   mailbox ← mailbox_of from
   Ok (event.Abort route mailbox)
 
 -- an event of the bus side, which names no route
-unfoldable pub bus_event_in : (ℕ → Event) → Json → Result Event Fault
+unfoldable pub bus_event_in : (ℕ → Event) → Data → Result Event Fault
 bus_event_in make from = do
   mailbox ← mailbox_of from
   Ok (make mailbox)
 
 -- the fields that an event of this name has
-abbrev pub named_event : ℕ → Json → EventName → Result Event Fault
+abbrev pub named_event : ℕ → Data → EventName → Result Event Fault
 named_event routes from name.Claim = claim_in routes from
 named_event routes from name.Request = request_in routes from
 named_event routes from name.Withdraw = withdraw_in routes from
@@ -86,7 +86,7 @@ named_event routes from name.Abort = abort_in routes from
 named_event routes from name.Reap = bus_event_in event.Reap from
 
 -- an element of the list
-unfoldable pub event_of : ℕ → Json → Result Event Fault
+unfoldable pub event_of : ℕ → Data → Result Event Fault
 event_of routes value = do
   from ← object_of (codes "events") value
   word ← text (codes "event") from
@@ -94,7 +94,7 @@ event_of routes value = do
   named_event routes from name
 
 -- the whole list, up to its first fault
-unfoldable pub event_list_of : Json → Result EventListValue Fault
+unfoldable pub event_list_of : Data → Result EventListValue Fault
 event_list_of value = do
   from ← object_of (codes "script") value
   routes ← whole (codes "routes") 1 8 from

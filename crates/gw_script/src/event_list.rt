@@ -1,7 +1,7 @@
 //! An event list: its JSON text, and the events in it.
 
 ghost use Rattle.std.specs.Prelude.{◌≡◌, ◌≤◌, ◌<◌, codes, length, IfOk, IfErr, vec_len};
-ghost use Rattle.json.specs.Value.{value_view as view};
+ghost use Rattle.serde_json.specs.View.{view};
 ghost use Rattle.bx_core.specs.Lists.{Each};
 ghost use Rattle.bx_core.specs.Steps.{InRoutes};
 ghost use Rattle.gw_fields.specs.Faults.{Reads, ReadsUnlessMemory, UnlessMemory};
@@ -14,7 +14,7 @@ use gw_fields::{
     ReadsElement, ScriptFault, field, frame_of, list, object_of, optional_truth, read_document,
     read_each, text, whole,
 };
-use json::{Scratch, Value};
+use serde_json::Value;
 use std::alloc::Global;
 
 /// The greatest number of events in a list.
@@ -61,7 +61,7 @@ fn name_of(word: &str) -> Result<EventName, ScriptFault>
 }
 
 #[tactic(auto, unfolding(crate::specs::EventLists::mailbox_of))]
-fn mailbox_of(from: &Value<'_>) -> Result<u8, ScriptFault>
+fn mailbox_of(from: &Value) -> Result<u8, ScriptFault>
     ensures value { Reads (λ n. n) result (mailbox_of (view from.now)) }
     ensures range { IfOk result (λ n. n < 3) }
 {
@@ -70,7 +70,7 @@ fn mailbox_of(from: &Value<'_>) -> Result<u8, ScriptFault>
 }
 
 #[tactic(auto, unfolding(crate::specs::EventLists::route_of))]
-fn route_of(from: &Value<'_>, routes: u8) -> Result<u8, ScriptFault>
+fn route_of(from: &Value, routes: u8) -> Result<u8, ScriptFault>
     requires { 1 ≤ routes }
     ensures value { Reads (λ n. n) result (route_of routes (view from.now)) }
     ensures range { IfOk result (λ n. n < routes) }
@@ -80,7 +80,7 @@ fn route_of(from: &Value<'_>, routes: u8) -> Result<u8, ScriptFault>
 }
 
 #[tactic(auto, unfolding(crate::specs::EventLists::claim_in))]
-fn claim_in(from: &Value<'_>, routes: u8) -> Result<Event, ScriptFault>
+fn claim_in(from: &Value, routes: u8) -> Result<Event, ScriptFault>
     requires { 1 ≤ routes }
     ensures value { Reads (λ e. e) result (claim_in routes (view from.now)) }
     ensures range { IfOk result (InRoutes routes) }
@@ -91,7 +91,7 @@ fn claim_in(from: &Value<'_>, routes: u8) -> Result<Event, ScriptFault>
 }
 
 #[tactic(auto, unfolding(crate::specs::EventLists::request_in))]
-fn request_in(from: &Value<'_>, routes: u8) -> Result<Event, ScriptFault>
+fn request_in(from: &Value, routes: u8) -> Result<Event, ScriptFault>
     requires { 1 ≤ routes }
     ensures value { Reads (λ e. e) result (request_in routes (view from.now)) }
     ensures range { IfOk result (InRoutes routes) }
@@ -112,7 +112,7 @@ fn request_in(from: &Value<'_>, routes: u8) -> Result<Event, ScriptFault>
 }
 
 #[tactic(auto, unfolding(crate::specs::EventLists::withdraw_in))]
-fn withdraw_in(from: &Value<'_>, routes: u8) -> Result<Event, ScriptFault>
+fn withdraw_in(from: &Value, routes: u8) -> Result<Event, ScriptFault>
     requires { 1 ≤ routes }
     ensures value { Reads (λ e. e) result (withdraw_in routes (view from.now)) }
     ensures range { IfOk result (InRoutes routes) }
@@ -123,7 +123,7 @@ fn withdraw_in(from: &Value<'_>, routes: u8) -> Result<Event, ScriptFault>
 }
 
 #[tactic(auto, unfolding(crate::specs::EventLists::abort_in))]
-fn abort_in(from: &Value<'_>, routes: u8) -> Result<Event, ScriptFault>
+fn abort_in(from: &Value, routes: u8) -> Result<Event, ScriptFault>
     requires { 1 ≤ routes }
     ensures value { Reads (λ e. e) result (abort_in routes (view from.now)) }
     ensures range { IfOk result (InRoutes routes) }
@@ -135,7 +135,7 @@ fn abort_in(from: &Value<'_>, routes: u8) -> Result<Event, ScriptFault>
 
 /// The fields that an event of this name has.
 #[tactic(auto, unfolding(crate::specs::EventLists::bus_event_in))]
-fn named_event(from: &Value<'_>, routes: u8, name: EventName) -> Result<Event, ScriptFault>
+fn named_event(from: &Value, routes: u8, name: EventName) -> Result<Event, ScriptFault>
     requires { 1 ≤ routes }
     ensures value { Reads (λ e. e) result (named_event routes (view from.now) name) }
     ensures range { IfOk result (InRoutes routes) }
@@ -181,12 +181,7 @@ impl ReadsElement for EventReader {
     ghost keeps = { λ s. InRoutes s.routes };
 
     #[tactic(auto, unfolding(crate::specs::EventLists::event_of))]
-    fn read(
-        &self,
-        _alloc: Global,
-        value: &Value<'_>,
-        _front: &[Event],
-    ) -> Result<Event, ScriptFault> {
+    fn read(&self, _alloc: Global, value: &Value, _front: &[Event]) -> Result<Event, ScriptFault> {
         let from = object_of(value, "events")?;
         let word = text(from, "event")?;
         let name = name_of(word)?;
@@ -196,7 +191,7 @@ impl ReadsElement for EventReader {
 
 /// The whole list, up to its first fault.
 #[tactic(auto, unfolding(crate::specs::EventLists::event_list_of), using(gw_config::proofs::Lists::each_from_all))]
-fn event_list_of(alloc: Global, value: &Value<'_>) -> Result<EventList, ScriptFault>
+fn event_list_of(alloc: Global, value: &Value) -> Result<EventList, ScriptFault>
     ensures value { ReadsUnlessMemory list_view result (event_list_of (view value.now)) }
     ensures routes { IfOk result (λ l. (1 ≤ l.routes) × (l.routes ≤ 8)) }
     ensures range { IfOk result (λ l. Each (InRoutes l.routes) l.events.items) }
@@ -220,7 +215,6 @@ pub fn read_core(alloc: Global, bytes: &[u8]) -> Result<EventList, ScriptFault>
     ensures routes { IfOk result (λ l. (1 ≤ l.routes) × (l.routes ≤ 8)) }
     ensures range { IfOk result (λ l. Each (InRoutes l.routes) l.events.items) }
 {
-    let mut scratch = Scratch::new(alloc);
-    let value = read_document(alloc, bytes, &mut scratch)?;
+    let value = read_document(alloc, bytes)?;
     event_list_of(alloc, &value)
 }

@@ -2,10 +2,10 @@
 -- bus, what its sink may have been offered, and what no call of a segment changes are given by these words.
 use Rattle.std.specs.Prelude.{◌≡◌, ℕ, ◌+◌, ◌≤◌, Option, Some, List, [], length, slice_get}
 use Rattle.can_frame.specs.Frames.{FrameValue}
-use Rattle.bx_core.specs.TxBus.{Item, BusPast, no_bus_past}
+use Rattle.bx_core.specs.TxBus.{Item, BusPast, BusCall, no_bus_past}
 use Rattle.can_segment.specs.Brought.{told_of, all_in, taken_in, grown, StartsUndone}
 use Rattle.can_segment.specs.QuietBits.{MakeQuietBits}
-use Rattle.can_segment.specs.Segments.{SegmentValue, Fit}
+use Rattle.can_segment.specs.Segments.{SegmentValue, Fit, MakesBit}
 use Rattle.gw_site.specs.declared.site.Site.{Site}
 
 -- the controller of this node did what the record tells of it, and was offered what the record tells that it took; it
@@ -29,11 +29,14 @@ pub record PortsLeave {P : Type 0} (stays : P → P → Type 0) (old new : List 
   pub at : (k : ℕ) (a b : P) → slice_get old k ≡ Some a → slice_get new k ≡ Some b → stays a b
   pub size : length new ≡ length old
 
--- a segment made one bit more, and behind it such as need no port, or none
-pub record MakesOneAndQuiet (old new : SegmentValue) : Type 0 where
-  pub behind_one : SegmentValue
-  pub one : length behind_one.levels ≡ length old.levels + 1
-  pub quiet : MakeQuietBits behind_one new
+-- A segment made one bit, at which each port was asked and told what the bit asks for and tells, and after it bits that
+-- need no port, or none.
+pub record MakesOneAndQuiet {P : Type 0} (after : P → BusPast → Type 0) (asked : P → List BusCall → Type 0)
+    (transmitting : P → Option Item) (sink : P → List FrameValue → Type 0) (stays : P → P → Type 0)
+    (old new : SegmentValue) (from to : List P) : Type 0 where
+  pub after_one : SegmentValue
+  pub one : MakesBit after asked transmitting sink stays old after_one from to
+  pub quiet : MakeQuietBits after_one new
 
 -- before the first of so many bits
 pub record IsNewSegment {P : Type 0} (after : P → BusPast → Type 0) (transmitting : P → Option Item)

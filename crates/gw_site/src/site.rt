@@ -1,6 +1,7 @@
 //! A segment of a run, and the controllers on it.
 
 ghost use Rattle.std.specs.Prelude.{◌≡◌, ◌+◌, ◌<◌, ◌≤◌, IfOk, OnOk, OnErr, length};
+ghost use Rattle.can_segment.specs.Segments.{MakesBit};
 ghost use Rattle.gw_site.specs.Sites.{SiteHolds, PortsLeave, MakesOneAndQuiet};
 
 use can_frame::Memory;
@@ -15,8 +16,9 @@ pub struct Site<P> {
     pub ports: Vec<P>,
 }
 
-/// One more bit time of a segment with its controllers: what `Segment::bit` does where a bit is left to make. `Memory`
-/// where the record could not grow: then nothing was done.
+/// Simulates one bit time of a segment with its controllers, as `Segment::bit` does where a bit is left to make: each
+/// controller's port is asked for a request just where its node wants to start, also on an idle bus. `Memory` where the
+/// record could not grow: then segment and ports are unchanged.
 pub fn make_bit<R, P: RxSink<R>>(
     rt: &R,
     segment: &mut Segment,
@@ -28,6 +30,8 @@ pub fn make_bit<R, P: RxSink<R>>(
     ensures plan { OnOk result (segment.new.plan ≡ segment.old.plan) }
     ensures longer { OnOk result (length segment.new.levels ≡ length segment.old.levels + 1) }
     ensures ports { OnOk result (PortsLeave P.port_stays ports.old ports.new) }
+    ensures bit { OnOk result (MakesBit P.bus_after P.bus_asked P.transmitting P.sink_after P.port_stays
+        segment.old segment.new ports.old ports.new) }
     ensures memory { OnErr result ((segment.new ≡ segment.old) × (ports.new ≡ ports.old)) }
 {
     match segment.bit(rt, ports) {
@@ -37,8 +41,9 @@ pub fn make_bit<R, P: RxSink<R>>(
     }
 }
 
-/// One more bit time of a segment with its controllers, and then such as need no port (`Segment::quiet_bits`), up to
-/// `limit` bits in all: how many are made in all. `Memory` where the record could not grow: then nothing was done.
+/// Simulates one bit time of a segment with its controllers, as `make_bit` does, and then bits that need no port
+/// (`Segment::quiet_bits`), up to `limit` bits in all. Returns how many bits the segment has then. `Memory` where the
+/// record could not grow: then segment and ports are unchanged.
 pub fn make_bits<R, P: RxSink<R>>(
     rt: &R,
     segment: &mut Segment,
@@ -54,7 +59,8 @@ pub fn make_bits<R, P: RxSink<R>>(
     ensures longer { OnOk result (length segment.old.levels < length segment.new.levels) }
     ensures most { OnOk result (length segment.new.levels ≤ limit) }
     ensures within { OnOk result (length segment.new.levels ≤ segment.old.plan.bits) }
-    ensures quiet { OnOk result (MakesOneAndQuiet segment.old segment.new) }
+    ensures quiet { OnOk result (MakesOneAndQuiet P.bus_after P.bus_asked P.transmitting P.sink_after P.port_stays
+        segment.old segment.new ports.old ports.new) }
     ensures ports { OnOk result (PortsLeave P.port_stays ports.old ports.new) }
     ensures memory { OnErr result ((segment.new ≡ segment.old) × (ports.new ≡ ports.old)) }
 {

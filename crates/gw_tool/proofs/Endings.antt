@@ -5,12 +5,10 @@ use Rattle.std.proofs.Common.{sym, take}
 use Rattle.std.specs.Prelude.{unwrap_or}
 use Rattle.std.proofs.lemmas.Option.{IfSome_then}
 use Rattle.std.specs.Io.KnownBytes.{Appends, Keeps}
-use Rattle.gw_fields.specs.declared.script_fault.ScriptFault.TheVariants as fault
-use Rattle.gw_fields.specs.Faults.{Fault, UnlessMemory, not_json, missing, wrong_kind, out_of_range, unknown_name}
-use Rattle.gw_fields.specs.Faults.{double_name, fifo_twice, too_many, wrong_version}
+use Rattle.gw_fields.specs.Faults.{Fault, UnlessMemory}
 use Rattle.gw_fields.specs.Documents.{IsNoDocument, IsTextOf, in_text}
 use Rattle.gw_tool.specs.Outcomes.{Answers, Begins, Ends, EndsWith, IsAnswer, IsFailureOn, IsRefusal, IsWant, input_of}
-use Rattle.gw_tool.specs.Outcomes.{status_of, IsRunAnswer, IsRunOf}
+use Rattle.gw_tool.specs.Outcomes.{IsRunAnswer, IsRunOf, IsTurned}
 use Rattle.gw_config.specs.Scripts.{ScriptValue, script_of}
 use Rattle.gw_script.specs.ReportTexts.{report_text}
 use Rattle.gw_script.specs.declared.report.Report.{Report}
@@ -91,40 +89,16 @@ ends_whole t bytes input old new (Err failure.Write) whole h =
     × ((n : ℕ) × Appends old new (take n text))) is h)
 
 -- the text of a report on a run is an answer to the script that the run is of
-pub run_answer : (bytes : List ℕ) (s : ScriptValue) (report : Report) → IsTextOf script_of bytes s → IsRunOf s report →
-    IsRunAnswer bytes (report_text s report)
-run_answer bytes s report reads run = record { script = s; reads = reads; report = report; run = run; text_is = refl }
+pub run_answer : (t : Task) (bytes : List ℕ) (s : ScriptValue) (report : Report) → IsTextOf script_of bytes s →
+    IsRunOf s report → IsTurned t s report → IsRunAnswer t bytes (report_text s report)
+run_answer t bytes s report reads run turns =
+    record { script = s; reads = reads; report = report; run = run; turns = turns; text_is = refl }
 
--- the input is refused for its first fault
-refused : (t : Task) (input old new : Option (List ℕ)) (status : ℕ) (f : Fault) → status ≡ 2 →
-    IfSome input (λ bytes. IsRefusal t bytes f) → Keeps old new →
+-- memory ran out before the words were read
+pub ends_without_memory : (t : Task) (input old new : Option (List ℕ)) (status : ℕ) → status ≡ 3 → Keeps old new →
     EndsWith t input old new status
-refused t input old new status f is first keeps = inr (inl (is, IfSome_then input first (λ bytes h. (f, h)), keeps))
-
-pub ends_with : (t : Task) (input old new : Option (List ℕ)) (status : ℕ) (e : Failure) → status ≡ status_of e →
-    Ends t input old new (Err e) → EndsWith t input old new status
-ends_with t input old new status (failure.Script fault.NotJson) is h =
-    refused t input old new status not_json is h.0 h.1
-ends_with t input old new status (failure.Script (fault.Missing name)) is h =
-    refused t input old new status (missing name.now) is h.0 h.1
-ends_with t input old new status (failure.Script (fault.Kind name)) is h =
-    refused t input old new status (wrong_kind name.now) is h.0 h.1
-ends_with t input old new status (failure.Script (fault.Range name)) is h =
-    refused t input old new status (out_of_range name.now) is h.0 h.1
-ends_with t input old new status (failure.Script (fault.UnknownName name)) is h =
-    refused t input old new status (unknown_name name.now) is h.0 h.1
-ends_with t input old new status (failure.Script (fault.DoubleName name)) is h =
-    refused t input old new status (double_name name.now) is h.0 h.1
-ends_with t input old new status (failure.Script (fault.FifoTwice place)) is h =
-    refused t input old new status (fifo_twice place) is h.0 h.1
-ends_with t input old new status (failure.Script (fault.TooMany name)) is h =
-    refused t input old new status (too_many name.now) is h.0 h.1
-ends_with t input old new status (failure.Script fault.Version) is h =
-    refused t input old new status wrong_version is h.0 h.1
-ends_with t input old new status (failure.Script fault.Memory) is h = inr (inr (inl (is, h.1)))
-ends_with t input old new status (failure.Run e) is h = inr (inr (inl (is, h.1)))
-ends_with t input old new status failure.Read is keeps = inr (inr (inr (is, inl keeps)))
-ends_with t input old new status failure.Write is begins = inr (inr (inr (is, inr begins)))
+ends_without_memory t input old new status is keeps =
+    inr (failure.Run run_fault.Memory, is, (wants_memory t, keeps))
 
 -- and it does what was asked for with the input that was
 pub as_asked : (contents : List ℕ → Option (List ℕ)) (standard old new : Option (List ℕ)) (taken : Option Order)

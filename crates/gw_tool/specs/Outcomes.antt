@@ -1,5 +1,5 @@
 -- How a run of the program may end, by what it was asked to do.
-use Rattle.std.specs.Prelude.{◌≡◌, ◌⊎◌, ℕ, List, Option, None, Some, IfSome, Result, Ok, Err, slice_get, take}
+use Rattle.std.specs.Prelude.{◌≡◌, ◌⊎◌, ◌/◌, ℕ, List, Option, None, Some, IfSome, Result, Ok, Err, slice_get, take}
 use Rattle.std.specs.Io.KnownBytes.{Appends, Keeps}
 use Rattle.bx_core.specs.declared.entry.Entry.{Entry}
 use Rattle.bx_core.specs.Lists.{Each}
@@ -15,13 +15,15 @@ use Rattle.gw_script.specs.NamedPlaces.{Names}
 use Rattle.gw_run.specs.declared.run_fault.RunFault.{RunFault}
 use Rattle.gw_run.specs.declared.run_fault.RunFault.TheVariants as run_fault
 use Rattle.gw_ending.specs.Headline.{NotRefilled, Balances}
-use Rattle.gw_ending.specs.Reports.{AreOrdered, RunsSegments, RunsRoutes, AreStartsOf, lines_of}
+use Rattle.gw_ending.specs.Reports.{AreOrdered, EachTurned, RunsSegments, RunsRoutes, AreStartsOf, lines_of}
 use Rattle.gw_print.specs.CoreReports.{IsReport}
 use Rattle.gw_tool.specs.declared.failure.Failure.{Failure}
 use Rattle.gw_tool.specs.declared.failure.Failure.TheVariants as failure
 use Rattle.gw_command.specs.declared.task.Task.{Task}
 use Rattle.gw_command.specs.declared.task.Task.TheVariants as task
 
+-- the status that the program ends with after this failure: 2 where the input is refused, 3 where memory ran out or a
+-- thread could not be started, 74 after a read or a write fault
 abbrev pub status_of : Failure → ℕ
 status_of (failure.Script fault.Memory) = 3
 status_of (failure.Script e) = 2
@@ -54,20 +56,27 @@ pub record IsRunOf (s : ScriptValue) (report : Report) : Type 0 where
   -- each segment, node and route that it names is one of the script
   pub names : Names s report
 
--- the bytes are a script, and the text is that of a report on a run of it
-pub record IsRunAnswer (bytes text : List ℕ) : Type 0 where
+-- what the task says of the turns in a report: in one thread each route makes one after every `turn` bits; in threads
+-- their number is not determined
+abbrev pub IsTurned : Task → ScriptValue → Report → Type 0
+IsTurned task.Core s report = ⊥
+IsTurned (task.Run turn) s report = EachTurned (s.bits / turn) report
+IsTurned (task.RunThreads threads slack) s report = Unit {0}
+
+-- the bytes are a script, and the text is that of a report on a run of it, as the task asks for
+pub record IsRunAnswer (t : Task) (bytes text : List ℕ) : Type 0 where
   pub script : ScriptValue
   pub reads : IsTextOf script_of bytes script
   pub report : Report
   pub run : IsRunOf script report
+  pub turns : IsTurned t script report
   pub text_is : text ≡ report_text script report
 
--- the text is an answer to these bytes. The claims on a run are the same however many bits lie between two turns, and
--- however many threads there are.
+-- the text is an answer to these bytes
 abbrev pub IsAnswer : Task → List ℕ → List ℕ → Type 0
 IsAnswer task.Core bytes text = IsListAnswer bytes text
-IsAnswer (task.Run turn) bytes text = IsRunAnswer bytes text
-IsAnswer (task.RunThreads threads slack) bytes text = IsRunAnswer bytes text
+IsAnswer (task.Run turn) bytes text = IsRunAnswer (task.Run turn) bytes text
+IsAnswer (task.RunThreads threads slack) bytes text = IsRunAnswer (task.RunThreads threads slack) bytes text
 
 -- the first fault of these bytes
 abbrev pub IsRefusal : Task → List ℕ → Fault → Type 0
@@ -102,7 +111,9 @@ abbrev pub Begins : Task → Option (List ℕ) → Option (List ℕ) → Option 
 Begins t input old new = IfSome input (λ bytes. (text : List ℕ) × IsAnswer t bytes text
     × ((n : ℕ) × Appends old new (take n text)))
 
--- by what the code answers
+-- By what the code answers: a refused input is refused for its first fault, and nothing is written; memory or a thread
+-- was wanted, and nothing is written; a read failed, and nothing is written; or a write failed, and a front of the answer
+-- is written.
 abbrev pub Ends : Task → Option (List ℕ) → Option (List ℕ) → Option (List ℕ) → Result (Unit {0}) Failure → Type 0
 Ends t input old new (Ok done) = Answers t input old new
 Ends t input old new (Err (failure.Script e)) = IfSome input (λ bytes. UnlessMemory e (IsRefusal t bytes))
@@ -111,10 +122,8 @@ Ends t input old new (Err (failure.Run e)) = IsWant t e × Keeps old new
 Ends t input old new (Err failure.Read) = Keeps old new
 Ends t input old new (Err failure.Write) = Begins t input old new
 
--- by the status
+-- By the status: 0 after an answer, else that of the failure by which the program ended.
 abbrev pub EndsWith : Task → Option (List ℕ) → Option (List ℕ) → Option (List ℕ) → ℕ → Type 0
 EndsWith t input old new status =
     ((status ≡ 0) × Answers t input old new)
-    ⊎ ((status ≡ 2) × IfSome input (λ bytes. (f : Fault) × IsRefusal t bytes f) × Keeps old new)
-    ⊎ ((status ≡ 3) × Keeps old new)
-    ⊎ ((status ≡ 74) × (Keeps old new ⊎ Begins t input old new))
+    ⊎ ((failure : Failure) × (status ≡ status_of failure) × Ends t input old new (Err failure))

@@ -8,6 +8,10 @@ mod failures;
 #[cfg(test)]
 mod files;
 #[cfg(test)]
+mod options;
+#[cfg(test)]
+mod refusals;
+#[cfg(test)]
 mod run;
 #[cfg(test)]
 mod runs;
@@ -15,3 +19,9 @@ mod runs;
 mod streams;
 #[cfg(test)]
 mod words;
+#[cfg(test)]
+mod worked;
+#[cfg(test)]
+mod worked_routes;
+#[cfg(test)]
+mod worked_talkers;

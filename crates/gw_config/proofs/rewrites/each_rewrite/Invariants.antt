@@ -1,5 +1,5 @@
 use Rattle.std.proofs.Common.{◌≡◌, drop, []}
-use Rattle.json.specs.Value.{items_view}
+use Rattle.serde_json.specs.View.{items_view}
 use Rattle.gw_fields.specs.Fields.{each_after}
 use Rattle.gw_config.specs.Rewrites.{rewrite_of}
 use Rattle.arrayvec.specs.ArrayVec.{array_vec_len}

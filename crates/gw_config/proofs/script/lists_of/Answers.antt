@@ -1,6 +1,6 @@
 -- The script is sound.
 use Rattle.std.proofs.Common.{◌∙◌, ap, sym, subst, List, rules}
-use Rattle.json.specs.Value.{value_view as view}
+use Rattle.serde_json.specs.View.{view}
 use Rattle.bx_core.specs.Lists.{Each}
 use Rattle.gw_config.specs.Segments.{SegmentValue}
 use Rattle.gw_config.specs.SoundScripts.{IsFaultIn}

@@ -1,11 +1,10 @@
 use Rattle.std.proofs.Common.{◌≡◌, ◌∙◌, ap, refl, ◌==◌, false, length, List, [], ◌∷◌, ℕ, Ok}
-use Rattle.json.specs.Value.{items_view}
-use Rattle.std.specs.declared.alloc.Global.{Global}
-use Rattle.json.specs.declared.value.Value.{Value}
+use Rattle.serde_json.specs.View.{items_view}
+use Rattle.serde_json.specs.declared.value.Value.{Value}
 use Rattle.gw_fields.specs.Fields.{◌>>=◌, filled, filled_list}
 use Rattle.gw_fields.proofs.fields.filled_list.Goals as goal
 
-one-or-more : (name : List ℕ) (vs : List (Value Global)) → false ≡ (length vs == 0) →
+one-or-more : (name : List ℕ) (vs : List Value) → false ≡ (length vs == 0) →
     filled name (items_view vs) ≡ Ok (items_view vs)
 one-or-more name [] e = cc
 one-or-more name (v ∷ vs) e = refl

@@ -1,5 +1,5 @@
 use Rattle.std.proofs.Common.{◌≡◌, codes, drop, []}
-use Rattle.json.specs.Value.{items_view}
+use Rattle.serde_json.specs.View.{items_view}
 use Rattle.gw_fields.specs.Fields.{whole_of, each_after}
 use Rattle.arrayvec.specs.ArrayVec.{array_vec_len}
 use Rattle.gw_fields.proofs.frames.bytes_of.Given as goal

@@ -1,7 +1,7 @@
 -- One element more is read behind those in front of it.
 use Rattle.std.proofs.Common.{◌≡◌, ◌++◌, ◌∷◌, [], sym, subst, All}
 use Rattle.std.proofs.lemmas.List.Elements.{All-push}
-use Rattle.json.specs.Value.{items_view}
+use Rattle.serde_json.specs.View.{items_view}
 use Rattle.gw_fields.specs.Fields.{each_after}
 use Rattle.gw_fields.proofs.FaultLaws.{each_refused}
 use Rattle.gw_fields.proofs.Lists.{each_grows, push_keeps, count-snoc}

@@ -1,5 +1,5 @@
 use Rattle.std.proofs.Common.{◌≡◌, drop, [], length, All}
-use Rattle.json.specs.Value.{items_view}
+use Rattle.serde_json.specs.View.{items_view}
 use Rattle.gw_fields.specs.Fields.{each_after}
 use Rattle.gw_fields.proofs.reads_element.read_each.Given as goal
 

@@ -6,11 +6,12 @@ use Rattle.gw_opening.specs.Openings.{HaveMails}
 use Rattle.gw_run.specs.Ports.{IsNewMail}
 use Rattle.gw_run.specs.Finals.{ClosesSite}
 use Rattle.gw_run.proofs.Closes.{has_closed, few_closed}
+use Rattle.gw_run.proofs.Counted.{each_turned}
 use Rattle.gw_run.proofs.inline.run.Goals as goal
 
 pub end_run-requires-clause-over : goal.end_run-requires-clause-over
 end_run-requires-clause-over g c =
-    let run = c.in_ok-lanes.ensures in
+    let run = c.in_ok-lanes.ensures.run in
     let back = put_back c.in_ok-sites.sites.len c.run_routes.new.sites c.in_ok-sites.sites.items
     (omega (arith, c.as_mut_slice.ensures.len, run.each_site.size, c.in_ok-sites.ensures.new.size))
     (omega (arith, run.each_site.size, c.in_ok-sites.ensures.new.size)) in
@@ -28,3 +29,8 @@ returns-clause-routes g c = IfOk-weaker c.end_run.result _ _
 pub run_routes-requires-clause-mails : goal.run_routes-requires-clause-mails
 run_routes-requires-clause-mails g c =
     subst (HaveMails IsNewMail c.args.script.now) (sym c.as_mut_slice.ensures.value) c.in_ok-sites.ensures.mails
+
+pub returns-clause-turns : goal.returns-clause-turns
+returns-clause-turns g c = IfOk-weaker c.end_run.result _ _
+    (λ report told. each_turned c.args.turn c.args.script.now.bits c.in_ok-lanes.lanes.items report
+    c.in_ok-lanes.ensures.turned told) c.end_run.ensures.turns

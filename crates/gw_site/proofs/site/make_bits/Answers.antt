@@ -25,7 +25,7 @@ returns-clause-within g c =
 
 pub returns-clause-quiet : goal.returns-clause-quiet
 returns-clause-quiet g c = record {
-  behind_one = c.make_bit.new.segment;
-  one = c.in_ok-make_bit.ensures.longer;
+  after_one = c.make_bit.new.segment;
+  one = c.in_ok-make_bit.ensures.bit;
   quiet = c.quiet_bits.ensures.bits;
 }

@@ -1,7 +1,7 @@
 -- What was asked for is what was taken, unless memory ran out.
-use Rattle.std.proofs.Common.{None, Some, inl, inr}
+use Rattle.std.proofs.Common.{None, Some}
 use Rattle.gw_command.specs.declared.task.Task.TheVariants.{Core, Run, RunThreads}
-use Rattle.gw_tool.proofs.Endings.{as_asked, not_taken}
+use Rattle.gw_tool.proofs.Endings.{as_asked, ends_without_memory, not_taken}
 use Rattle.gw_tool.proofs.program.tool_with_files.Goals as goal
 
 pub returns-in-Ok-Some-clause-core : goal.returns-in-Ok-Some-clause-core
@@ -54,19 +54,23 @@ returns-in-Ok-Some-clause-run_file g c name file is words_are =
 
 pub returns-in-Err-clause-turns : goal.returns-in-Err-clause-turns
 returns-in-Err-clause-turns g c name n turn words_are =
-    inr (inr (inl (c.refused_words.ensures.memory (c.in-Err.ensures.turns name n turn words_are))))
+    (let refused = c.refused_words.ensures.memory (c.in-Err.ensures.turns name n turn words_are) in
+    ends_without_memory _ _ _ _ _ refused.0 refused.1)
 
 pub returns-in-Err-clause-threads : goal.returns-in-Err-clause-threads
 returns-in-Err-clause-threads g c name n some words_are =
-    inr (inr (inl (c.refused_words.ensures.memory (c.in-Err.ensures.threads name n some words_are))))
+    (let refused = c.refused_words.ensures.memory (c.in-Err.ensures.threads name n some words_are) in
+    ends_without_memory _ _ _ _ _ refused.0 refused.1)
 
 pub returns-in-Err-clause-core_file : goal.returns-in-Err-clause-core_file
 returns-in-Err-clause-core_file g c name file is words_are =
-    inr (inr (inl (c.refused_words.ensures.memory (c.in-Err.ensures.core_file name file is words_are))))
+    (let refused = c.refused_words.ensures.memory (c.in-Err.ensures.core_file name file is words_are) in
+    ends_without_memory _ _ _ _ _ refused.0 refused.1)
 
 pub returns-in-Err-clause-run_file : goal.returns-in-Err-clause-run_file
 returns-in-Err-clause-run_file g c name file is words_are =
-    inr (inr (inl (c.refused_words.ensures.memory (c.in-Err.ensures.run_file name file is words_are))))
+    (let refused = c.refused_words.ensures.memory (c.in-Err.ensures.run_file name file is words_are) in
+    ends_without_memory _ _ _ _ _ refused.0 refused.1)
 
 pub returns-in-Ok-None-clause-core_file : goal.returns-in-Ok-None-clause-core_file
 returns-in-Ok-None-clause-core_file g c name file is words_are =
@@ -75,3 +79,23 @@ returns-in-Ok-None-clause-core_file g c name file is words_are =
 pub returns-in-Ok-None-clause-run_file : goal.returns-in-Ok-None-clause-run_file
 returns-in-Ok-None-clause-run_file g c name file is words_are =
     absurd (not_taken _ _ c.in-Ok-None.field-0-is (c.in-Ok-None.ensures.run_file name file is words_are))
+
+pub returns-in-Err-clause-core : goal.returns-in-Err-clause-core
+returns-in-Err-clause-core g c name words_are =
+    (let refused = c.refused_words.ensures.memory (c.in-Err.ensures.core name words_are) in
+    ends_without_memory _ _ _ _ _ refused.0 refused.1)
+
+pub returns-in-Err-clause-run : goal.returns-in-Err-clause-run
+returns-in-Err-clause-run g c name words_are =
+    (let refused = c.refused_words.ensures.memory (c.in-Err.ensures.run name words_are) in
+    ends_without_memory _ _ _ _ _ refused.0 refused.1)
+
+pub returns-in-Err-clause-core_hyphen : goal.returns-in-Err-clause-core_hyphen
+returns-in-Err-clause-core_hyphen g c name words_are =
+    (let refused = c.refused_words.ensures.memory (c.in-Err.ensures.core_hyphen name words_are) in
+    ends_without_memory _ _ _ _ _ refused.0 refused.1)
+
+pub returns-in-Err-clause-run_hyphen : goal.returns-in-Err-clause-run_hyphen
+returns-in-Err-clause-run_hyphen g c name words_are =
+    (let refused = c.refused_words.ensures.memory (c.in-Err.ensures.run_hyphen name words_are) in
+    ends_without_memory _ _ _ _ _ refused.0 refused.1)

@@ -7,11 +7,11 @@ pub returns : goal.returns
 returns g c =
     let made = c.in-Ok-run_inline.ensures in
     c.report_to.ensures (task.Run c.args.turn) c.args.bytes.now
-    (run_answer c.args.bytes.now c.in-Ok.script c.in-Ok-run_inline.report c.in-Ok.ensures.ok (record {
+    (run_answer (task.Run c.args.turn) c.args.bytes.now c.in-Ok.script c.in-Ok-run_inline.report c.in-Ok.ensures.ok (record {
       segments = made.segments;
       routes = made.routes;
       order = made.order;
       no_refill = made.no_refill;
       sum = made.sum;
       names = made.names;
-    }))
+    }) made.turns)

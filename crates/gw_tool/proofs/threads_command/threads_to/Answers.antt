@@ -6,5 +6,5 @@ use Rattle.gw_tool.proofs.threads_command.threads_to.Goals as goal
 pub returns : goal.returns
 returns g c =
     c.report_to.ensures (task.RunThreads c.args.threads c.args.slack) c.args.bytes.now
-    (run_answer c.args.bytes.now c.in-Ok.script c.in-Ok-threaded_report.report c.in-Ok.ensures.ok
-    c.in-Ok-threaded_report.ensures)
+    (run_answer (task.RunThreads c.args.threads c.args.slack) c.args.bytes.now c.in-Ok.script
+    c.in-Ok-threaded_report.report c.in-Ok.ensures.ok c.in-Ok-threaded_report.ensures tt)
