@@ -2,14 +2,12 @@
 
 use crate::run::run_of;
 use std::alloc::{AllocError, Global};
-use std::fs;
 use std::fs::Files;
-use std::str;
 use std::sync::Wait;
 use std::sync::atomic::{AtomicBool, Ordering};
 use std::test::Fail;
-use std::thread;
 use std::thread::Threads;
+use std::{fs, str, thread};
 
 /// A script of two segments and a route from `a` to `b`. On `a` a talker sends 200 frames with other identifiers each,
 /// and on `b` fifteen talkers always have a frame of a lower priority to send, so that a bit of `b` takes longer.
@@ -25,12 +23,16 @@ fn uneven_script(alloc: Global, bits: u32) -> Result<String, AllocError> {
         write!(talkers, r#"{comma}{{"name":"n{number}","on":0,"frames":["#)?;
         for place in 0..40u32 {
             let comma = if place == 0 { "" } else { "," };
-            write!(talkers, r#"{comma}{{"id":20{number:02},"ext":false,"data":[]}}"#)?;
+            write!(
+                talkers,
+                r#"{comma}{{"id":20{number:02},"ext":false,"data":[]}}"#
+            )?;
         }
         talkers.push_str("]}")?;
     }
     format!(in alloc;
-        r#"{{"version":1,"bits":{bits},"segments":[{{"name":"a","talkers":[{{"name":"t","on":0,"frames":[{frames}]}}]}},{{"name":"b","talkers":[{talkers}]}}],"controllers":[{{"name":"c","segment":"a","on":0,"banks":[{{"bank":0,"scale":32,"mode":"mask","fifo":0,"active":true,"r1":0,"r2":0}}]}},{{"name":"d","segment":"b","on":0,"banks":[]}}],"routes":[{{"name":"r","from":"c","fifo":0,"to":"d"}}]}}"#)
+        r#"{{"version":1,"bits":{bits},"segments":[{{"name":"a","talkers":[{{"name":"t","on":0,"frames":[{frames}]}}]}},{{"name":"b","talkers":[{talkers}]}}],"controllers":[{{"name":"c","segment":"a","on":0,"banks":[{{"bank":0,"scale":32,"mode":"mask","fifo":0,"active":true,"r1":0,"r2":0}}]}},{{"name":"d","segment":"b","on":0,"banks":[]}}],"routes":[{{"name":"r","from":"c","fifo":0,"to":"d"}}]}}"#
+    )
 }
 
 /// The words of a line.
@@ -77,8 +79,14 @@ fn starts_within(alloc: Global, report: &str, slack: u64) -> Result<(usize, bool
 fn starts_no_earlier_than_the_slack_allows(rt: HostRuntime) -> Result<(), Fail> {
     let script = uneven_script(rt.alloc(), 15_000)?;
     for (slack, words) in [
-        (1u64, ["bxgate", "run", "--threads", "1", "--slack", "1"].as_slice()),
-        (7, ["bxgate", "run", "--threads", "2", "--slack", "7"].as_slice()),
+        (
+            1u64,
+            ["bxgate", "run", "--threads", "1", "--slack", "1"].as_slice(),
+        ),
+        (
+            7,
+            ["bxgate", "run", "--threads", "2", "--slack", "7"].as_slice(),
+        ),
     ] {
         let run = run_of(&rt, words, script.as_str().as_bytes());
         assert_eq!(rt; run.status, 0);
@@ -152,7 +160,10 @@ fn runs_in_as_many_threads_as_are_asked_for(rt: HostRuntime) -> Result<(), Fail>
     for (workers, words) in [
         (1u32, ["bxgate", "run", "--threads", "1"].as_slice()),
         (5, ["bxgate", "run", "--threads", "5"].as_slice()),
-        (16, ["bxgate", "run", "--threads", "16", "--slack", "1"].as_slice()),
+        (
+            16,
+            ["bxgate", "run", "--threads", "16", "--slack", "1"].as_slice(),
+        ),
     ] {
         assert!(rt; has_threads(&rt, words, script.as_str(), workers + 2));
     }

@@ -89,7 +89,10 @@ const REFUSALS: &[Refusal] = &[
 fn refuses_one_wrong_field(rt: HostRuntime) -> Result<(), Fail> {
     for Refusal { old, new, fault } in REFUSALS {
         let script = changed(rt.alloc(), THREE_FRAMES, old, new)?;
-        assert!(rt; is_refused(&rt, "run", script.as_str().as_bytes(), fault)?, "{fault} for {new}");
+        assert!(rt;
+            is_refused(&rt, "run", script.as_str().as_bytes(), fault)?,
+            "{fault} for {new}"
+        );
     }
     assert!(rt; is_refused(&rt, "run", b"{}".as_slice(), "J2 Missing version")?);
     Ok(())
@@ -99,7 +102,10 @@ fn refuses_one_wrong_field(rt: HostRuntime) -> Result<(), Fail> {
 fn refuses_each_front_of_a_script(rt: HostRuntime) -> Result<(), Fail> {
     let bytes = THREE_FRAMES.as_bytes();
     for length in 0..bytes.len() {
-        assert!(rt; is_refused(&rt, "run", &bytes[..length], "J1 NotJson")?, "{length} bytes");
+        assert!(rt;
+            is_refused(&rt, "run", &bytes[..length], "J1 NotJson")?,
+            "{length} bytes"
+        );
     }
     Ok(())
 }
@@ -108,16 +114,23 @@ fn refuses_each_front_of_a_script(rt: HostRuntime) -> Result<(), Fail> {
 fn nine_routes(alloc: Global) -> Result<String, AllocError> {
     let mut controllers = String::new(alloc);
     for number in 0..5u32 {
-        write!(controllers, r#"{{"name":"c{number}","segment":"a","on":0,"banks":[]}},"#)?;
+        write!(
+            controllers,
+            r#"{{"name":"c{number}","segment":"a","on":0,"banks":[]}},"#
+        )?;
     }
     let mut routes = String::new(alloc);
     for number in 0..9u32 {
         let comma = if number == 0 { "" } else { "," };
         let (controller, fifo) = (number / 2, number % 2);
-        write!(routes, r#"{comma}{{"name":"r{number}","from":"c{controller}","fifo":{fifo},"to":"d"}}"#)?;
+        write!(
+            routes,
+            r#"{comma}{{"name":"r{number}","from":"c{controller}","fifo":{fifo},"to":"d"}}"#
+        )?;
     }
     format!(in alloc;
-        r#"{{"version":1,"bits":9,"segments":[{{"name":"a","talkers":[]}}],"controllers":[{controllers}{{"name":"d","segment":"a","on":0,"banks":[]}}],"routes":[{routes}]}}"#)
+        r#"{{"version":1,"bits":9,"segments":[{{"name":"a","talkers":[]}}],"controllers":[{controllers}{{"name":"d","segment":"a","on":0,"banks":[]}}],"routes":[{routes}]}}"#
+    )
 }
 
 #[test]
@@ -145,7 +158,14 @@ fn reads_values_nested_127_deep(rt: HostRuntime) -> Result<(), Fail> {
     let alloc = rt.alloc();
     // the script itself is an object
     let script = nested(alloc, 126)?;
-    assert!(rt; is_reported(&rt, ["bxgate", "run"].as_slice(), script.as_str(), THREE_FRAMES_REPORT));
+    assert!(rt;
+        is_reported(
+            &rt,
+            ["bxgate", "run"].as_slice(),
+            script.as_str(),
+            THREE_FRAMES_REPORT
+        )
+    );
     let script = nested(alloc, 127)?;
     assert!(rt; is_refused(&rt, "run", script.as_str().as_bytes(), "J1 NotJson")?);
     Ok(())
@@ -153,14 +173,31 @@ fn reads_values_nested_127_deep(rt: HostRuntime) -> Result<(), Fail> {
 
 #[test]
 fn takes_the_last_of_two_fields(rt: HostRuntime) -> Result<(), Fail> {
-    let script = changed(rt.alloc(), THREE_FRAMES, r#""bits":300"#, r#""bits":0,"bits":300"#)?;
-    assert!(rt; is_reported(&rt, ["bxgate", "run"].as_slice(), script.as_str(), THREE_FRAMES_REPORT));
+    let script = changed(
+        rt.alloc(),
+        THREE_FRAMES,
+        r#""bits":300"#,
+        r#""bits":0,"bits":300"#,
+    )?;
+    assert!(rt;
+        is_reported(
+            &rt,
+            ["bxgate", "run"].as_slice(),
+            script.as_str(),
+            THREE_FRAMES_REPORT
+        )
+    );
     Ok(())
 }
 
 #[test]
 fn refuses_bytes_that_are_not_utf8(rt: HostRuntime) -> Result<(), Fail> {
-    let script = changed(rt.alloc(), THREE_FRAMES, r#"{"version""#, r#"{"x":"?","version""#)?;
+    let script = changed(
+        rt.alloc(),
+        THREE_FRAMES,
+        r#"{"version""#,
+        r#"{"x":"?","version""#,
+    )?;
     let mut bytes = Vec::from_slice(rt.alloc(), script.as_str().as_bytes())?;
     for byte in &mut bytes {
         if *byte == b'?' {
@@ -193,7 +230,11 @@ fn filters_by_the_last_bank(rt: HostRuntime) -> Result<(), Fail> {
             },
         ],
     )?;
-    let run = run_of(&rt, ["bxgate", "run"].as_slice(), script.as_str().as_bytes());
+    let run = run_of(
+        &rt,
+        ["bxgate", "run"].as_slice(),
+        script.as_str().as_bytes(),
+    );
     assert_eq!(rt; run.status, 0);
     let last = b"route r accepted 1 overrun 0 released 1 completed 1 aborted 0 held 0\n".as_slice();
     assert!(rt; run.output.as_slice().ends_with(last));

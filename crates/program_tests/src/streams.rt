@@ -50,3 +50,22 @@ impl Write for Closed {
         Ok(())
     }
 }
+
+/// Gives one byte at each call.
+#[derive(Drop)]
+pub(crate) struct Trickling<'a> {
+    pub(crate) left: &'a [u8],
+}
+
+impl Read for Trickling<'_> {
+    fn read(&mut self, buffer: &mut [u8]) -> io::Result<usize> {
+        match (self.left, buffer) {
+            ([first, rest @ ..], [to, ..]) => {
+                *to = *first;
+                self.left = rest;
+                Ok(1)
+            }
+            _ => Ok(0),
+        }
+    }
+}

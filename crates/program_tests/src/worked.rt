@@ -22,7 +22,11 @@ pub(crate) struct Worked {
 }
 
 /// The text after all of these changes.
-pub(crate) fn changed_by(alloc: Global, text: &str, changes: &[Change]) -> Result<String, AllocError> {
+pub(crate) fn changed_by(
+    alloc: Global,
+    text: &str,
+    changes: &[Change],
+) -> Result<String, AllocError> {
     let mut all = String::from_str(alloc, text)?;
     for change in changes {
         all = changed(alloc, all.as_str(), change.old, change.new)?;

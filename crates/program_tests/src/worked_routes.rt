@@ -196,12 +196,10 @@ const OF_THREE_FRAMES: &[Worked] = &[
     },
     Worked {
         words: &["bxgate", "run"],
-        changes: &[
-            Change {
-                old: r#""to":"d""#,
-                new: r#""to":"d","rewrite":[{"id":0,"ext":false,"new_id":1,"new_ext":false}]"#,
-            },
-        ],
+        changes: &[Change {
+            old: r#""to":"d""#,
+            new: r#""to":"d","rewrite":[{"id":0,"ext":false,"new_id":1,"new_ext":false}]"#,
+        }],
         report: "a 11 t started 000 data -\n\
                  a 59 c took 11 000 data -\n\
                  a 60 t completed 11 000 data -\n\
@@ -241,12 +239,10 @@ fn reports_on_a_route_changed(rt: HostRuntime) -> Result<(), Fail> {
 const OF_FEWER_BITS: &[Worked] = &[
     Worked {
         words: &["bxgate", "run"],
-        changes: &[
-            Change {
-                old: r#""bits":300"#,
-                new: r#""bits":59"#,
-            },
-        ],
+        changes: &[Change {
+            old: r#""bits":300"#,
+            new: r#""bits":59"#,
+        }],
         report: "a 11 t started 000 data -\n\
                  a node t tec 0 rec 0 active\n\
                  a node c tec 0 rec 0 active\n\
@@ -258,12 +254,10 @@ const OF_FEWER_BITS: &[Worked] = &[
     },
     Worked {
         words: &["bxgate", "run"],
-        changes: &[
-            Change {
-                old: r#""bits":300"#,
-                new: r#""bits":60"#,
-            },
-        ],
+        changes: &[Change {
+            old: r#""bits":300"#,
+            new: r#""bits":60"#,
+        }],
         report: "a 11 t started 000 data -\n\
                  a 59 c took 11 000 data -\n\
                  a node t tec 0 rec 0 active\n\
@@ -276,12 +270,10 @@ const OF_FEWER_BITS: &[Worked] = &[
     },
     Worked {
         words: &["bxgate", "run"],
-        changes: &[
-            Change {
-                old: r#""bits":300"#,
-                new: r#""bits":100"#,
-            },
-        ],
+        changes: &[Change {
+            old: r#""bits":300"#,
+            new: r#""bits":100"#,
+        }],
         report: "a 11 t started 000 data -\n\
                  a 59 c took 11 000 data -\n\
                  a 60 t completed 11 000 data -\n\
@@ -304,8 +296,7 @@ fn reports_on_an_early_end(rt: HostRuntime) -> Result<(), Fail> {
 }
 
 /// Mailbox events of one route, of which twelve are refused.
-const EACH_REFUSAL: &str =
-    r#"{"routes":1,"events":[
+const EACH_REFUSAL: &str = r#"{"routes":1,"events":[
         {"event":"request","route":0,"mailbox":0,"number":1,"frame":{"id":0,"ext":false,"data":[]}},
         {"event":"claim","route":0,"mailbox":0},
         {"event":"claim","route":0,"mailbox":0},
@@ -332,8 +323,7 @@ const EACH_REFUSAL: &str =
     ]}"#;
 
 /// Mailbox events of a controller that sends by identifier: the second request is sent first.
-const BY_IDENTIFIER: &str =
-    r#"{"routes":1,"txfp":false,"events":[
+const BY_IDENTIFIER: &str = r#"{"routes":1,"txfp":false,"events":[
         {"event":"claim","route":0,"mailbox":0},
         {"event":"request","route":0,"mailbox":0,"number":1,"frame":{"id":1,"ext":false,"data":[]}},
         {"event":"claim","route":0,"mailbox":1},

@@ -41,8 +41,7 @@ const OF_ONE_FRAME: &[Worked] = &[
     // one frame
     Worked {
         words: &["bxgate", "run"],
-        changes: &[
-        ],
+        changes: &[],
         report: "a 11 t started 000 data -\n\
                  a 59 l took 11 000 data -\n\
                  a 60 t completed 11 000 data -\n\
@@ -200,14 +199,24 @@ fn reports_on_one_wrong_sample(rt: HostRuntime) -> Result<(), Fail> {
     let alloc = rt.alloc();
     for WrongSample { bit, errors, start } in WRONG_SAMPLES {
         let longer = changed(alloc, ONE_FRAME, "\"bits\":64", "\"bits\":132")?;
-        let faults = format!(in alloc; "\"routes\":[],\"faults\":[{{\"node\":\"t\",\"bit\":{bit}}}]")?;
+        let faults = format!(in alloc;
+            "\"routes\":[],\"faults\":[{{\"node\":\"t\",\"bit\":{bit}}}]"
+        )?;
         let script = changed(alloc, longer.as_str(), "\"routes\":[]", faults.as_str())?;
         let (taken, sent) = (start + 48, start + 49);
         let report = format!(in alloc;
             "a 11 t started 000 data -\n{errors}a {start} t started 000 data -\na {taken} l took {start} 000 data -\n\
              a {sent} t completed {start} 000 data -\na node t tec 7 rec 0 active\na node l tec 0 rec 0 active\n\
-             a end 132\n")?;
-        assert!(rt; is_reported(&rt, ["bxgate", "run"].as_slice(), script.as_str(), report.as_str()));
+             a end 132\n"
+        )?;
+        assert!(rt;
+            is_reported(
+                &rt,
+                ["bxgate", "run"].as_slice(),
+                script.as_str(),
+                report.as_str()
+            )
+        );
     }
     Ok(())
 }
@@ -225,7 +234,10 @@ fn push_attempts(report: &mut String, first: u32, apart: u32, count: u32) -> Res
     for k in 0..count {
         let start = first + apart * k;
         let end = start + 41;
-        write!(report, "a {start} t started 000 data -\na {end} t error ack\n")?;
+        write!(
+            report,
+            "a {start} t started 000 data -\na {end} t error ack\n"
+        )?;
     }
     Ok(())
 }
@@ -249,18 +261,38 @@ fn reports_on_a_talker_alone(rt: HostRuntime) -> Result<(), Fail> {
 #[test]
 fn reports_on_an_error_passive_talker(rt: HostRuntime) -> Result<(), Fail> {
     let alloc = rt.alloc();
-    let script = changed_by(alloc, ONE_FRAME, &[
-        Change { old: "\"bits\":64", new: "\"bits\":1080" },
-        Change { old: "\"name\":\"l\",\"on\":0", new: "\"name\":\"l\",\"on\":950" },
-        Change { old: "\"routes\":[]", new: "\"routes\":[],\"faults\":[{\"node\":\"t\",\"bit\":1003}]" },
-    ])?;
+    let script = changed_by(
+        alloc,
+        ONE_FRAME,
+        &[
+            Change {
+                old: "\"bits\":64",
+                new: "\"bits\":1080",
+            },
+            Change {
+                old: "\"name\":\"l\",\"on\":0",
+                new: "\"name\":\"l\",\"on\":950",
+            },
+            Change {
+                old: "\"routes\":[]",
+                new: "\"routes\":[],\"faults\":[{\"node\":\"t\",\"bit\":1003}]",
+            },
+        ],
+    )?;
     let mut report = sixteen_attempts(alloc)?;
     report.push_str(
         "a 963 t started 000 data -\na 1003 t error bit\na 1011 l took 963 000 data -\n\
          a 1030 t started 000 data -\na 1078 l took 1030 000 data -\na 1079 t completed 1030 000 data -\n\
          a node t tec 135 rec 0 passive\na node l tec 0 rec 0 active\na end 1080\n",
     )?;
-    assert!(rt; is_reported(&rt, ["bxgate", "run"].as_slice(), script.as_str(), report.as_str()));
+    assert!(rt;
+        is_reported(
+            &rt,
+            ["bxgate", "run"].as_slice(),
+            script.as_str(),
+            report.as_str()
+        )
+    );
     Ok(())
 }
 
@@ -281,7 +313,19 @@ fn reports_on_bus_off(rt: HostRuntime) -> Result<(), Fail> {
     )?;
     let longer = changed(alloc, ALONE, "\"bits\":2000", "\"bits\":2800")?;
     let with_faults = format!(in alloc; "\"routes\":[],\"faults\":[{faults}]")?;
-    let script = changed(alloc, longer.as_str(), "\"routes\":[]", with_faults.as_str())?;
-    assert!(rt; is_reported(&rt, ["bxgate", "run"].as_slice(), script.as_str(), report.as_str()));
+    let script = changed(
+        alloc,
+        longer.as_str(),
+        "\"routes\":[]",
+        with_faults.as_str(),
+    )?;
+    assert!(rt;
+        is_reported(
+            &rt,
+            ["bxgate", "run"].as_slice(),
+            script.as_str(),
+            report.as_str()
+        )
+    );
     Ok(())
 }
