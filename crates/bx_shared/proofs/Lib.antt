@@ -15,6 +15,7 @@ pub mod Determined
 pub mod Marking
 pub mod Finding
 pub mod BusMoves
+pub mod Beginning
 pub mod Transmitting
 pub mod Scheduling
 pub mod Aborting

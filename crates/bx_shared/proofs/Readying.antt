@@ -12,7 +12,7 @@ use Rattle.bx_words.proofs.Cases.{of_mailboxes}
 use Rattle.bx_shared.specs.declared.bus_view.BusView.{BusView}
 use Rattle.bx_shared.specs.BusSteps.{HasKey, GoesNext, IsStarted, IsHeadSent, AreBytesSent, bus_looked, bus_started}
 use Rattle.bx_shared.specs.BusSteps.{head_read}
-use Rattle.bx_shared.specs.Calls.{Began}
+use Rattle.bx_shared.specs.Calls.{IsScheduled, Began}
 
 -- what holds of a value holds of another that follows from it
 pub if_some_more : {A : Type 0} (o : Option A) (P Q : A → Type 0) → ((x : A) → P x → Q x) → IfSome o P → IfSome o Q
@@ -62,9 +62,9 @@ module _ (b : BusView) (word written m : ℕ) (d : BusView) (st : IsStarted (bus
         c st.item (ap (λ (x : BusView). x.sends) is ∙ sends_it) (ap (λ (x : BusView). x.mailbox) is ∙ sends_there);
   }
 
-  pub began : (head lane : ℕ) (item : Item) (e : BusView) → e ≡ head_read d m head → item.0 ≡ lane / 32 →
-      lane ≡ lane_of word m → item.1 ≡ st.item.1 → item.2 ≡ st.item.2 → Began b e item
-  began head lane item e is route of_word number frame =
+  pub began : (head lane : ℕ) (item : Item) (e : BusView) → IsScheduled word m → e ≡ head_read d m head →
+      item.0 ≡ lane / 32 → lane ≡ lane_of word m → item.1 ≡ st.item.1 → item.2 ≡ st.item.2 → Began b e item
+  began head lane item e scheduled is route of_word number frame =
       let r : item.0 ≡ st.item.0 = let l = st.lane in omega arith in
       let same : st.item ≡ item = λ k. (sym r k, sym number k, sym frame k) in
       let whole : e ≡ head_read (bus_started (bus_looked b word) word written m st.item) m head =
@@ -76,6 +76,9 @@ module _ (b : BusView) (word written m : ℕ) (d : BusView) (st : IsStarted (bus
         priority = refl;
         idle = st.idle;
         undone = record { unsent = st.undone.unsent; unreaped = st.undone.unreaped };
+        scheduled = scheduled;
+        owner = (let l = st.lane in omega arith);
+        turn = st.turn;
         sends = refl;
         started = refl;
         done = refl;

@@ -44,6 +44,7 @@ use Rattle.bx_shared.proofs.Finding.{is_there, status_of, asked_by, find-there, 
 use Rattle.bx_shared.proofs.Finding.{some_item, no_item, none_sent}
 use Rattle.bx_shared.proofs.Moves.{St}
 use Rattle.bx_shared.proofs.BusMoves.{with_bus, bus_moves, bus_knows, heads_mark, heads_leave}
+use Rattle.bx_shared.proofs.Beginning.{was_in_turn}
 
 -- the status of a request changes, and with it what the bus's seat knows
 pub bus_marks : (txfp : Bool) (t : St) (k : IsKept txfp t) (id new lane : ℕ) (b d : BusView) (rs : List RouteView)
@@ -151,6 +152,8 @@ starts txfp t k id m new b rs me small mark none ls =
         idle = sym fit.sends ∙ starts-idle s next (Some item) law go;
         undone =
             starts_undone s next (Some item) (past_of b) law go fit.stands;
+        turn =
+            was_in_turn t.words s b w m k.reached k.shows fit g.has turn st g.mailbox_is asked;
         is = refl;
       },
       subst (λ (j : ℕ). IsEvent txfp s (Start j) (stepped t 0 new id [] (with_bus d rs) keeps)) g.mailbox_is (record {

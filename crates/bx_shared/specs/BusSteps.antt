@@ -1,17 +1,21 @@
 -- What each atomic step of the bus's seat tells it, and what it then knows.
 use Rattle.std.specs.Prelude.{◌≡◌, ℕ, ◌+◌, ◌*◌, ◌%◌, ◌<◌, ◌≤◌, Option, Some, None, List, [], ◌∷◌, ◌++◌}
-use Rattle.std.specs.Prelude.{nat_lt, if◌then◌else◌, option_to_list, map, length, slice_index, slice_set}
+use Rattle.std.specs.Prelude.{Bool, true, false, nat_lt, if◌then◌else◌, option_to_list, map, length, slice_index, slice_set}
 use Rattle.std.specs.List.{slice_index_or}
 use Rattle.can_frame.specs.Frames.{FrameValue}
 use Rattle.can_frame.specs.Keys.{key_of}
-use Rattle.bx_core.specs.Stands.{entries_of, numbers_of}
+use Rattle.bx_core.specs.declared.waiting.Waiting.{Waiting}
+use Rattle.bx_core.specs.Law.{Reached}
+use Rattle.bx_core.specs.PlainMail.{item_of}
+use Rattle.bx_core.specs.Stands.{BusStands, entries_of, numbers_of}
+use Rattle.bx_core.specs.States.{State, in_turn}
 use Rattle.bx_core.specs.Steps.{greatest_number}
-use Rattle.bx_core.specs.TxBus.{Item, IsUndone, label_of}
+use Rattle.bx_core.specs.TxBus.{Item, BusPast, IsUndone, label_of}
 use Rattle.bx_words.specs.Lanes.{lane_of, mark_of, rest_of, IsRequested, IsTransmitting}
 use Rattle.bx_words.specs.Orders.{IsOldest, IsLeastOf}
 use Rattle.bx_words.specs.Payloads.{IsHead, IsHeadOf, bytes_word}
 use Rattle.bx_shared.specs.declared.bus_view.BusView.{BusView}
-use Rattle.bx_shared.specs.Shown.{past_of}
+use Rattle.bx_shared.specs.Shown.{Shows, past_of}
 use Rattle.bx_shared.specs.Steps.{Tells, bus_seat, bus_of, mailbox_said}
 
 -- no mailbox's head was read
@@ -58,6 +62,24 @@ bus_failed b word = record b {
 abbrev pub bus_reaped : BusView → BusView
 bus_reaped b = record b { reaped = b.reaped ++ option_to_list b.reaps; reaps = None }
 
+-- The request that starts was the one that is scheduled. In a state of the core to which accepted events led, which
+-- this control word showed and in which the bus had done this, it was in this mailbox, scheduled, and not asked to
+-- end. By order of requests it was the oldest.
+pub record WasInTurn (txfp : Bool) (past : BusPast) (word mailbox : ℕ) (item : Item) : Type 0 where
+  pub core : State
+  pub reached : Reached core
+  pub priority : core.txfp ≡ txfp
+  pub words : List ℕ
+  pub shows : Shows words core
+  pub word_is : slice_index words 0 ≡ word
+  pub did : BusStands core past
+  pub request : Waiting
+  pub turn : in_turn core ≡ Some request
+  pub mailbox_is : request.mailbox ≡ mailbox
+  pub not_asked : request.abort_asked ≡ false
+  pub item_is : item_of request ≡ item
+  pub oldest : txfp ≡ true → (behind : List Waiting) × (core.queue ≡ request ∷ behind)
+
 -- The exchange started this: it was scheduled under this route, it was neither sent nor reaped, and nothing was
 -- transmitting.
 pub record IsStarted (b d : BusView) (mailbox word written : ℕ) : Type 0 where
@@ -65,6 +87,7 @@ pub record IsStarted (b d : BusView) (mailbox word written : ℕ) : Type 0 where
   pub lane : lane_of word mailbox ≡ 7 + 32 * item.0
   pub idle : b.sends ≡ None
   pub undone : IsUndone (past_of b) item
+  pub turn : WasInTurn b.txfp (past_of b) word mailbox item
   pub is : d ≡ bus_started b word written mailbox item
 
 -- the head of this mailbox was read, and this is the arbitration key of its frame

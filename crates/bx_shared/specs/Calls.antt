@@ -1,11 +1,12 @@
 -- What the calls of the bus's seat, and the aborts of a route's, are to their callers.
-use Rattle.std.specs.Prelude.{◌≡◌, ◌⊎◌, ℕ, ◌+◌, ◌%◌, ◌<◌, Some, None, List, [], ◌∷◌, ◌++◌, Bool, true, false, length}
+use Rattle.std.specs.Prelude.{◌≡◌, ◌⊎◌, ℕ, ◌+◌, ◌/◌, ◌%◌, ◌<◌, Some, None, List, [], ◌∷◌, ◌++◌}
+use Rattle.std.specs.Prelude.{Bool, true, false, length}
 use Rattle.bx_core.specs.declared.point.Point.{Point}
 use Rattle.bx_core.specs.declared.point.Point.TheVariants.{Look, Abort}
 use Rattle.bx_core.specs.Gate.{Passes}
 use Rattle.bx_core.specs.Lists.{Has}
 use Rattle.bx_core.specs.TxBus.{Item, IsUndone}
-use Rattle.bx_words.specs.Lanes.{mark_of, rest_of, IsRequested}
+use Rattle.bx_words.specs.Lanes.{lane_of, mark_of, rest_of, IsRequested}
 use Rattle.bx_words.specs.Orders.{IsOldest}
 use Rattle.bx_shared.specs.declared.route_view.RouteView.{RouteView}
 use Rattle.bx_shared.specs.declared.bus_view.BusView.{BusView}
@@ -14,7 +15,7 @@ use Rattle.bx_shared.specs.declared.abort_outcome.AbortOutcome.TheVariants.{Abor
 use Rattle.bx_shared.specs.Ended.{is_in}
 use Rattle.bx_shared.specs.Shown.{past_of}
 use Rattle.bx_shared.specs.Steps.{missed, aborted_at, asked_at}
-use Rattle.bx_shared.specs.BusSteps.{bus_failed, bus_reaped}
+use Rattle.bx_shared.specs.BusSteps.{WasInTurn, bus_failed, bus_reaped}
 use Rattle.bx_shared.specs.Seats.{SameFilling, BusPlace}
 
 -- the word has a mailbox whose request is scheduled and was not asked to end; and it has none
@@ -76,12 +77,16 @@ pub record Readied (b d : BusView) (result : Bool) : Type 0 where
   pub no : result ≡ false → (NoExchange b d × NoneScheduled d.seen × NoneToSchedule d.seen) ⊎ Lost b d
 
 -- This transmission started: nothing was transmitting, it was neither sent nor reaped, and started grew by just it. The
--- seat looked once and its one exchange was made.
+-- seat looked once and its one exchange was made. By the word looked at its mailbox held a request of this route that
+-- was scheduled and not asked to end, and the item is that request.
 pub record Began (b d : BusView) (item : Item) : Type 0 where
   pub route : item.0 < 8
   pub priority : d.txfp ≡ b.txfp
   pub idle : b.sends ≡ None
   pub undone : IsUndone (past_of b) item
+  pub scheduled : IsScheduled d.seen d.mailbox
+  pub owner : lane_of d.seen d.mailbox / 32 ≡ item.0
+  pub turn : WasInTurn b.txfp (past_of b) d.seen d.mailbox item
   pub sends : d.sends ≡ Some item
   pub started : d.started ≡ b.started ++ item ∷ []
   pub done : d.done ≡ b.done

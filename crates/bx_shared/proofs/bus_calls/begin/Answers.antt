@@ -38,4 +38,5 @@ returns-clause-began c =
     let back = c.unpack-frame.ensures st.item.2 st.item.1 packed in
     began b word c.with_start.result m d st c.read_head-head.result c.lane.result
     (c.lane.result / 32, c.unpack-frame.result.1, c.unpack-frame.result.0) (bus_of c.read_bytes.new.seat.me)
+    c.in_ok-mailbox.ensures
     (ap bus_of c.read_bytes.ensures.same ∙ ap bus_of c.read_head-head.ensures.read) refl c.lane.ensures back.1 back.0
