@@ -1,13 +1,15 @@
 -- Of each route at most 16,777,215 requests were made, aborted, sent and reaped.
-use Rattle.std.proofs.Common.{◌≡◌, ℕ, suc, ◌+◌, ◌<◌, ◌≤◌, List, [], ◌∷◌, length, refl, ap, arith, inl, inr, Bool}
+use Rattle.std.proofs.Common.{◌≡◌, ℕ, suc, ◌+◌, ◌<◌, ◌≤◌, List, [], ◌∷◌, ◌++◌, length, refl, sym, ap, ◌∙◌, arith}
+use Rattle.std.proofs.Common.{inl, inr, Bool}
 use Rattle.std.proofs.lemmas.Bool.Decides.{eqb_tells}
-use Rattle.std.proofs.lemmas.List.{length-map}
+use Rattle.std.proofs.lemmas.List.{length-map, length-append}
 use Rattle.bx_core.specs.declared.entry.Entry.{Entry}
 use Rattle.bx_core.specs.Lists.{times}
 use Rattle.bx_core.specs.States.{State, RouteLists, lists_of, numbers}
 use Rattle.bx_core.specs.Steps.{greatest_number}
 use Rattle.bx_core.specs.Law.{Law, IsRouteLawful}
 use Rattle.bx_core.proofs.Times.{mark, times_self, times_other}
+use Rattle.bx_core.proofs.Words.{times-append}
 use Rattle.bx_shared.specs.declared.bus_view.BusView.{BusView}
 use Rattle.bx_shared.specs.Shown.{FitsBus}
 use Rattle.bx_shared.specs.BusSteps.{AreFew}
@@ -51,6 +53,38 @@ few_of txfp l waits law =
     let b = fewer (numbers l.done) (numbers l.requested) (λ n. let o = law.once n in omega arith) in
     let c = fewer l.reaped (numbers l.requested) (λ n. let o = law.once n in omega arith) in
     record { aborted = omega arith; done = omega arith; reaped = omega arith }
+
+-- lists in which each number stands as often are of one length
+same_size : (xs ys : List ℕ) → ((n : ℕ) → times n xs ≡ times n ys) → length xs ≡ length ys
+same_size xs ys f =
+    let a = fewer xs ys (λ n. let e = f n in omega arith) in
+    let b = fewer ys xs (λ n. let e = f n in omega arith) in
+    omega arith
+
+four : List ℕ → List ℕ → List ℕ → List ℕ → List ℕ
+four a b c d = ((a ++ b) ++ c) ++ d
+
+times-four : (n : ℕ) (a b c d : List ℕ) → times n (four a b c d) ≡ times n a + times n b + times n c + times n d
+unfolding four
+times-four n a b c d =
+    omega (arith, times-append n ((a ++ b) ++ c) d, times-append n (a ++ b) c, times-append n a b)
+
+length-four : (a b c d : List ℕ) → length (four a b c d) ≡ length a + length b + length c + length d
+unfolding four
+length-four a b c d =
+    omega (arith, length-append ((a ++ b) ++ c) d, length-append (a ++ b) c, length-append a b)
+
+-- a route's requests are as many as those that were sent, aborted and reaped, and those that wait
+pub add_up : (txfp : Bool) (l : RouteLists) (waits : List ℕ) → IsRouteLawful txfp l waits →
+    length l.requested ≡ length l.done + length l.aborted + length l.reaped + length waits
+add_up txfp l waits law =
+    let requested : length (numbers l.requested) ≡ length l.requested =
+    length-map l.requested (λ (e : Entry). e.number) in
+    let done : length (numbers l.done) ≡ length l.done = length-map l.done (λ (e : Entry). e.number) in
+    let same = same_size (numbers l.requested) (four (numbers l.done) l.aborted l.reaped waits)
+    (λ n. law.once n ∙ sym (times-four n (numbers l.done) l.aborted l.reaped waits)) in
+    let sum = length-four (numbers l.done) l.aborted l.reaped waits in
+    omega arith
 
 -- so it is of what the bus's seat knows
 pub bus_few : (s : State) (b : BusView) → Law s → FitsBus s b → AreFew b

@@ -199,15 +199,19 @@ three_told word es left few r three =
     told_of_all es r.taken r.rest left r.split r.told (no_elements r.rest (omega arith))
 
 -- no claim stands where every place is idle
-no_claim : (b : BusView) (rs : List RouteView) (es : List Waiting) (word : ℕ) (t : Ends b rs es word) → AreAllIdle rs →
-    (m : ℕ) → claim_lane (claim_of t.core m) ≡ 0
-no_claim b rs es word t all m = ⊎_elim
-    (λ (none : claim_of t.core m ≡ None). ap claim_lane none)
+pub unclaimed : (b : BusView) (rs : List RouteView) (es : List Waiting) (word : ℕ) (t : Ends b rs es word) →
+    AreAllIdle rs → (m : ℕ) → claim_of t.core m ≡ None
+unclaimed b rs es word t all m = ⊎_elim
+    (λ (none : claim_of t.core m ≡ None). none)
     (λ (some : (r : ℕ) × (claim_of t.core m ≡ Some r)).
     let p = all some.0 (let own = t.law.owners m some.0 some.1 in let e = t.eight in omega arith) in
     let f = each_of (Fits t.words t.core) rs p.part t.parts p.there in
     absurd (true≢false (sym (f.only m (some.1 ∙ ap Some (sym p.route_is))).0 ∙ p.idle)))
     (some_or_none (claim_of t.core m))
+
+no_claim : (b : BusView) (rs : List RouteView) (es : List Waiting) (word : ℕ) (t : Ends b rs es word) → AreAllIdle rs →
+    (m : ℕ) → claim_lane (claim_of t.core m) ≡ 0
+no_claim b rs es word t all m = ap claim_lane (unclaimed b rs es word t all m)
 
 pub begins_left : (b : BusView) (rs : List RouteView) (es : List Waiting) (word : ℕ) → Ends b rs es word →
     AreAllIdle rs → Remains word es []

@@ -28,3 +28,4 @@ pub mod Leaving
 pub mod Tying
 pub mod Tallying
 pub mod Keeping
+pub mod Adding

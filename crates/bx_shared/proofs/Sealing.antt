@@ -59,6 +59,7 @@ seals-keep txfp slots id b rs all t k long me fits =
         record {
           core = s;
           words = t.words;
+          reached = k.reached;
           law = law_of s k.reached;
           eight = k.eight;
           queue_is = refl;

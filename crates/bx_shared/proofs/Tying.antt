@@ -10,7 +10,8 @@ use Rattle.bx_core.specs.declared.left.Left.{Left}
 use Rattle.bx_core.specs.declared.entry.Entry.{Entry}
 use Rattle.bx_core.specs.declared.waiting.Waiting.{Waiting}
 use Rattle.bx_core.specs.Lists.{Each, Has}
-use Rattle.bx_core.specs.States.{State, no_lists, lists_of}
+use Rattle.bx_core.specs.States.{State, RouteLists, no_lists, lists_of, entry_of, numbers, waits_of}
+use Rattle.bx_core.specs.Law.{IsRouteLawful}
 use Rattle.bx_core.specs.Stands.{BusStands, RouteStands, asked_of}
 use Rattle.bx_core.specs.RouteTx.{RoutePast}
 use Rattle.bx_core.specs.TxBus.{BusPast}
@@ -22,8 +23,9 @@ use Rattle.bx_shared.specs.Shown.{IsKnown, Fits}
 use Rattle.bx_shared.specs.Steps.{opening}
 use Rattle.bx_shared.specs.Seats.{BusPlace, RoutePlace, openings}
 use Rattle.bx_shared.specs.Sides.{BusAfter, RouteAfter}
-use Rattle.bx_shared.specs.Closing.{AreAllIdle, Ends, routes_of}
+use Rattle.bx_shared.specs.Closing.{AreAllIdle, AreAccounted, Ends, HasEnded, lists_by, routes_of}
 use Rattle.bx_shared.proofs.Determined.{same_lists}
+use Rattle.bx_shared.proofs.Leaving.{unclaimed}
 
 abbrev pub parts_of : List RoutePlace → List RouteView
 parts_of sides = map (λ (s : RoutePlace). s.part) sides
@@ -93,6 +95,17 @@ route_stands words s p past f a b c = record {
   asked_reaped = subst (λ (l : List ℕ). Each (Has l) (lists_of s p.route).reaped) (sym c) f.reaped;
 }
 
+-- the numbers of what is left of a route are those of its requests that wait
+left_waits : (route : ℕ) (ws : List Waiting) → numbers (left_of route (map as_left ws)) ≡ waits_of route ws
+left_waits route [] = refl
+left_waits route (w ∷ ws) = by_test (w.route == route) (left_waits route ws)
+  where
+    by_test : (b : Bool) → numbers (left_of route (map as_left ws)) ≡ waits_of route ws →
+        numbers (cond b (entry_of w ∷ left_of route (map as_left ws)) (left_of route (map as_left ws)))
+        ≡ cond b (w.number ∷ waits_of route ws) (waits_of route ws)
+    by_test true e = ap (λ ns. w.number ∷ ns) e
+    by_test false e = e
+
 module _ (b : BusPlace) (sides : List RoutePlace) (es : List Waiting) (word : ℕ) (left : List Left)
     (t : Ends b.bus (b.routes ++ parts_of sides) es word) (told : left ≡ map as_left es) where
   stands : (did : BusPast) → BusAfter b did → BusStands t.core did
@@ -112,6 +125,40 @@ module _ (b : BusPlace) (sides : List RoutePlace) (es : List Waiting) (word : �
       subst (λ (r : ℕ). RouteTied b.txfp r did past (left_of r left)) (each route s at)
       (subst (λ (x : Bool × List Left). RouteTied x.0 p.route did past (left_of p.route x.1))
       (λ k. ((t.bus.priority ∙ by) k, left_is k)) tied)
+
+  -- of a route's requests nothing is lost
+  pub accounted : b.bus.txfp ≡ b.txfp →
+      ((k : ℕ) (s : RoutePlace) → slice_get sides k ≡ Some s → s.part.route ≡ k) → AreAccounted b sides left
+  accounted by each route s at =
+      let p = s.part in
+      let q = t.core.queue in
+      let f = each_of (Fits t.words t.core) (b.routes ++ parts_of sides) p t.parts
+      (has-right b.routes (parts_of sides) p (side_has sides route s at)) in
+      let same : lists_of t.core p.route ≡ lists_by b p.route s =
+      same_lists (lists_of t.core p.route) (lists_by b p.route s) f.requested
+      (sym (t.bus.stands.done_is p.route)) f.aborted (sym (t.bus.stands.reaped_is p.route)) in
+      let waits : waits_of p.route q ≡ numbers (left_of p.route left) =
+      sym (left_waits p.route q) ∙ ap (λ (l : List Left). numbers (left_of p.route l)) left_is in
+      subst (λ (r : ℕ). IsRouteLawful b.txfp (lists_by b r s) (numbers (left_of r left))) (each route s at)
+      (subst (λ (ns : List ℕ). IsRouteLawful b.txfp (lists_by b p.route s) ns) waits
+      (subst (λ (l : RouteLists). IsRouteLawful b.txfp l (waits_of p.route q)) same
+      (subst (λ (x : Bool). IsRouteLawful x (lists_of t.core p.route) (waits_of p.route q)) (t.bus.priority ∙ by)
+      (t.law.route p.route))))
+
+  -- the state in which the mailboxes end
+  pub ended : b.bus.txfp ≡ b.txfp → AreAllIdle (b.routes ++ parts_of sides) → HasEnded b sides left
+  ended by all = record {
+    core = t.core;
+    reached = t.reached;
+    priority = t.bus.priority ∙ by;
+    words = t.words;
+    shows = t.shows;
+    bus = t.bus;
+    routes = λ route s at. each_of (Fits t.words t.core) (b.routes ++ parts_of sides) s.part t.parts
+        (has-right b.routes (parts_of sides) s.part (side_has sides route s at));
+    unclaimed = unclaimed b.bus (b.routes ++ parts_of sides) es word t all;
+    left_is = sym left_is;
+  }
 
   empty_of : {X : Type 0} (xs : List X) → Each (Has {A = X} []) xs → xs ≡ []
   empty_of [] known = refl

@@ -7,11 +7,11 @@ use Rattle.atomic_table.specs.Table.{Me}
 use Rattle.bx_core.specs.declared.left.Left.{Left}
 use Rattle.bx_core.specs.declared.waiting.Waiting.{Waiting}
 use Rattle.bx_core.specs.Lists.{Each, Has}
-use Rattle.bx_core.specs.States.{State}
-use Rattle.bx_core.specs.Law.{Law, count_at}
+use Rattle.bx_core.specs.States.{State, RouteLists, claim_of, numbers}
+use Rattle.bx_core.specs.Law.{Law, IsRouteLawful, Reached, count_at}
 use Rattle.bx_core.specs.Stands.{entries_of, numbers_of}
 use Rattle.bx_core.specs.TxBus.{label_of}
-use Rattle.bx_core.specs.Ties.{as_left}
+use Rattle.bx_core.specs.Ties.{as_left, left_of}
 use Rattle.bx_words.specs.Lanes.{lane_of}
 use Rattle.bx_words.specs.Payloads.{IsHeadOf, bytes_word}
 use Rattle.bx_shared.specs.declared.said.Said.{Said}
@@ -42,6 +42,7 @@ AreAllIdle rs = (route : ℕ) → route < 8 → IsIdleIn rs route
 pub record Ends (b : BusView) (rs : List RouteView) (es : List Waiting) (word : ℕ) : Type 0 where
   pub core : State
   pub words : List ℕ
+  pub reached : Reached core
   pub law : Law core
   pub eight : length core.routes ≡ 8
   pub queue_is : core.queue ≡ es
@@ -110,6 +111,39 @@ pub record IsCounted (b : BusPlace) (route : ℕ) (s : RoutePlace) (c : RouteCou
 abbrev pub AreCounted : BusPlace → List RoutePlace → List RouteCounts → Type 0
 AreCounted b sides counts = (route : ℕ) (s : RoutePlace) (c : RouteCounts) → slice_get sides route ≡ Some s →
     slice_get counts route ≡ Some c → IsCounted b route s c
+
+-- what became of a route's requests, by what its seat and the bus's seat know: the very lists that are counted
+abbrev pub lists_by : BusPlace → ℕ → RoutePlace → RouteLists
+lists_by b route s = record {
+  requested = s.part.requested;
+  done = entries_of route b.bus.done;
+  aborted = s.part.aborted;
+  reaped = numbers_of route (map label_of b.bus.reaped);
+}
+
+-- Of each route these lists and what is left keep the core law: each number that was requested is in exactly one of
+-- done, aborted, reaped and left, and these hold no other.
+abbrev pub AreAccounted : BusPlace → List RoutePlace → List Left → Type 0
+AreAccounted b sides left = (route : ℕ) (s : RoutePlace) → slice_get sides route ≡ Some s →
+    IsRouteLawful b.txfp (lists_by b route s) (numbers (left_of route left))
+
+-- of each route the four ways to end add up to its requests
+abbrev pub AddUp : List RouteCounts → List Left → Type 0
+AddUp counts left = (route : ℕ) (c : RouteCounts) → slice_get counts route ≡ Some c →
+    c.requested ≡ c.done + c.aborted + c.reaped + length (left_of route left)
+
+-- The mailboxes end in a state of the core to which accepted events led, which the words show and all seats know. No
+-- mailbox is claimed. What is left are the requests that wait, in the order of request over all routes.
+pub record HasEnded (b : BusPlace) (sides : List RoutePlace) (left : List Left) : Type 0 where
+  pub core : State
+  pub reached : Reached core
+  pub priority : core.txfp ≡ b.txfp
+  pub words : List ℕ
+  pub shows : Shows words core
+  pub bus : FitsBus core b.bus
+  pub routes : (route : ℕ) (s : RoutePlace) → slice_get sides route ≡ Some s → Fits words core s.part
+  pub unclaimed : (mailbox : ℕ) → claim_of core mailbox ≡ None
+  pub left_is : left ≡ map as_left core.queue
 
 -- for how many routes the mailboxes are
 abbrev pub routes_of : BusPlace → ℕ

@@ -8,8 +8,8 @@ ghost use Rattle.bx_words.specs.Lanes.{lane_of};
 ghost use Rattle.bx_shared.specs.Steps.{bus_seat, bus_of};
 ghost use Rattle.bx_shared.specs.Seats.{IsAt, RoutePlace};
 ghost use Rattle.bx_shared.specs.Sides.{BusAfter, RouteAfter};
-ghost use Rattle.bx_shared.specs.Closing.{AreAllIdle, Ends, IsLast, IsInMailbox, Remains};
-ghost use Rattle.bx_shared.specs.Closing.{IsSideOf, AreCounted, routes_of, sealed_seat, waiting_in};
+ghost use Rattle.bx_shared.specs.Closing.{AreAllIdle, Ends, IsLast, IsInMailbox, Remains, IsSideOf};
+ghost use Rattle.bx_shared.specs.Closing.{AreAccounted, AreCounted, HasEnded, routes_of, sealed_seat, waiting_in};
 
 use crate::bus_seat::BusSeat;
 use crate::closed::RouteCounts;
@@ -133,6 +133,8 @@ pub(crate) fn end(
     ensures tied { IfOk result (λ left. AllTied BusAfter RouteAfter bus.txfp bus sides.items left.items) }
     ensures beyond { IfOk result (λ left. NothingBeyond BusAfter (routes_of bus) bus left.items) }
     ensures few { IfOk result (λ left. length left.items ≤ 3) }
+    ensures accounted { IfOk result (λ left. AreAccounted bus sides.items left.items) }
+    ensures ended { IfOk result (λ left. HasEnded bus sides.items left.items) }
 {
     let BusSeat {
         words,

@@ -3,7 +3,7 @@ ghost use Rattle.std.specs.Prelude.{◌≡◌, ◌≤◌, true, IfOk, length};
 ghost use Rattle.bx_core.specs.Ties.{AreSides, AllTied, NothingBeyond};
 ghost use Rattle.bx_shared.specs.Seats.{IsNewBus, AreDealt};
 ghost use Rattle.bx_shared.specs.Sides.{BusAfter, RouteAfter};
-ghost use Rattle.bx_shared.specs.Closing.{IsSideOf, routes_of, AreCounted};
+ghost use Rattle.bx_shared.specs.Closing.{IsSideOf, routes_of, AreCounted, AreAccounted, AddUp, HasEnded};
 
 use crate::bus_seat::BusSeat;
 use crate::closed::Closed;
@@ -20,8 +20,8 @@ pub struct Mail;
 
 impl Mail {
     /// The seats at three empty mailboxes for so many routes, 1 to 8, in order, of which nothing was requested yet.
-    /// They send by order of requests (TXFP is set). `Memory` where a growth was refused, and nothing else is refused:
-    /// of all calls this one and `with_txfp` alone take memory.
+    /// They send by order of requests (TXFP is set). `Memory` where a growth was refused, and nothing else is refused.
+    /// Of all calls only this one, `with_txfp` and `close` take memory.
     pub fn new(alloc: Global, routes: u8) -> Result<(BusSeat, Vec<RouteSeat>), Memory>
         requires some { 1 ≤ routes }
         requires few { routes ≤ 8 }
@@ -48,9 +48,10 @@ impl Mail {
         Ok(deal(alloc, routes, txfp)?)
     }
 
-    /// Ends the mailboxes, given the bus's seat and the seats of all their routes, in order: how many requests each
-    /// route made, and how many ended how, and what waits, the oldest first. `Memory` where a growth was refused: then
-    /// the seats are gone.
+    /// Ends the mailboxes, given the bus's seat and the seats of all their routes, in order. Returns how many requests
+    /// each route made, how many of them ended in which way, and what is left: the requests that wait, the oldest of
+    /// all routes first. Of each route, the requests are as many as those that were sent, aborted and reaped, and
+    /// those that are left. `Memory` where a growth was refused: then the seats are gone.
     pub fn close(alloc: Global, bus: BusSeat, routes: Vec<RouteSeat>) -> Result<Closed, Memory>
         requires all { length routes.items ≡ routes_of bus }
         requires sides { AreSides IsSideOf bus routes.items }
@@ -59,6 +60,9 @@ impl Mail {
         ensures tied { IfOk result (λ closed. AllTied BusAfter RouteAfter bus.txfp bus routes.items closed.left.items) }
         ensures beyond { IfOk result (λ closed. NothingBeyond BusAfter (routes_of bus) bus closed.left.items) }
         ensures few { IfOk result (λ closed. length closed.left.items ≤ 3) }
+        ensures accounted { IfOk result (λ closed. AreAccounted bus routes.items closed.left.items) }
+        ensures add_up { IfOk result (λ closed. AddUp closed.routes.items closed.left.items) }
+        ensures ended { IfOk result (λ closed. HasEnded bus routes.items closed.left.items) }
     {
         let counts = counts_of(alloc, &bus, &routes)?;
         let left = end(alloc, bus, routes)?;
