@@ -3,6 +3,8 @@
 #![tactic(auto)]
 
 #[cfg(test)]
+mod gates;
+#[cfg(test)]
 mod shared;
 #[cfg(test)]
 mod shared_closing;

@@ -143,6 +143,54 @@ fn closing_counts_what_was_ended(rt: HostRuntime) -> Result<(), Fail> {
     Ok(())
 }
 
+// What is transmitting was asked to end, and was sent all the same: it is done, and neither aborted nor reaped.
+#[test]
+fn what_is_sent_is_done_though_it_was_asked_to_end(rt: HostRuntime) -> Result<(), Fail> {
+    let mut seats = Seats::new(rt.alloc(), 2)?;
+    assert_eq!(rt; seats.taken(0, 1, 0x101)?, 0);
+    assert_eq!(rt; seats.started(), Some((0, 1, data(0x101)?)));
+    assert_eq!(rt; seats.abort(0, 1), Some(AbortOutcome::Asked));
+    seats.complete()?;
+    assert_eq!(rt; seats.abort(0, 1), Some(AbortOutcome::Gone));
+    let closed = seats.close(rt.alloc())?;
+    let counts = |requested, done| RouteCounts {
+        requested,
+        aborted: 0,
+        done,
+        reaped: 0,
+    };
+    assert_eq!(rt;
+        closed.routes.as_slice(),
+        [counts(1, 1), counts(0, 0)].as_slice()
+    );
+    assert!(rt; closed.left.is_empty());
+    Ok(())
+}
+
+// What is transmitting waits also where its abort was asked. Of all routes the oldest is first: mailbox 0 was used
+// again by the youngest request.
+#[test]
+fn closing_leaves_all_routes_requests_in_order(rt: HostRuntime) -> Result<(), Fail> {
+    let mut seats = Seats::new(rt.alloc(), 2)?;
+    assert_eq!(rt; seats.taken(0, 1, 0x101)?, 0);
+    assert_eq!(rt; seats.taken(1, 1, 0x201)?, 1);
+    assert_eq!(rt; seats.taken(0, 2, 0x102)?, 2);
+    assert_eq!(rt; seats.started(), Some((0, 1, data(0x101)?)));
+    seats.complete()?;
+    assert_eq!(rt; seats.taken(1, 2, 0x202)?, 0);
+    assert_eq!(rt; seats.started(), Some((1, 1, data(0x201)?)));
+    assert_eq!(rt; seats.abort(1, 1), Some(AbortOutcome::Asked));
+    let closed = seats.close(rt.alloc())?;
+    assert!(rt;
+        closed
+            .left
+            .iter()
+            .map(|left| (left.route, left.number))
+            .eq([(1, 1), (0, 2), (1, 2)])
+    );
+    Ok(())
+}
+
 /// Accepts the ample answer or the refusal of memory, and nothing else: for runs in which an allocation fails.
 #[test]
 fn closes_or_wants_memory(rt: HostRuntime) {
