@@ -1,5 +1,5 @@
 -- A route of a run, between a FIFO and its side of the mailboxes, whatever these are.
-use Rattle.std.specs.Prelude.{◌≡◌, List}
+use Rattle.std.specs.Prelude.{◌≡◌, ℕ, List}
 use Rattle.bx_core.specs.RouteTx.{RoutePast}
 use Rattle.gw_route.specs.Plans.{FromPlan}
 use Rattle.gw_route.specs.RouteHand.{hand_value, IsLinked, LogsReleased}
@@ -29,3 +29,11 @@ pub record CourierMoves {S : Type 0} (after : S → RoutePast → Type 0) (stays
 abbrev pub CourierRuns : {S G : Type 0} (after : S → RoutePast → Type 0) (stays : S → S → Type 0) → Courier S G →
     Courier S G → Type 0
 CourierRuns after stays old new = CourierMoves after stays old.hand new.hand old.side new.side
+
+-- what contracts see of a baton: its place, and how many turns its hand made
+pub record BatonPlace : Type 0 where
+  pub place : ℕ
+  pub turns : ℕ
+
+abbrev pub baton_place : ℕ → ℕ → BatonPlace
+baton_place place turns = record { place = place; turns = turns }

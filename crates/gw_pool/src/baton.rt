@@ -1,5 +1,6 @@
 //! A route that workers pass on, and which of the routes it is.
-ghost use Rattle.std.specs.Prelude.{◌≡◌, ◌<◌, Some, slice_get, length};
+ghost use Rattle.std.specs.Prelude.{◌≡◌, ◌<◌, Some, OnOk, OnErr, slice_get, length};
+ghost use Rattle.gw_route.specs.Turn.{next_turn};
 ghost use Rattle.gw_pool.specs.Couriers.{IsReadyCourier, CourierRuns};
 ghost use Rattle.gw_pool.specs.declared.courier.Courier.{Courier};
 
@@ -27,7 +28,8 @@ impl<S, G> Dealing<S, G> for Brand {
     ghost dealt = { [] };
 }
 
-/// A route with its place among those that were dealt, after turns. Contracts see it as its place.
+/// A route with its place among those that were dealt, after turns. Contracts see its place, and how many turns its hand
+/// made.
 pub struct Baton<R, S: RouteTx<R>, G, J: Dealing<S, G>> {
     place: usize,
     courier: Courier<S, G>,
@@ -35,13 +37,13 @@ pub struct Baton<R, S: RouteTx<R>, G, J: Dealing<S, G>> {
 }
 
 impl<R, S: RouteTx<R>, G, J: Dealing<S, G>> Model for Baton<R, S, G, J> {
-    ghost use Rattle.std.specs.Prelude.{◌≡◌, ℕ, Some, slice_get};
-    ghost use Rattle.gw_pool.specs.Couriers.{CourierRuns};
+    ghost use Rattle.std.specs.Prelude.{◌≡◌, Some, slice_get};
+    ghost use Rattle.gw_pool.specs.Couriers.{BatonPlace, baton_place, CourierRuns};
     ghost use Rattle.gw_pool.specs.declared.courier.Courier.{Courier};
 
-    ghost Value = { ℕ };
+    ghost Value = { BatonPlace };
 
-    ghost view = { λ b. b.place };
+    ghost view = { λ b. baton_place b.place b.courier.hand.turns };
 
     // one was dealt at its place, and it is that one after turns
     ghost invariant = { λ b. (start : Courier S G) × (slice_get J.dealt b.place ≡ Some start)
@@ -59,7 +61,7 @@ impl<R, S: RouteTx<R> + Drop, G: Drop, J: Dealing<S, G>> Drop for Baton<R, S, G,
 }
 
 impl<R, S: RouteTx<R>, G, J: Dealing<S, G>> Placed for Baton<R, S, G, J> {
-    ghost place = { λ b. b };
+    ghost place = { λ b. b.place };
 }
 
 impl<R, S: RouteTx<R>, G, J: Dealing<S, G>> Baton<R, S, G, J> {
@@ -67,7 +69,8 @@ impl<R, S: RouteTx<R>, G, J: Dealing<S, G>> Baton<R, S, G, J> {
     pub fn new(place: usize, courier: Courier<S, G>) -> Baton<R, S, G, J>
         requires known { slice_get J.dealt place ≡ Some courier }
         requires ready { IsReadyCourier S.route_after courier }
-        ensures { result ≡ place }
+        ensures place { result.place ≡ place }
+        ensures turns { result.turns ≡ courier.hand.turns }
     {
         Baton {
             place,
@@ -78,7 +81,7 @@ impl<R, S: RouteTx<R>, G, J: Dealing<S, G>> Baton<R, S, G, J> {
 
     /// Its place.
     pub fn place(&self) -> usize
-        ensures place { result ≡ self.now }
+        ensures place { result ≡ self.now.place }
         ensures within { result < length J.dealt }
     {
         self.place
@@ -86,7 +89,7 @@ impl<R, S: RouteTx<R>, G, J: Dealing<S, G>> Baton<R, S, G, J> {
 
     /// The route is taken out: it is the one that was dealt at its place, after turns.
     pub fn end(self) -> Courier<S, G>
-        ensures { (start : Courier S G) → slice_get J.dealt self ≡ Some start
+        ensures { (start : Courier S G) → slice_get J.dealt self.place ≡ Some start
             → CourierRuns S.route_after S.stays start result }
     {
         let Baton {
@@ -99,9 +102,12 @@ impl<R, S: RouteTx<R>, G, J: Dealing<S, G>> Baton<R, S, G, J> {
 }
 
 impl<R: Wait, S: RouteTx<R>, G: Gate, J: Dealing<S, G>> Baton<R, S, G, J> {
-    /// One turn. What came of it; `Memory` where it was refused, and then no turn was made.
+    /// Makes one turn and returns what came of it. `Memory` where an allocation failed: then no turn was made. The hand
+    /// counts the turn, up to 1,000,000.
     pub fn turn(&mut self, rt: &R) -> Result<TurnAnswer, Memory>
-        ensures { self.new ≡ self.old }
+        ensures place { self.new.place ≡ self.old.place }
+        ensures one { OnOk result (self.new.turns ≡ next_turn self.old.turns) }
+        ensures none { OnErr result (self.new.turns ≡ self.old.turns) }
     {
         make_turn(
             rt,

@@ -1,4 +1,7 @@
 //! A route of a run as it goes to threads.
+ghost use Rattle.std.specs.Prelude.{◌≡◌, OnOk, OnErr};
+ghost use Rattle.gw_route.specs.RouteHand.{hand_value};
+ghost use Rattle.gw_route.specs.Turn.{next_turn};
 ghost use Rattle.gw_pool.specs.Couriers.{CourierHolds, CourierMoves};
 
 use bx_core::{Gate, RouteTx};
@@ -17,7 +20,8 @@ pub struct Courier<S, G> {
     pub gate: G,
 }
 
-/// One turn of a route. What came of it; `Memory` where it was refused, and then no turn was made.
+/// Makes one turn of a route and returns what came of it. `Memory` where an allocation failed: then no turn was made.
+/// The hand counts the turn, up to 1,000,000.
 pub(crate) fn make_turn<R: Wait, S: RouteTx<R>, G: Gate>(
     rt: &R,
     hand: &mut RouteHand,
@@ -25,7 +29,10 @@ pub(crate) fn make_turn<R: Wait, S: RouteTx<R>, G: Gate>(
     gate: &mut G,
 ) -> Result<TurnAnswer, Memory>
     requires { CourierHolds S.route_after hand.old side.old }
-    ensures { CourierMoves S.route_after S.stays hand.old hand.new side.old side.new }
+    ensures moves { CourierMoves S.route_after S.stays hand.old hand.new side.old side.new }
+    ensures one { OnOk result (hand.new.turns ≡ next_turn hand.old.turns) }
+    ensures none { OnErr result (hand_value hand.new ≡ hand_value hand.old) }
+    ensures untouched { OnErr result (side.new ≡ side.old) }
 {
     hand.turn(rt, side, gate)
 }

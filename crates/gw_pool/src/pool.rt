@@ -28,14 +28,16 @@ pub struct PoolSeat<X: Placed> {
 
 impl<X: Placed> Model for PoolSeat<X> {
     ghost use Rattle.std.specs.Arc.{arc_value};
-    ghost use Rattle.crossbeam_queue.specs.Passes.{view as known, IsPassOf};
+    ghost use Rattle.std.specs.Prelude.{◌≡◌};
+    ghost use Rattle.crossbeam_queue.specs.Passes.{view as known, IsPassOf, ruled_capacity};
     ghost use Rattle.gw_pool.specs.Pool.{PoolPlace, pool_place};
 
     ghost Value = { PoolPlace };
 
     ghost view = { λ s. pool_place s.pass.table_id (known s.pass) };
 
-    ghost invariant = { λ s. IsPassOf (arc_value s.queue) s.pass };
+    // the queue has room for sixteen batons
+    ghost invariant = { λ s. IsPassOf (arc_value s.queue) s.pass × (ruled_capacity (arc_value s.queue) ≡ 16) };
 }
 
 impl<X: Placed + Drop> PoolSeat<X> {

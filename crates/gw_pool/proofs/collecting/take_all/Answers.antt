@@ -41,7 +41,7 @@ loop-baton-preserved g c =
               more,
               same,
               got.1 h,
-              weigh-append h l.seat.account.taken (c.in-Some-collect.baton ∷ []),
+              weigh-append h l.seat.account.taken (c.in-Some-collect.baton.place ∷ []),
               weigh-append h got.0 (place ∷ []),
             )),
         subst (λ slots. AreBackBy Back g.J.Dealing.dealt slots (got.0 ++ place ∷ [])) (sym c.set_slot.ensures)

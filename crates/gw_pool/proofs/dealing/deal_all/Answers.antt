@@ -17,6 +17,7 @@ loop-courier-preserved g c =
       omega (arith, l.invariant.4, length-append l.yielded (c.in-Some.courier ∷ [])),
       l.invariant.5,
       c.put.ensures.queue ∙ l.invariant.6,
-      one_place start l.seat.account c.put.new.self.account start.put l.place c.new.result c.new.ensures l.invariant.7
+      one_place start l.seat.account c.put.new.self.account start.put l.place c.new.result.place c.new.ensures.place
+          l.invariant.7
           c.put.ensures.put,
     )
