@@ -2,4 +2,5 @@ pub mod Ports
 pub mod Lanes
 pub mod Sites
 pub mod Worlds
+pub mod Faults
 pub mod Finals

@@ -14,7 +14,6 @@ use bx_core::Gate;
 use bx_mail::{BusSeat, Mail, RouteSeat};
 use gw_script::{Report, Script};
 use gw_threaded::run_over;
-use gw_threads::ThreadFault;
 use std::alloc::Global;
 use std::sync::Wait;
 use std::thread::Threads;
@@ -62,8 +61,7 @@ pub fn run_threads<
     ensures names { IfOk result (Names script.now) }
 {
     match run_over::<R, BusSeat, RouteSeat, Mail, G>(rt, alloc, script, workers, slack, gates) {
-        Ok(report) => Ok(report),
-        Err(ThreadFault::Memory) => Err(RunFault::Memory),
-        Err(ThreadFault::Spawn) => Err(RunFault::Spawn),
+        Ok((report, _clock)) => Ok(report),
+        Err(fault) => Err(fault.into()),
     }
 }

@@ -6,7 +6,9 @@ use Rattle.std.proofs.lemmas.Option.{slice_get_within}
 use Rattle.can_station.proofs.Places.{some_there, same_some}
 use Rattle.gw_site.proofs.Pairs.{pushed}
 use Rattle.gw_pool.specs.declared.courier.Courier.{Courier}
-use Rattle.gw_threaded.specs.Parts.{AreThere, HaveCome}
+use Rattle.gw_opening.specs.declared.lane.Lane.{Lane}
+use Rattle.gw_threaded.specs.declared.lead.Lead.{Lead}
+use Rattle.gw_threaded.specs.Parts.{AreThere, HaveCome, HaveGates, HaveParted}
 
 -- from this place on all is as it was
 abbrev pub SameAbove : {X : Type 0} → ℕ → List (Option X) → List (Option X) → Type 0
@@ -62,6 +64,19 @@ pub placed_there : {X : Type 0} (xs : List X) (slots : List (Option X)) (count :
 placed_there xs slots count is few k less =
     let x = some_there xs k (omega (arith, less, few)) in
     (x.0, ap (λ l. slice_get l k) is ∙ map_there Some xs k x.0 x.1)
+
+-- each route has the gate at its place
+pub have_gates : {S G : Type 0} (seats : List (Option S)) (gates : List G) (lanes : List Lane) (leads : List Lead)
+    (couriers : List (Courier S G)) → length gates ≡ length lanes →
+    HaveParted seats (map Some gates) lanes leads couriers → HaveGates gates couriers
+have_gates seats gates lanes leads couriers size p = record {
+  at = λ k gate courier e f. (let within = slice_get_within gates k gate e in
+      let lane = some_there lanes k (omega (arith, within, size)) in
+      let is = p.couriers_are.at k lane.0 courier lane.1 f in
+      same_some courier.gate gate (same_some (Some courier.gate) (Some gate) (sym is.gate_there
+      ∙ map_there Some gates k gate e)));
+  size = p.couriers_are.size ∙ sym size;
+}
 
 -- what was walked through is as long as the whole: it is the whole
 pub walked_all : {X : Type 0} (front left whole : List X) → front ++ left ≡ whole → length front ≡ length whole →

@@ -26,6 +26,10 @@ pub record HaveParted {S G : Type 0} (seats : List (Option S)) (gates : List (Op
   pub leads_are : Pairs (λ k lane lead. lead ≡ lead_of lane) lanes leads
   pub couriers_are : Pairs (IsCourierOf seats gates) lanes couriers
 
+-- each route goes to its thread with the gate at its place in this list
+abbrev pub HaveGates : {S G : Type 0} → List G → List (Courier S G) → Type 0
+HaveGates gates couriers = Pairs (λ k gate courier. courier.gate ≡ gate) gates couriers
+
 -- a route is together again: its hand is that of the courier, and it comes from and leads to where it did
 pub record IsLaneFrom {S G : Type 0} (leads : List Lead) (k : ℕ) (courier : Courier S G) (lane : Lane) : Type 0 where
   pub hand_is : lane.hand ≡ courier.hand

@@ -2,7 +2,7 @@
 
 ghost use Rattle.std.specs.Prelude.{◌≡◌, ◌<◌, ◌≤◌, IfOk, OnOk, Some, length, map, slice_get};
 ghost use Rattle.gw_site.specs.Pairs.{Pairs};
-ghost use Rattle.gw_threaded.specs.Parts.{lead_of, AreThere, HaveParted, IsLaneFrom, HaveCome, LeavesBehind};
+ghost use Rattle.gw_threaded.specs.Parts.{lead_of, AreThere, HaveGates, HaveParted, IsLaneFrom, HaveCome, LeavesBehind};
 
 use crate::lead::Lead;
 use gw_opening::{Lane, push_one};
@@ -59,6 +59,24 @@ pub(crate) fn part<S: Drop, G: Drop>(
         place += 1;
     }
     Ok((leads, couriers))
+}
+
+/// Each route parts: its hand goes to its thread with the side at its place, and the gate at its place in this list.
+pub(crate) fn part_all<S: Drop, G: Drop>(
+    alloc: Global,
+    lanes: Vec<Lane>,
+    seats: &mut [Option<S>],
+    gates: Vec<G>,
+) -> Result<(Vec<Lead>, Vec<Courier<S, G>>), AllocError>
+    requires sides { AreThere (length lanes.items) seats.old }
+    requires gates { length gates.items ≡ length lanes.items }
+    ensures parted { IfOk result (λ made. HaveParted seats.old (map Some gates.items) lanes.items made.0.items
+        made.1.items) }
+    ensures gates { IfOk result (λ made. HaveGates gates.items made.1.items) }
+    ensures leaves { OnOk result (LeavesBehind (length lanes.items) seats.old seats.new) }
+{
+    let mut gates = placed(alloc, gates)?;
+    part(alloc, lanes, seats, gates.as_mut_slice())
 }
 
 /// The lead at a place.

@@ -12,8 +12,8 @@ use lib.ListN.{get_elem?}
 use lib.Seq.{set-get_or}
 use Rattle.atomic_table.specs.Table.{State, step, keeps, Allows, Splits, opening}
 use Rattle.atomic_table.proofs.Lists.{at_set}
-use Rattle.gw_threads.specs.Clocks.{word_of, Knows, Kept, first_pacer, one_of, rest_of, watcher_of, clock_of, looked_at}
-use Rattle.gw_threads.specs.Clocks.{ticked, MayTick, Looks, Ticks, Stays}
+use Rattle.gw_threads.specs.Clocks.{word_of, Knows, Kept, first_pacer, one_of, rest_of, lender_of, watcher_of, clock_of}
+use Rattle.gw_threads.specs.Clocks.{looked_at, ticked, with_stop, with_warning, MayTick, Looks, Ticks, Stops, Watches}
 use Rattle.gw_threads.specs.declared.views.Pace.{Pace}
 use Rattle.gw_threads.specs.declared.views.Pacer.{Pacer}
 
@@ -63,54 +63,74 @@ looks-keep p slots id i v s k long me fits = let w = looked_at v i (get_or s.wor
               seen = λ q l. seen_set v.seen s.words i q (g.seen q l);
               mine = g.mine;
               few = g.few;
+              told = g.told;
             }) e;
       }),
   λ j e. ap (λ q. clock_of (looked_at v q (get_or s.words (word_of i) 0))) (same_clock i j e),
 )
 
--- a look at the stop word, or at any other, which the seat forgets
+-- a look at the stop word, or at any other
 pub watches-keep : (p : Pace) (slots id i : ℕ) (v : Pacer) →
-    Allows (Kept p) slots id (clock_of v) i (λ n. n) (Stays (step slots i 0 0 none) (clock_of v))
-watches-keep p slots id i v s k long me fits = (
-  v,
-  keeps,
-  tt,
-  subst (λ (ws : List ℕ). Kept p (record { words = ws; homes = s.homes; views = set s.views id v }))
-      (sym (set-get_or s.words i 0)) (record {
-        owner = k.owner;
-        wide = k.wide;
-        pace = k.pace;
-        done = k.done;
-        short = k.short;
-        knows = λ j u e. knows_on p k.owner s.words s.views id j v u (λ j u a n. k.knows j u a) (k.knows id v me) e;
+    Allows (Kept p) slots id (clock_of v) i (λ n. n) (Watches (step slots i 0 0 none) (clock_of v))
+watches-keep p slots id i v s k long me fits = dite (ℕ_discrete (get_or s.words i 0) 0)
+    (λ e. (v, keeps, tt, kept v (k.knows id v me), record { unset = λ _. refl; set = λ n. absurd (n e) }))
+    (λ n. (
+      with_warning v,
+      keeps,
+      tt,
+      kept (with_warning v) (let g = k.knows id v me in record {
+        seen = g.seen;
+        mine = g.mine;
+        few = g.few;
+        told = g.told;
       }),
-  refl,
-)
+      record { unset = λ e. absurd (n e); set = λ _. refl },
+    ))
+  where
+    kept : (w : Pacer) → Knows p k.owner s.words id w →
+        Kept p (record { words = set s.words i (get_or s.words i 0); homes = s.homes; views = set s.views id w })
+    kept w knows = subst (λ (ws : List ℕ). Kept p (record { words = ws; homes = s.homes; views = set s.views id w }))
+        (sym (set-get_or s.words i 0)) (record {
+          owner = k.owner;
+          wide = k.wide;
+          pace = k.pace;
+          done = k.done;
+          short = k.short;
+          knows = λ j u e. knows_on p k.owner s.words s.views id j w u (λ j u a n. k.knows j u a) knows e;
+        })
 
--- the stop word is no clock
-pub stops-keep : (p : Pace) (slots id n : ℕ) (v : Pacer) →
-    Allows (Kept p) slots id (clock_of v) (word_of p.segments) (λ _. n)
-    (λ _. Stays (step slots (word_of p.segments) n 0 none) (clock_of v) n)
-stops-keep p slots id n v s k long me fits =
-    let ws = set s.words (word_of p.segments) n in
+-- the stop word is no clock, and is set behind that
+pub stops-keep : (p : Pace) (slots id : ℕ) (v : Pacer) →
+    Allows (Kept p) slots id (clock_of v) (word_of p.segments) (λ _. 1)
+    (λ _. Stops (step slots (word_of p.segments) 1 0 none) (clock_of v) 1)
+stops-keep p slots id v s k long me fits =
+    let ws = set s.words (word_of p.segments) 1 in
     let else : (j : ℕ) → j < p.segments → get_or ws (word_of j) 0 ≡ get_or s.words (word_of j) 0 =
-    λ j l. get_or-set_other s.words (word_of p.segments) (word_of j) n 0 (λ e. omega arith) in
+    λ j l. get_or-set_other s.words (word_of p.segments) (word_of j) 1 0 (λ e. omega arith) in
+    let at : get_or ws (word_of p.segments) 0 ≡ 1 =
+    get_or-set_same s.words (word_of p.segments) 1 0 (let w = k.wide in omega arith) in
     let same : (j : ℕ) (u : Pacer) → Knows p k.owner s.words j u → Knows p k.owner ws j u = λ j u g. record {
       seen = λ q l. let o = g.seen q l in let a = else q l in omega arith;
       mine = λ q a b. let m = g.mine q a b in let few = g.few in (m.0, else q (omega arith) ∙ m.1);
       few = g.few;
+      told = λ _. at;
+    } in
+    let mine : Knows p k.owner ws id (with_stop v) = let g = same id v (k.knows id v me) in record {
+      seen = g.seen;
+      mine = g.mine;
+      few = g.few;
+      told = λ _. at;
     } in (
-      v,
+      with_stop v,
       keeps,
       tt,
       record {
         owner = k.owner;
-        wide = length-set s.words (word_of p.segments) n ∙ k.wide;
+        wide = length-set s.words (word_of p.segments) 1 ∙ k.wide;
         pace = λ a b la lb. let o = k.pace a b la lb in let x = else a la in let y = else b lb in omega arith;
         done = λ a la. let o = k.done a la in let x = else a la in omega arith;
         short = k.short;
-        knows = λ j u e. knows_on p k.owner ws s.views id j v u (λ j u a n. same j u (k.knows j u a))
-            (same id v (k.knows id v me)) e;
+        knows = λ j u e. knows_on p k.owner ws s.views id j (with_stop v) u (λ j u a n. same j u (k.knows j u a)) mine e;
       },
       refl,
     )
@@ -132,6 +152,8 @@ ticks-keep p slots id bits v inside may s k long me fits =
     let rises : (j : ℕ) → get_or s.words (word_of j) 0 ≤ get_or ws (word_of j) 0 =
     λ j. dite (ℕ_discrete j i) (λ e. subst (λ (q : ℕ). get_or s.words (word_of q) 0 ≤ get_or ws (word_of q) 0) (sym e)
     (omega arith)) (λ a. let g = else j a in omega arith) in
+    let stop : get_or ws (word_of p.segments) 0 ≡ get_or s.words (word_of p.segments) 0 =
+    else p.segments (λ e. omega arith) in
     let w = ticked bits v in (
       w,
       keeps,
@@ -157,12 +179,14 @@ ticks-keep p slots id bits v inside may s k long me fits =
                   mine = λ q b c. let m =
                       g.mine q b c in (m.0, else q (λ f. apart (sym m.0 ∙ ap k.owner f ∙ mine.0)) ∙ m.1);
                   few = g.few;
+                  told = λ t. stop ∙ g.told t;
                 })
                 (let g = k.knows id v me in record {
                   seen = λ q l. let o = g.seen q l in let h = rises q in omega arith;
                   mine = λ q b c. let m = g.mine q b c in let one = may.one in let f : q ≡ i = omega arith in
                       (m.0, ap (λ q. get_or ws (word_of q) 0) f ∙ at ∙ ap (λ x. x + bits) is);
                   few = g.few;
+                  told = λ t. stop ∙ g.told t;
                 })
                 e;
           }),
@@ -206,12 +230,14 @@ deals-keep p id v some_left s k me =
             mine = λ q b c. let m = o.mine q b c in
                 (given_else k.owner v.first n q (λ f. apart (sym m.0 ∙ ap k.owner f ∙ first.0)) ∙ m.0, m.1);
             few = o.few;
+            told = o.told;
           })
           (record {
             seen = g.seen;
             mine = λ q b c. let m =
                 g.mine q (omega arith) c in (given_else k.owner v.first n q (λ f. omega arith) ∙ m.0, m.1);
             few = g.few;
+            told = g.told;
           })
           old)
           (λ (t : (j ≡ n) × (one_of v ≡ u)). subst (λ (x : ℕ × Pacer). Knows p owner s.words x.0 x.1)
@@ -220,11 +246,13 @@ deals-keep p id v some_left s k me =
             mine = λ q b c. let f : q ≡ v.first =
                 omega arith in (given_here k.owner v.first n q f, ap (λ x. get_or s.words (word_of x) 0) f ∙ first.1);
             few = let few = g.few in omega arith;
+            told = λ t. cc t;
           }))
           (at_end (set s.views id (rest_of v)) (one_of v) u j e);
     }
 
-pub lends-keep : (p : Pace) (id : ℕ) (v : Pacer) → Splits {S = Unit {0}} (Kept p) id v v (watcher_of v)
+pub lends-keep : (p : Pace) (id : ℕ) (v : Pacer) →
+    Splits {S = Unit {0}} (Kept p) id v (lender_of v) (watcher_of v)
 lends-keep p id v s k me = let g = k.knows id v me in record {
   owner = k.owner;
   wide = k.wide;
@@ -232,14 +260,20 @@ lends-keep p id v s k me = let g = k.knows id v me in record {
   done = k.done;
   short = k.short;
   knows = λ j u e. ⊎_elim
-      (λ old. knows_on p k.owner s.words s.views id j v u (λ j u a apart. k.knows j u a) g old)
-      (λ (t : (j ≡ length (set s.views id v)) × (watcher_of v ≡ u)). subst
+      (λ old. knows_on p k.owner s.words s.views id j (lender_of v) u (λ j u a apart. k.knows j u a) (record {
+        seen = g.seen;
+        mine = g.mine;
+        few = g.few;
+        told = g.told;
+      }) old)
+      (λ (t : (j ≡ length (set s.views id (lender_of v))) × (watcher_of v ≡ u)). subst
       (λ (w : Pacer). Knows p k.owner s.words j w) t.1 (record {
         seen = g.seen;
         mine = λ q b c. absurd (omega arith);
         few = omega arith;
+        told = λ t. cc t;
       }))
-      (at_end (set s.views id v) (watcher_of v) u j e);
+      (at_end (set s.views id (lender_of v)) (watcher_of v) u j e);
 }
 
 -- the table at the start: all clocks at 0, and one seat that ticks them all
@@ -259,6 +293,7 @@ begins p ws e short =
             (omega arith);
         mine = λ j a b. (refl, zeros j b);
         few = omega arith;
+        told = λ t. cc t;
       });
     }
   where

@@ -1,6 +1,9 @@
 //! A seat at the clock table of a run.
-ghost use Rattle.std.specs.Prelude.{◌≡◌, ◌⊎◌, ◌↔◌, ℕ, ◌+◌, ◌-◌, ◌/◌, ◌<◌, ◌≤◌, ◌^◌, IfOk, OnOk, IsTrue, slice_index};
-ghost use Rattle.gw_threads.specs.Clocks.{first_pacer, one_of, rest_of, watcher_of, ticked, MayTick, MayGo, SameClocks};
+ghost use Rattle.std.specs.Prelude.{◌≡◌, ◌⊎◌, ◌↔◌, ◌+◌, ◌-◌, ◌/◌, ◌<◌, ◌≤◌, ◌^◌, IfOk, IfErr, OnOk, OnErr, IsTrue};
+ghost use Rattle.std.specs.Prelude.{true, false};
+ghost use Rattle.gw_threads.specs.Clocks.{first_pacer, one_of, rest_of, lender_of, watcher_of, ticked, with_stop, with_warning};
+ghost use Rattle.gw_threads.specs.Clocks.{MayTick, MayGo, SameClocks, SeesAllDone};
+ghost use Rattle.gw_threads.specs.declared.thread_fault.ThreadFault.TheVariants.{Memory};
 
 use crate::clock_steps::{ClockTable, Seat, deal, lend, look, stop, tick, watch, word_of};
 use crate::thread_fault::ThreadFault;
@@ -10,10 +13,10 @@ use std::marker::Model;
 use std::sync::Arc;
 
 /// A seat at the clock table of a run, which the threads of that run share: a clock for each segment, the number of
-/// bits that it made, and a stop word. A thread's seat is let go where the thread ends, and the table with the last
-/// seat.
+/// bits that it made, and a stop word. A thread's seat is dropped where the thread ends, and the table with the last
+/// seat. Contracts see what the table is for, and what the seat knows.
 #[derive(Drop)]
-pub(crate) struct ClockSeat {
+pub struct ClockSeat {
     clocks: Arc<ClockTable, Global>,
     seat: Seat,
     pace: Pace,
@@ -61,6 +64,7 @@ impl ClockSeat {
         requires short { pace.bits < 2 ^ 32 }
         ensures pace { IfOk result (λ made. made.pace ≡ pace) }
         ensures view { IfOk result (λ made. made.view ≡ first_pacer pace) }
+        ensures err { IfErr result (λ fault. fault ≡ Memory) }
     {
         match clocks_for(alloc, pace) {
             Ok(seat) => Ok(seat),
@@ -75,6 +79,7 @@ impl ClockSeat {
         ensures one { IfOk result (λ made. made.view ≡ one_of self.old.view) }
         ensures same { self.new.pace ≡ self.old.pace }
         ensures rest { OnOk result (self.new.view ≡ rest_of self.old.view) }
+        ensures err { IfErr result (λ fault. fault ≡ Memory) }
     {
         let Ok(clocks) = Arc::try_clone(&self.clocks) else {
             return Err(ThreadFault::Memory);
@@ -94,7 +99,9 @@ impl ClockSeat {
     pub(crate) fn lend(&mut self) -> Result<ClockSeat, ThreadFault>
         ensures pace { IfOk result (λ made. made.pace ≡ self.old.pace) }
         ensures watcher { IfOk result (λ made. made.view ≡ watcher_of self.old.view) }
-        ensures stays { self.new ≡ self.old }
+        ensures same { self.new.pace ≡ self.old.pace }
+        ensures lender { OnOk result (self.new.view ≡ lender_of self.old.view) }
+        ensures err { IfErr result (λ fault. fault ≡ Memory) }
     {
         let Ok(clocks) = Arc::try_clone(&self.clocks) else {
             return Err(ThreadFault::Memory);
@@ -117,18 +124,24 @@ impl ClockSeat {
         tick(&self.clocks, &mut self.seat, self.first, bits);
     }
 
-    /// All threads of the run are to stop.
+    /// Sets the stop word: all threads of the run are to stop.
     pub(crate) fn stop(&mut self)
-        ensures { self.new ≡ self.old }
+        ensures same { self.new.pace ≡ self.old.pace }
+        ensures stopping { self.new.view ≡ with_stop self.old.view }
     {
         stop(&self.clocks, &mut self.seat, self.pace.segments);
     }
 
-    /// Whether a thread is to stop.
+    /// Whether the stop word is set. One look at it.
     pub(crate) fn is_stopped(&mut self) -> bool
-        ensures { self.new ≡ self.old }
+        ensures same { self.new.pace ≡ self.old.pace }
+        ensures unset { result ≡ false → self.new ≡ self.old }
+        ensures set { result ≡ true → self.new.view ≡ with_warning self.old.view }
     {
-        watch(&self.clocks, &mut self.seat, self.pace.segments) != 0
+        if watch(&self.clocks, &mut self.seat, self.pace.segments) == 0 {
+            return false;
+        }
+        true
     }
 
     /// How far the seat's clock may go by what it now sees of the others: within the slack of each of them, and to the
@@ -157,9 +170,8 @@ impl ClockSeat {
 
     /// Whether all clocks were seen at the run's bits.
     pub(crate) fn all_done(&mut self) -> bool
-        ensures same { self.new.pace ≡ self.old.pace }
-        ensures done { IsTrue result → (j : ℕ) → j < self.old.pace.segments
-            → self.old.pace.bits ≤ slice_index self.new.view.seen j }
+        ensures same { SameClocks self.old self.new }
+        ensures done { result ≡ true → SeesAllDone self.new }
     {
         for segment in 0..self.pace.segments {
             let made = look(&self.clocks, &mut self.seat, segment);

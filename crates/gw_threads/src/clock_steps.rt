@@ -1,7 +1,7 @@
 //! The steps on the words of the clock table.
-ghost use Rattle.std.specs.Prelude.{◌≡◌, ◌+◌, ◌<◌, ◌≤◌};
+ghost use Rattle.std.specs.Prelude.{◌≡◌, ◌≢◌, ◌+◌, ◌<◌, ◌≤◌};
 ghost use Rattle.gw_threads.specs.Clocks.{word_of, clock_of, pacer_of, looked_at, ticked, one_of, rest_of, watcher_of};
-ghost use Rattle.gw_threads.specs.Clocks.{MayTick, IsAtTable};
+ghost use Rattle.gw_threads.specs.Clocks.{lender_of, with_stop, with_warning, MayTick, IsAtTable};
 
 use crate::plays::{Deal, Lend, Look, Paced, Stop, Tick, Watch};
 use crate::views::{Pace, Pacer};
@@ -49,24 +49,25 @@ pub(crate) fn tick(clocks: &ClockTable, seat: &mut Seat, segment: usize, bits: u
         .fetch_add::<Tick>(seat, word_of(segment), bits);
 }
 
-/// Sets the stop word, which stands behind the clocks.
+/// Sets the stop word, which comes after the clocks.
 pub(crate) fn stop(clocks: &ClockTable, seat: &mut Seat, behind: usize)
     requires table { IsAtTable clocks.now.shared.table_id clocks.now.shared.key seat.old.table_id seat.old.me }
     requires behind { clocks.now.shared.key.segments ≡ behind }
     requires few { behind ≤ 8 }
     ensures table { seat.new.table_id ≡ seat.old.table_id }
-    ensures stays { seat.new.me ≡ seat.old.me }
+    ensures stopping { seat.new.me ≡ clock_of (with_stop (pacer_of seat.old.me)) }
 {
     clocks.shared.store::<Stop>(seat, word_of(behind), 1);
 }
 
-/// One look at the stop word, which stands behind the clocks.
+/// One look at the stop word, which comes after the clocks.
 pub(crate) fn watch(clocks: &ClockTable, seat: &mut Seat, behind: usize) -> u64
     requires table { IsAtTable clocks.now.shared.table_id clocks.now.shared.key seat.old.table_id seat.old.me }
     requires behind { clocks.now.shared.key.segments ≡ behind }
     requires few { behind ≤ 8 }
     ensures table { seat.new.table_id ≡ seat.old.table_id }
-    ensures stays { seat.new.me ≡ seat.old.me }
+    ensures unset { result ≡ 0 → seat.new.me ≡ seat.old.me }
+    ensures set { result ≢ 0 → seat.new.me ≡ clock_of (with_warning (pacer_of seat.old.me)) }
 {
     clocks.shared.load::<Watch>(seat, word_of(behind))
 }
@@ -88,7 +89,7 @@ pub(crate) fn lend(clocks: &ClockTable, seat: &mut Seat) -> Seat
     requires table { IsAtTable clocks.now.shared.table_id clocks.now.shared.key seat.old.table_id seat.old.me }
     ensures table { seat.new.table_id ≡ seat.old.table_id }
     ensures theirs { result.table_id ≡ seat.old.table_id }
-    ensures stays { seat.new.me ≡ seat.old.me }
+    ensures lender { seat.new.me ≡ clock_of (lender_of (pacer_of seat.old.me)) }
     ensures watcher { result.me ≡ clock_of (watcher_of (pacer_of seat.old.me)) }
 {
     clocks.shared.split_seat::<Lend>(seat)

@@ -15,5 +15,6 @@ mod thread_fault;
 mod threads;
 mod views;
 
+pub use crate::clock_seat::ClockSeat;
 pub use crate::thread_fault::ThreadFault;
 pub use crate::threads::run_in_threads;

@@ -1,5 +1,6 @@
 //! The rule of the clock table, and the names of its steps.
-ghost use Rattle.gw_threads.specs.Clocks.{Kept, first_pacer, one_of, rest_of, watcher_of, Looks, Ticks, Stays};
+ghost use Rattle.gw_threads.specs.Clocks.{Kept, first_pacer, one_of, rest_of, lender_of, watcher_of};
+ghost use Rattle.gw_threads.specs.Clocks.{Looks, Ticks, Stops, Watches};
 
 use crate::views::{Pace, Pacer};
 use atomic_table::{Play, Split, TableRule};
@@ -31,14 +32,14 @@ impl Play<(), Pacer> for Tick {
 pub struct Stop;
 
 impl Play<(), Pacer> for Stop {
-    ghost then = { Stays };
+    ghost then = { Stops };
 }
 
 /// A look at the stop word.
 pub struct Watch;
 
 impl Play<(), Pacer> for Watch {
-    ghost then = { Stays };
+    ghost then = { Watches };
 }
 
 /// Cuts off the first of a seat's clocks.
@@ -54,7 +55,7 @@ impl Split<Pacer> for Deal {
 pub struct Lend;
 
 impl Split<Pacer> for Lend {
-    ghost left = { λ v. v };
+    ghost left = { lender_of };
 
     ghost right = { watcher_of };
 }

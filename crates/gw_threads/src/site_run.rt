@@ -1,11 +1,13 @@
 //! The bits of a segment in its thread.
 
-ghost use Rattle.std.specs.Prelude.{◌≡◌, ◌<◌, ◌≤◌, ℕ, OnOk, IfOk};
+ghost use Rattle.std.specs.Prelude.{◌≡◌, ◌<◌, ◌≤◌, ℕ, true, OnOk, OnErr, IfOk, IfErr};
 ghost use Rattle.gw_site.specs.Sites.{SegmentRuns, SiteRuns, IsNewSegment, IsNewSite};
 ghost use Rattle.gw_threads.specs.Clocks.{TicksAt, MayGo, SameClocks};
+ghost use Rattle.gw_threads.specs.declared.thread_fault.ThreadFault.TheVariants.{Memory};
 
 use crate::clock_seat::ClockSeat;
 use crate::thread_fault::ThreadFault;
+use crate::views::Pace;
 use can_segment::{RxSink, Segment};
 use gw_site::{Site, make_bits};
 use std::hint::spin_loop;
@@ -17,7 +19,7 @@ const LOOKS: u32 = 64;
 
 /// How far the clock may go, which is beyond `made`: as far as it may anyway, or what the others let it once they have
 /// come so far. Where it waits for them, it does so until half of the slack is free, so that it need not wait again at
-/// the next bit. `Memory` where a stop is called meanwhile.
+/// the next bit. `Memory` only where the stop word was seen set meanwhile.
 fn wait_for_others<R: Wait>(
     rt: &R,
     clock: &mut ClockSeat,
@@ -25,7 +27,9 @@ fn wait_for_others<R: Wait>(
     limit: u64,
 ) -> Result<u64, ThreadFault>
     requires { MayGo limit clock.old }
-    ensures same { SameClocks clock.old clock.new }
+    ensures same { OnOk result (SameClocks clock.old clock.new) }
+    ensures warned { OnErr result (clock.new.view.warned ≡ true) }
+    ensures err { IfErr result (λ fault. fault ≡ Memory) }
     ensures further { IfOk result (λ limit. made < limit) }
     ensures go { IfOk result (λ limit. MayGo limit clock.new) }
 {
@@ -52,25 +56,26 @@ fn wait_for_others<R: Wait>(
     unreachable!()
 }
 
-/// All bits of a segment with its controllers, unless a stop is called. Behind each bit come those that need no port,
-/// as far as the clock may go, and then it goes on by all of them. The other clocks are looked at only where it has
-/// come as far as it may go.
+/// Simulates all bits of a segment with its controllers, unless the stop word is seen set: then no bit more is simulated.
+/// After each bit come those that need no port, as far as the clock may go, and then it goes on by all of them. The other
+/// clocks are looked at only where it has come as far as it may go.
 fn make_all_bits<R: Wait, P: RxSink<R>>(
     rt: &R,
     segment: &mut Segment,
     ports: &mut [P],
-    bits: u32,
+    pace: Pace,
     clock: &mut ClockSeat,
 ) -> Result<(), ThreadFault>
-    requires new { IsNewSegment P.bus_after P.transmitting P.sink_after bits segment.old ports.old }
-    requires clock { TicksAt bits 0 clock.old }
+    requires new { IsNewSegment P.bus_after P.transmitting P.sink_after pace.bits segment.old ports.old }
+    requires clock { TicksAt pace 0 clock.old }
     ensures runs { OnOk result (SegmentRuns P.bus_after P.transmitting P.sink_after P.port_stays segment.old
         segment.new ports.old ports.new) }
-    ensures clock { OnOk result (TicksAt bits bits clock.new) }
+    ensures clock { OnOk result (TicksAt pace pace.bits clock.new) }
+    ensures err { IfErr result (λ fault. fault ≡ Memory) }
 {
     let mut made = 0u64;
     let mut limit = 0u64;
-    while made < u64::from(bits) {
+    while made < pace.bits {
         if clock.is_stopped() {
             return Err(ThreadFault::Memory);
         }
@@ -84,23 +89,26 @@ fn make_all_bits<R: Wait, P: RxSink<R>>(
     Ok(())
 }
 
-/// The whole run of a segment. Where it fails, all threads are to stop.
+/// Runs a segment. Where it fails, and only there, it sets the stop word, so that all threads stop.
 pub(crate) fn run_site<R: Wait, P: RxSink<R> + Drop>(
     rt: &R,
     mut site: Site<P>,
-    bits: u32,
-    mut clock: ClockSeat,
+    pace: Pace,
+    clock: &mut ClockSeat,
 ) -> Result<Site<P>, ThreadFault>
-    requires new { IsNewSite P.bus_after P.transmitting P.sink_after bits site }
-    requires clock { TicksAt bits 0 clock }
-    ensures { IfOk result (SiteRuns P.bus_after P.transmitting P.sink_after P.port_stays site) }
+    requires new { IsNewSite P.bus_after P.transmitting P.sink_after pace.bits site }
+    requires clock { TicksAt pace 0 clock.old }
+    ensures runs { IfOk result (SiteRuns P.bus_after P.transmitting P.sink_after P.port_stays site) }
+    ensures clock { OnOk result (TicksAt pace pace.bits clock.new) }
+    ensures stop { OnErr result (clock.new.view.stopped ≡ true) }
+    ensures err { IfErr result (λ fault. fault ≡ Memory) }
 {
     let made = make_all_bits(
         rt,
         &mut site.segment,
         site.ports.as_mut_slice(),
-        bits,
-        &mut clock,
+        pace,
+        clock,
     );
     match made {
         Ok(()) => Ok(site),

@@ -1,9 +1,9 @@
-//! Why not all threads made what they were to make.
+//! Why a run in threads gave no result.
 
-/// Why not all threads made what they were to make.
+/// Why a run in threads gave no result.
 #[derive(Clone, Copy, Debug, PartialEq, Eq)]
 pub enum ThreadFault {
-    /// A growth was refused.
+    /// An allocation failed.
     Memory,
     /// A thread could not be started.
     Spawn,

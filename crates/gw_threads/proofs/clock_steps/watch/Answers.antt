@@ -1,7 +1,7 @@
 use Rattle.std.proofs.Common.{sym, subst, arith}
 use mathlib.Core.Option.{none}
 use Rattle.atomic_table.specs.Table.{Me, step, Allows}
-use Rattle.gw_threads.specs.Clocks.{Kept, Stays, pacer_of}
+use Rattle.gw_threads.specs.Clocks.{Kept, Watches, pacer_of}
 use Rattle.gw_threads.specs.declared.views.Pacer.{Pacer}
 use Rattle.gw_threads.proofs.Pacing.{watches-keep}
 use Rattle.gw_threads.proofs.clock_steps.watch.Goals as goal
@@ -13,6 +13,6 @@ load-requires c = let h = c.args.clocks.now.shared in let t = h.table_id in let 
       c.requires.table.same,
       omega arith,
       subst (λ (m : Me (Unit {0}) Pacer). Allows (Kept h.key) t.slots id m i (λ n. n)
-          (Stays (step t.slots i 0 0 none) m)) (sym c.requires.table.alone)
+          (Watches (step t.slots i 0 0 none) m)) (sym c.requires.table.alone)
           (watches-keep h.key t.slots id i (pacer_of c.args.seat.now.me)),
     )

@@ -1,4 +1,5 @@
-use Rattle.std.proofs.Common.{◌++◌, ◌∷◌, [], arith, Ok, subst, sym, length-append}
+-- The threads that were joined are those in front.
+use Rattle.std.proofs.Common.{◌≡◌, ◌++◌, ◌∷◌, [], ap, arith, length, Ok, subst, sym, length-append}
 use Rattle.std.specs.Vec.Iter.{into_iter_items}
 use Rattle.gw_site.specs.Pairs.{Pairs}
 use Rattle.gw_site.proofs.Pairs.{pairs_more}
@@ -8,13 +9,37 @@ use Rattle.gw_threads.proofs.joining.join_all.Goals as goal
 pub loop-thread-preserved-in-Ok : goal.loop-thread-preserved-in-Ok
 loop-thread-preserved-in-Ok g c =
     let l = c.loop-thread in
+    let was = l.invariant.1 in
     let pushed = c.push_reserved.ensures in (
-      walked l.yielded c.in-Some.thread (into_iter_items c.next.new.self) (into_iter_items l.thread-iterator)
-          (into_iter_items c.into_iter-thread-iterator.result) l.invariant.0 c.in-Some.ensures.steps.0,
-      omega (arith, pushed.len, l.invariant.1, length-append l.yielded (c.in-Some.thread ∷ [])),
-      omega (arith, pushed.capacity, l.invariant.2),
-      (λ fine. subst (Pairs (λ k thread one. g.P.Promise.kept_by thread.promise (Ok one))
-          (l.yielded ++ c.in-Some.thread ∷ [])) (sym pushed.items)
-          (pairs_more (λ k thread one. g.P.Promise.kept_by thread.promise (Ok one)) l.yielded l.made.items
-          c.in-Some.thread c.in-Ok.one c.in-Ok.ensures (l.invariant.3 fine))),
+      omega (arith, pushed.capacity, l.invariant.0),
+      (
+        was.0 ++ c.in-Some.thread ∷ [],
+        walked was.0 c.in-Some.thread (into_iter_items c.next.new.self) (into_iter_items l.left)
+            (into_iter_items c.into_iter-left.result) was.1 c.in-Some.ensures.cases.0,
+        omega (
+          arith,
+          ap length pushed.items,
+          length-append l.made.items (c.in-Ok.one ∷ []),
+          was.2,
+          length-append was.0 (c.in-Some.thread ∷ []),
+        ),
+        (λ fine. subst (Pairs (λ k thread one. g.P.Promise.kept_by thread.handle.promise (Ok one))
+            (was.0 ++ c.in-Some.thread ∷ [])) (sym pushed.items)
+            (pairs_more (λ k thread one. g.P.Promise.kept_by thread.handle.promise (Ok one)) was.0 l.made.items
+            c.in-Some.thread c.in-Ok.one c.in-Ok.ensures (was.3 fine))),
+      ),
+    )
+
+pub loop-thread-preserved : goal.loop-thread-preserved
+loop-thread-preserved g c =
+    let l = c.loop-thread in
+    let was = l.invariant.1 in (
+      l.invariant.0,
+      (
+        was.0 ++ c.in-Some.thread ∷ [],
+        walked was.0 c.in-Some.thread (into_iter_items c.next.new.self) (into_iter_items l.left)
+            (into_iter_items c.into_iter-left.result) was.1 c.in-Some.ensures.cases.0,
+        omega (arith, was.2, length-append was.0 (c.in-Some.thread ∷ [])),
+        (λ e. absurd (cc e)),
+      ),
     )

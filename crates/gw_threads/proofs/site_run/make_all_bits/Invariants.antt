@@ -9,9 +9,9 @@ invariant-loop-made g l =
     × (l.segment.plan ≡ l.initial.segment.plan)
     × (length l.segment.levels ≡ l.made)
     × PortsLeave g.P.RxSink.port_stays l.initial.ports l.ports
-    × TicksAt l.bits l.made l.clock
+    × TicksAt l.pace l.made l.clock
     × MayGo l.limit l.clock
-    × (l.made ≤ l.bits)
+    × (l.made ≤ l.pace.bits)
 
 abbrev pub decreases-loop-made : goal.decreases-loop-made
-decreases-loop-made g l = l.bits - l.made
+decreases-loop-made g l = l.pace.bits - l.made

@@ -3,8 +3,8 @@ use Rattle.gw_site.specs.Sites.{SegmentRuns}
 use Rattle.can_segment.proofs.Shown.{put_back}
 use Rattle.gw_threads.proofs.site_run.run_site.Goals as goal
 
-pub returns-in-Ok : goal.returns-in-Ok
-returns-in-Ok g c =
+pub returns-in-Ok-clause-runs : goal.returns-in-Ok-clause-runs
+returns-in-Ok-clause-runs g c =
     let runs = c.in-Ok.ensures.runs in
     let ports = c.args.site.ports in
     let size : length c.make_all_bits-made.new.ports ≡ length ports.items =

@@ -10,7 +10,8 @@ abbrev pub invariant-loop-site : goal.invariant-loop-site
 invariant-loop-site g l =
     (l.yielded ++ into_iter_items l.site-iterator ≡ into_iter_items l.initial.site-iterator)
     × (length (into_iter_items l.initial.site-iterator) ≤ vec_capacity l.threads)
-    × Each (IsNewSite g.P.TxBus.bus_after g.P.TxBus.transmitting g.P.RxSink.sink_after l.bits)
+    × Each (IsNewSite g.P.TxBus.bus_after g.P.TxBus.transmitting g.P.RxSink.sink_after l.pace.bits)
     (into_iter_items l.initial.site-iterator)
-    × Deals l.bits (length l.yielded) (length (into_iter_items l.initial.site-iterator)) l.clock
-    × Pairs (λ k site thread. thread.promise.start.value ≡ site) l.yielded l.threads.items
+    × Deals l.pace (length l.yielded) l.clock
+    × (l.pace.segments ≡ length (into_iter_items l.initial.site-iterator))
+    × Pairs (λ k site thread. thread.handle.promise.start.value ≡ site) l.yielded l.threads.items

@@ -16,6 +16,9 @@ invariant-loop-segment l =
     × ((pacer_of l.self-inside.seat.me).first ≡ (pacer_of l.initial.self-inside.seat.me).first)
     × ((pacer_of l.self-inside.seat.me).end ≡ (pacer_of l.initial.self-inside.seat.me).end)
     × ((pacer_of l.self-inside.seat.me).made ≡ (pacer_of l.initial.self-inside.seat.me).made)
+    × ((pacer_of l.self-inside.seat.me).lent ≡ (pacer_of l.initial.self-inside.seat.me).lent)
+    × ((pacer_of l.self-inside.seat.me).stopped ≡ (pacer_of l.initial.self-inside.seat.me).stopped)
+    × ((pacer_of l.self-inside.seat.me).warned ≡ (pacer_of l.initial.self-inside.seat.me).warned)
     × (l.limit ≤ l.self-inside.pace.bits)
     × ((j : ℕ) → j < l.segment → ¬ (j ≡ (pacer_of l.self-inside.seat.me).first) →
     l.limit ≤ slice_index (pacer_of l.self-inside.seat.me).seen j + l.self-inside.pace.slack)
