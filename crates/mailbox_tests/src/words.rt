@@ -25,6 +25,35 @@ fn two_routes_request_and_one_is_aborted(rt: HostRuntime) {
 }
 
 #[test]
+fn a_claim_is_withdrawn(rt: HostRuntime) {
+    assert_eq!(rt; with_claim(0, 0, 3), 0x0000_0061);
+    assert_eq!(rt; 0x0000_0061 & lane_mask(0), 0x0000_0000);
+}
+
+// An order bit is 0 where the lower of its two mailboxes has the older request.
+#[test]
+fn one_route_requests_in_each_mailbox(rt: HostRuntime) {
+    assert_eq!(rt; with_claim(0, 0, 0), 0x0000_0001);
+    assert_eq!(rt; with_request(0x0000_0001, 0, 0), 0x0300_0003);
+    assert_eq!(rt; with_claim(0x0300_0003, 1, 0), 0x0300_0103);
+    assert_eq!(rt; with_request(0x0300_0103, 1, 0), 0x0600_0303);
+    assert_eq!(rt; with_claim(0x0600_0303, 2, 0), 0x0601_0303);
+    assert_eq!(rt; with_request(0x0601_0303, 2, 0), 0x0003_0303);
+    assert_eq!(rt; oldest(0x0003_0303), Some(0));
+}
+
+// The oldest of three is sent, and the fourth request takes its mailbox: the second request is then the oldest.
+#[test]
+fn a_mailbox_is_used_again_after_it_was_sent(rt: HostRuntime) {
+    assert_eq!(rt; with_schedule(0x0003_0303, 0), 0x0003_0307);
+    assert_eq!(rt; with_start(0x0003_0307, 0), 0x0003_030F);
+    assert_eq!(rt; 0x0003_030F & lane_mask(0), 0x0003_0300);
+    assert_eq!(rt; with_claim(0x0003_0300, 0, 0), 0x0003_0301);
+    assert_eq!(rt; with_request(0x0003_0301, 0, 0), 0x0303_0303);
+    assert_eq!(rt; oldest(0x0303_0303), Some(1));
+}
+
+#[test]
 fn requests_are_counted_where_priority_is_by_identifier(rt: HostRuntime) {
     assert_eq!(rt; with_claim(0x0800_0000, 0, 2), 0x0800_0041);
     assert_eq!(rt; with_request(0x0800_0041, 0, 2), 0x1B00_0043);
