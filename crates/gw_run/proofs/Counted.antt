@@ -98,9 +98,10 @@ each_turned turn bits lanes report have told = reported lanes report.routes.item
         turns_told reports ≡ turns_made lanes → Each (λ (r : RouteReport). r.turns ≡ bits / turn) reports
     reported lanes [] have told = tt
     reported [] (r ∷ reports) have told = absurd (cons_not_nil _ _ told)
-    reported (lane ∷ lanes) (r ∷ reports) have told =
-        (first_same _ _ _ _ told ∙ have 0 lane refl,
-        reported lanes reports (λ k. have (suc k)) (rest_same _ _ _ _ told))
+    reported (lane ∷ lanes) (r ∷ reports) have told = (
+      first_same _ _ _ _ told ∙ have 0 lane refl,
+      reported lanes reports (λ k. have (suc k)) (rest_same _ _ _ _ told),
+    )
 
 -- a port of those behind a change of one: that one, or another
 port_before : (Change : Port → Port → Type 0) (old new : List Site) (there : Place)

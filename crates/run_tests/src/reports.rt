@@ -106,6 +106,7 @@ fn no_frames(alloc: Global) -> RouteReport {
         released: Vec::new(alloc),
         aborted: Vec::new(alloc),
         completed: Vec::new(alloc),
+        turns: 0,
     }
 }
 
@@ -177,6 +178,7 @@ fn each_kind_report(
         released: vec![in alloc; long, short, small]?,
         aborted: vec![in alloc; 1, 2, 3, 4]?,
         completed: vec![in alloc; entry(1, long)]?,
+        turns: 0,
     };
     Ok(Report {
         segments: vec![in alloc; record]?,

@@ -11,10 +11,11 @@ use std::test::Fail;
 
 /// Whether the counters at the end are these, node by node.
 fn counts_are(record: &Record, counts: &[(u16, u8, ErrorState)]) -> bool {
-    let all = record
-        .counters
-        .iter()
-        .map(|counters| (counters.tec(), counters.rec(), counters.state()));
+    let all = record.counters.iter().map(|counters| (
+        counters.tec(),
+        counters.rec(),
+        counters.state(),
+    ));
     all.eq(counts.iter().copied())
 }
 
@@ -67,7 +68,12 @@ fn an_error_at_the_last_bit_doubles_a_frame(rt: HostRuntime) -> Result<(), Fail>
             ]
             .as_slice()
     );
-    assert!(rt; counts_are(&record, &[(7, 0, ErrorState::Active), (0, 0, ErrorState::Active)]));
+    assert!(rt;
+        counts_are(
+            &record,
+            &[(7, 0, ErrorState::Active), (0, 0, ErrorState::Active)]
+        )
+    );
     Ok(())
 }
 
@@ -82,7 +88,11 @@ fn a_talker_alone_never_goes_off(rt: HostRuntime) -> Result<(), Fail> {
     let record = record_of(alloc, plan)?;
     let mut events = record.events.iter().copied();
     for k in 0..32u64 {
-        let start = if k < 16 { 11 + 59 * k } else { 963 + 67 * (k - 16) };
+        let start = if k < 16 {
+            11 + 59 * k
+        } else {
+            963 + 67 * (k - 16)
+        };
         assert!(rt; events.next() == Some(started(start, 0, frame)));
         if k < 31 {
             assert!(rt; events.next() == Some(errored(start + 41, 0, ErrorKind::Ack)));
