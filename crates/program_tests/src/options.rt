@@ -48,8 +48,8 @@ fn bit_and_identifier(words: &[&str], bit: usize, identifier: usize) -> Option<(
 }
 
 /// How many starts on `b` the report has, and whether each came no earlier than the slack allows: a segment makes a bit
-/// only where no other is more than the slack behind afterwards, so once a frame was taken at a bit of `a`, `b` has made
-/// that bit's number, one more, less the slack.
+/// only where no other is more than the slack behind afterwards. So once a frame was taken at bit t of `a`, `b` has made
+/// at least t + 1 bits less the slack.
 fn starts_within(alloc: Global, report: &str, slack: u64) -> Result<(usize, bool), Fail> {
     let mut taken = Vec::new(alloc);
     let mut starts = 0usize;
@@ -134,8 +134,8 @@ fn most_threads<R: Files + Threads + Wait + AllocGlobal + Copy + Send + Sync + '
     most
 }
 
-/// Runs the program until as many threads were seen as are wanted beside those that are there anyway, at most ten times.
-/// Whether there were just as many.
+/// Runs the program, at most ten times, until as many threads were seen as are wanted beside those that are there
+/// anyway. Returns whether there were never more.
 fn has_threads<R: Files + Threads + Wait + AllocGlobal + Copy + Send + Sync + 'static>(
     rt: &R,
     words: &[&str],

@@ -55,22 +55,22 @@ returns-in-Ok-Some-clause-run_file g c name file is words_are =
 pub returns-in-Err-clause-turns : goal.returns-in-Err-clause-turns
 returns-in-Err-clause-turns g c name n turn words_are =
     (let refused = c.refused_words.ensures.memory (c.in-Err.ensures.turns name n turn words_are) in
-    ends_without_memory _ _ _ _ _ refused.0 refused.1)
+    ends_without_memory (Run n) _ _ _ _ refused.0 refused.1)
 
 pub returns-in-Err-clause-threads : goal.returns-in-Err-clause-threads
 returns-in-Err-clause-threads g c name n some words_are =
     (let refused = c.refused_words.ensures.memory (c.in-Err.ensures.threads name n some words_are) in
-    ends_without_memory _ _ _ _ _ refused.0 refused.1)
+    ends_without_memory (RunThreads n 64) _ _ _ _ refused.0 refused.1)
 
 pub returns-in-Err-clause-core_file : goal.returns-in-Err-clause-core_file
 returns-in-Err-clause-core_file g c name file is words_are =
     (let refused = c.refused_words.ensures.memory (c.in-Err.ensures.core_file name file is words_are) in
-    ends_without_memory _ _ _ _ _ refused.0 refused.1)
+    ends_without_memory Core _ _ _ _ refused.0 refused.1)
 
 pub returns-in-Err-clause-run_file : goal.returns-in-Err-clause-run_file
 returns-in-Err-clause-run_file g c name file is words_are =
     (let refused = c.refused_words.ensures.memory (c.in-Err.ensures.run_file name file is words_are) in
-    ends_without_memory _ _ _ _ _ refused.0 refused.1)
+    ends_without_memory (Run 1) _ _ _ _ refused.0 refused.1)
 
 pub returns-in-Ok-None-clause-core_file : goal.returns-in-Ok-None-clause-core_file
 returns-in-Ok-None-clause-core_file g c name file is words_are =
@@ -83,19 +83,19 @@ returns-in-Ok-None-clause-run_file g c name file is words_are =
 pub returns-in-Err-clause-core : goal.returns-in-Err-clause-core
 returns-in-Err-clause-core g c name words_are =
     (let refused = c.refused_words.ensures.memory (c.in-Err.ensures.core name words_are) in
-    ends_without_memory _ _ _ _ _ refused.0 refused.1)
+    ends_without_memory Core _ _ _ _ refused.0 refused.1)
 
 pub returns-in-Err-clause-run : goal.returns-in-Err-clause-run
 returns-in-Err-clause-run g c name words_are =
     (let refused = c.refused_words.ensures.memory (c.in-Err.ensures.run name words_are) in
-    ends_without_memory _ _ _ _ _ refused.0 refused.1)
+    ends_without_memory (Run 1) _ _ _ _ refused.0 refused.1)
 
 pub returns-in-Err-clause-core_hyphen : goal.returns-in-Err-clause-core_hyphen
 returns-in-Err-clause-core_hyphen g c name words_are =
     (let refused = c.refused_words.ensures.memory (c.in-Err.ensures.core_hyphen name words_are) in
-    ends_without_memory _ _ _ _ _ refused.0 refused.1)
+    ends_without_memory Core _ _ _ _ refused.0 refused.1)
 
 pub returns-in-Err-clause-run_hyphen : goal.returns-in-Err-clause-run_hyphen
 returns-in-Err-clause-run_hyphen g c name words_are =
     (let refused = c.refused_words.ensures.memory (c.in-Err.ensures.run_hyphen name words_are) in
-    ends_without_memory _ _ _ _ _ refused.0 refused.1)
+    ends_without_memory (Run 1) _ _ _ _ refused.0 refused.1)
