@@ -1,13 +1,9 @@
-//! What the options of `run` do: how many threads run, and how far a segment gets ahead of another one.
+//! What the option `--slack` does: how far a segment gets ahead of another one.
 
 use crate::run::run_of;
 use std::alloc::{AllocError, Global};
-use std::fs::Files;
-use std::sync::Wait;
-use std::sync::atomic::{AtomicBool, Ordering};
+use std::str;
 use std::test::Fail;
-use std::thread::Threads;
-use std::{fs, str, thread};
 
 /// A script of two segments and a route from `a` to `b`. On `a` a talker sends 200 frames with other identifiers each,
 /// and on `b` fifteen talkers always have a frame of a lower priority to send, so that a bit of `b` takes longer.
@@ -96,76 +92,6 @@ fn starts_no_earlier_than_the_slack_allows(rt: HostRuntime) -> Result<(), Fail> 
         let (starts, all_within) = starts_within(rt.alloc(), report, slack)?;
         assert!(rt; starts > 0);
         assert!(rt; all_within);
-    }
-    Ok(())
-}
-
-/// How many threads this process has, by the kernel's account of it.
-fn threads_now<R: Files + AllocGlobal>(rt: &R) -> Option<u32> {
-    let status = fs::read_to_string(rt, "/proc/self/status").ok()?;
-    let (_, behind) = status.as_str().split_once("Threads:")?;
-    behind.split_whitespace().next()?.parse::<u32>().ok()
-}
-
-/// The most threads that this process had at once while the program ran with these words.
-fn most_threads<R: Files + Threads + Wait + AllocGlobal + Copy + Send + Sync + 'static>(
-    rt: &R,
-    words: &[&str],
-    script: &str,
-) -> u32 {
-    let ended = AtomicBool::new(false);
-    let (most, ()) = thread::join(
-        rt,
-        || {
-            let mut most = 0;
-            for _ in 0..1_000_000u32 {
-                if ended.load(Ordering::SeqCst) {
-                    break;
-                }
-                most = threads_now(rt).unwrap_or(0).max(most);
-            }
-            most
-        },
-        || {
-            let _run = run_of(rt, words, script.as_bytes());
-            ended.store(true, Ordering::SeqCst);
-        },
-    );
-    most
-}
-
-/// Runs the program, at most ten times, until as many threads were seen as are wanted beside those that are there
-/// anyway. Returns whether there were never more.
-fn has_threads<R: Files + Threads + Wait + AllocGlobal + Copy + Send + Sync + 'static>(
-    rt: &R,
-    words: &[&str],
-    script: &str,
-    wanted: u32,
-) -> bool {
-    let anyway = most_threads(rt, ["bxgate", "run"].as_slice(), script);
-    let mut most = 0;
-    for _ in 0..10u32 {
-        most = most.max(most_threads(rt, words, script));
-        if most >= anyway.saturating_add(wanted) {
-            break;
-        }
-    }
-    most == anyway.saturating_add(wanted)
-}
-
-#[test]
-fn runs_in_as_many_threads_as_are_asked_for(rt: HostRuntime) -> Result<(), Fail> {
-    // a thread for each of the two segments, and the workers
-    let script = uneven_script(rt.alloc(), 3_000)?;
-    for (workers, words) in [
-        (1u32, ["bxgate", "run", "--threads", "1"].as_slice()),
-        (5, ["bxgate", "run", "--threads", "5"].as_slice()),
-        (
-            16,
-            ["bxgate", "run", "--threads", "16", "--slack", "1"].as_slice(),
-        ),
-    ] {
-        assert!(rt; has_threads(&rt, words, script.as_str(), workers + 2));
     }
     Ok(())
 }
