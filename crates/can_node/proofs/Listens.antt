@@ -33,7 +33,7 @@ use Rattle.can_node.specs.Machine.{is_sending, is_taking, level_in, may_start, q
 use Rattle.can_frame.specs.Sending.{level_at}
 use Rattle.can_node.specs.Machine.LeadsTo.{stays_on}
 use Rattle.can_node.specs.Node.{IsSample}
-use Rattle.can_node.specs.Listener.{AllHear, AllTake, Follows, Idles, IsUnseen, ReadsAlong, SendsTo, StandsWith}
+use Rattle.can_node.specs.Listener.{AllHear, AllTake, Follows, Idles, IsUnseen, ReadsAlong, StandsWith}
 use Rattle.can_node.specs.Listener.{caught_up, taken_up}
 use Rattle.can_node.proofs.Samples.{counts_none, quiet_steps, samples}
 use Rattle.can_node.specs.PlainBits.{LeavesPlainly}
@@ -232,48 +232,6 @@ along_end (Taking start false AfterSlot) behind old new level is push =
       listens = refl;
     })
 along_end state behind old new level is push = absurd (cc is)
-
--- a bit of a frame that is sent to all others
-pub sends_to : (node : Node) (start place next : ℕ) (before after : Listener) (level : Bool) →
-    node.state ≡ Sending start place → (place + 9 ≡ length node.spelling.levels.items → ⊥) →
-    (place + 1 ≡ length node.spelling.levels.items → ⊥) → level ≡ level_at node.spelling place →
-    next ≡ min (place + 1) 255 → ReadsAlong before level after →
-    SendsTo node before level (record {
-      state = Sending start next;
-      reader = node.reader;
-      spelling = node.spelling;
-      counters = node.counters;
-      clock = node.clock + 1;
-    }) after
-sends_to node start place next before after level here slot last echo next_is along =
-    let behind : Node = record {
-      state = Sending start next;
-      reader = node.reader;
-      spelling = node.spelling;
-      counters = node.counters;
-      clock = node.clock + 1;
-    } in
-    let steps : Steps node.state node.counters node.reader node.spelling node.clock level Nothing
-    (Sending start next) node.counters node.reader =
-    rw here
-    (quiet_steps (Sending start place) (Sending start next) node.counters node.reader node.reader node.spelling
-    node.clock level
-    (λ errors. sending_advances start place node.reader node.reader node.spelling node.clock errors level
-    (quiet (Sending start next))
-    (send_echoed start place next node.spelling errors level slot echo last next_is) (λ is. absurd (cc is))
-    (λ is. absurd (cc is)))) in
-    record {
-      drives = echo ∙ ap (λ state. level_in state node.spelling) (sym here);
-      begins_none = ap may_start here;
-      samples = samples node behind level Nothing steps refl refl;
-      history = stands_history behind;
-      bit_is = refl;
-      counts_none = refl;
-      others_drive = along.drives;
-      others_begin = along.begins;
-      follows = along.follows;
-      listens = along.listens;
-    }
 
 -- a frame that is taken: the reader has done its work
 other_reader : (state : State) (old new other : Reader) (spelling : Spelling) (now : ℕ) (errors : ErrorState)

@@ -29,20 +29,11 @@ use Rattle.can_node.specs.PlainBits.{stays_out}
 abbrev pub IsListening : Listener → Type 0
 IsListening listener = is_sending listener.state ≡ false
 
--- it reads within the stuffed region of a frame, and may not begin to send instead
-abbrev pub is_reading : Listener → Bool
-is_reading listener = is_in_region listener.state
-
 -- it reads within the stuffed region of a frame or behind the ACK slot, and may not begin to send instead, or waits on
 -- with a recessive level
 abbrev pub may_follow_by : State → Bool
 may_follow_by (Taking start false AfterSlot) = true
 may_follow_by state = is_in_region state || stays_out true state
-
--- it has sampled the first recessive level of a delimiter, and no other yet
-abbrev pub begins_delimiter : State → Bool
-begins_delimiter (Delimiting role ones) = nat_eq ones 1
-begins_delimiter state = false
 
 -- it has come as far as this node
 abbrev pub listener_of : Node → Listener
@@ -120,20 +111,6 @@ abbrev pub ReadsAlongBy : Listener → List Bool → Listener → Type 0
 ReadsAlongBy before [] after = after ≡ before
 ReadsAlongBy before (level ∷ levels) after =
     (between : Listener) × ReadsAlong before level between × ReadsAlongBy between levels after
-
--- One bit of a frame that a node sends, but that of its ACK slot, while all others that are there listen: the line has
--- the level that it drives, for those drive recessive; it samples that and tells nothing, and so does each of them.
-pub record SendsTo (old : Node) (before : Listener) (level : Bool) (new : Node) (after : Listener) : Type 0 where
-  pub drives : level ≡ driven_by old
-  pub begins_none : may_begin old ≡ false
-  pub samples : IsSample old level Nothing new
-  pub history : (past : Past) → StandsAfter new past → IsHistory past
-  pub bit_is : bit_of new ≡ bit_of old + 1
-  pub counts_none : counters_in new ≡ counters_in old
-  pub others_drive : (node : Node) (bit : ℕ) → driven_by (caught_up node before bit) ≡ true
-  pub others_begin : (node : Node) (bit : ℕ) → may_begin (caught_up node before bit) ≡ false
-  pub follows : (known : KnownCounts) (bit : ℕ) → Follows known before bit level after
-  pub listens : IsListening after
 
 -- a node that was left alone up to this bit, at which it took a frame: its next one is the last bit of EOF
 abbrev pub taken_up : Node → ℕ → Node

@@ -6,7 +6,7 @@ ghost use Rattle.can_node.specs.Machine.{GoesReading, is_sending, is_taking};
 ghost use Rattle.can_node.specs.Node.{driven_by, may_begin};
 ghost use Rattle.can_node.specs.Listener.{Acknowledges, AllHear, AllTake, IsListening, IsUnseen, Follows};
 ghost use Rattle.can_node.specs.Listener.{ReadsAlong, ReadsAlongBy};
-ghost use Rattle.can_node.specs.Listener.{Idles, begins_delimiter, caught_up, is_reading, may_follow_by};
+ghost use Rattle.can_node.specs.Listener.{Idles, caught_up, may_follow_by};
 ghost use Rattle.can_confinement.specs.declared.known_counts.KnownCounts.{KnownCounts as KnownCountsValue};
 ghost use Rattle.can_confinement.specs.declared.confinement.ErrorState.{ErrorState as ErrorStateValue};
 
@@ -49,15 +49,6 @@ impl Listener {
         may_start(self.state)
     }
 
-    /// Whether they read within the stuffed region of a frame, and need not choose any more between reading and
-    /// sending.
-    #[inline(always)]
-    pub fn is_reading(&self) -> bool
-        ensures { result ≡ is_reading self.now }
-    {
-        is_in_region(self.state)
-    }
-
     /// Whether they are idle: then each recessive bit leaves them so.
     pub fn is_idle(&self) -> bool
         ensures { result ≡ true → Idles self.now }
@@ -78,15 +69,6 @@ impl Listener {
             }
             state => waits_on(state),
         }
-    }
-
-    /// Whether each of them has sampled the first bit of a delimiter, and no other yet: no flag stands on the line any
-    /// more (Bosch CAN Specification 2.0, part B, 3.2.3 ERROR FRAME, 3.2.4 OVERLOAD FRAME).
-    #[inline(always)]
-    pub fn begins_delimiter(&self) -> bool
-        ensures { result ≡ begins_delimiter self.now.state }
-    {
-        matches!(self.state, State::Delimiting(_, 1))
     }
 
     /// Follows the line through a bit at which all of them sample this level, and tells whether it did: then each
@@ -127,20 +109,6 @@ impl Listener {
         }
         self.state = State::Taking(start, false, Stage::AfterSlot);
         true
-    }
-
-    /// Follows a bit of a frame at which all of them drive recessive, none may begin to send, and each samples this
-    /// level, and tells whether it did: then each has told nothing and counted nothing. Most bits of a frame are such,
-    /// and not its ACK slot, nor those at which its body was read and it is taken. Else it is as it was.
-    #[inline(always)]
-    pub(crate) fn reads_along(&mut self, level: bool) -> bool
-        ensures along { result ≡ true → ReadsAlong self.old level self.new }
-        ensures other { result ≡ false → self.new ≡ self.old }
-    {
-        if is_in_region(self.state) {
-            return self.reader.reads_on(level);
-        }
-        self.reads_end(level)
     }
 
     /// Follows bits at which all of them drive recessive, none may begin to send, and each samples the first of these

@@ -4,7 +4,7 @@ ghost use Rattle.std.specs.Prelude.{◌≡◌, ℕ, ◌+◌, ◌<◌, ◌≤◌,
 ghost use Rattle.std.specs.Prelude.{length, min, take};
 ghost use Rattle.can_confinement.specs.Counters.{StandsAfter as CountersStandAfter, counts_of};
 ghost use Rattle.can_node.specs.Histories.{Past, no_past, IsHistory};
-ghost use Rattle.can_node.specs.Listener.{AllHear, Receives, SendsTo, StandsWith};
+ghost use Rattle.can_node.specs.Listener.{AllHear, Receives, StandsWith};
 ghost use Rattle.can_node.specs.Machine.{IsMade, is_taking};
 ghost use Rattle.can_node.specs.Listener.{caught_up, listener_of, listens_in, taken_up};
 ghost use Rattle.can_node.specs.declared.listener.Listener.{Listener as ListenerValue};
@@ -279,29 +279,6 @@ impl Node {
             return;
         }
         go_plainly(&mut self.state, &self.counters, bit, level);
-    }
-
-    /// One bit of a frame that the node sends while all others listen: what `drive`, `sample` and `Listener::follow`
-    /// do where the others read along, in one step, and the level that the line has then. `None` where it sends no
-    /// frame, has come to its ACK slot or its last bit, or the listener does not read along with that level: then
-    /// nothing is changed.
-    #[inline(always)]
-    pub fn send_to(&mut self, listener: &mut Listener) -> Option<bool>
-        requires { bit_of self.old < u64.MAX }
-        ensures sends { IfSome result (λ level. SendsTo self.old listener.old level self.new listener.new) }
-        ensures none { IfNone result ((self.new ≡ self.old) × (listener.new ≡ listener.old)) }
-    {
-        // in place, since most bits of a bus are such
-        let State::Sending(_start, place) = &mut self.state else {
-            return None;
-        };
-        let level = self.spelling.spelling().level_elsewhere(*place)?;
-        if !listener.reads_along(level) {
-            return None;
-        }
-        *place = place.saturating_add(1);
-        self.clock += 1;
-        Some(level)
     }
 
     /// The levels that the node drives next in a frame that it sends, up to the ACK slot or behind it up to the last

@@ -13,7 +13,6 @@ use Rattle.can_station.specs.declared.plan.Talker.{Talker}
 use Rattle.can_station.specs.Deeds.{AreQuiet, IsQuiet}
 use Rattle.can_station.specs.Faults.{sampled_level}
 use Rattle.can_station.specs.Members.{NodeSamples, PortSettles, Samples}
-use Rattle.can_station.specs.PlaceSets.{HasOneAtMost}
 use Rattle.can_station.specs.Places.{AtBoth, AtPlaces}
 use Rattle.can_station.specs.RestingNodes.{AwakeAreQuiet, AwakeWithin, CountsReceived, IfAwake, IfAwakeBoth}
 use Rattle.can_station.specs.RestingNodes.{KnowsResting, LeavesResting, NoneRests, TransmitsAll, Undisturbed}
@@ -34,7 +33,6 @@ behind_slot level old mid new h same = record {
   resting_is = same.resting_is ∙ h.resting_is;
   talkers_is = same.talkers_is ∙ h.talkers_is;
   controllers_is = same.controllers_is ∙ h.controllers_is;
-  few_is = same.few_is ∙ h.few_is;
   spent_is = same.spent_is ∙ h.spent_is;
   acknowledges = rw same.listener_is h.acknowledges;
   listens = rw same.listener_is h.listens;
@@ -248,8 +246,4 @@ counting_holds old new bit level plan t0 t1 t2 c0 c1 c2 h left left_too w w_too 
           subst (λ set. AwakeWithin set c2) (sym h.controllers_is) (counting_within old.controllers c1 c2 c w_too);
       talkers_fit = omega (arith, size, t.size, holds.talkers_fit);
       controllers_fit = omega (arith, size_too, c.size, holds.controllers_fit);
-      few_are = λ few. let are = holds.few_are (sym h.few_is ∙ few) in record {
-        talkers = subst HasOneAtMost (sym h.talkers_is) are.talkers;
-        controllers = subst HasOneAtMost (sym h.controllers_is) are.controllers;
-      };
     }

@@ -158,7 +158,6 @@ less_too before mid after one other = record {
   spends = λ s. one.spends (other.spends s);
   talkers_is = other.talkers_is ∙ one.talkers_is;
   controllers_is = other.controllers_is ∙ one.controllers_is;
-  few_is = other.few_is ∙ one.few_is;
 }
 
 less_itself : (rest : Rest) → IsLess rest rest
@@ -169,7 +168,6 @@ less_itself rest = record {
   spends = λ s. s;
   talkers_is = refl;
   controllers_is = refl;
-  few_is = refl;
 }
 
 -- those that are no longer left may have come to rest

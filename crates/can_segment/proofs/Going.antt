@@ -1,44 +1,23 @@
 -- What those that are awake do at a bit of which nothing is told, and what follows for all.
-use Rattle.std.proofs.Common.{◌≡◌, ℕ, Bool, true, false, Option, List, slice_get, refl, sym, ap, subst, arith, inl, inr}
+use Rattle.std.proofs.Common.{◌≡◌, ℕ, Bool, true, false, Option, List, refl, sym, ap, subst, arith, inl}
 use Rattle.std.proofs.Common.{◌∙◌}
-use Rattle.std.proofs.lemmas.Bool.{cases_eq}
 use Rattle.std.proofs.lemmas.Option.{slice_get_within}
 use Rattle.bx_core.specs.TxBus.{Item, BusPast, BusCall}
 use Rattle.can_frame.specs.Frames.{FrameValue}
 use Rattle.can_node.specs.Node.{IsSample, counters_in}
 use Rattle.can_confinement.specs.declared.counters.Counters.{Counters}
-use Rattle.can_node.specs.declared.listener.Listener.{Listener}
 use Rattle.can_station.specs.declared.member.Member.{Member}
 use Rattle.can_station.specs.declared.plan.Talker.{Talker}
 use Rattle.can_station.specs.Deeds.{IsQuiet}
 use Rattle.can_station.specs.Members.{PortSettles, PortStarts, Samples, SamplesOn, TalkerStarts}
-use Rattle.can_station.specs.Places.{AtPlaces, AtBoth, MovesOne}
+use Rattle.can_station.specs.Places.{AtPlaces, AtBoth}
 use Rattle.can_station.specs.Ports.{item_of}
-use Rattle.can_station.specs.RestingNodes.{AllGo, AwakeAreQuiet, IfAwake, IfAwakeBoth, MemberGoes, MemberSends}
-use Rattle.can_station.specs.RestingNodes.{OthersRest, TransmitsAll}
+use Rattle.can_station.specs.RestingNodes.{AllGo, AwakeAreQuiet, IfAwake, IfAwakeBoth, MemberGoes}
+use Rattle.can_station.specs.RestingNodes.{TransmitsAll}
 use Rattle.can_segment.specs.Segments.{AreFrom}
 use Rattle.can_station.specs.Outcomes.{completed_by, sending_after}
 use Rattle.can_station.proofs.Places.{same_some, some_there}
 use Rattle.can_segment.proofs.Unmoved.{unmoved_requests, unmoved_settles, unmoved_talks}
-
--- one that sends on goes on
-goes_sending : (bit : ℕ) (before after : Listener) (level : Bool) (old new : Member) →
-    MemberSends bit before level after old new → MemberGoes bit level old new
-goes_sending bit before after level old new h = record {
-  awake = h.awake;
-  is_on = h.is_on;
-  quiet = h.quiet;
-  begins_none = h.sends.begins_none;
-  samples = h.sends.samples;
-  history = h.sends.history;
-  bit_is = h.sends.bit_is;
-  counts_none = h.sends.counts_none;
-  awake_too = h.awake_too;
-  on_is = h.on_is;
-  deed_is = h.deed_is;
-  sending_is = h.sending_is;
-  completed_is = h.completed_is;
-}
 
 still_quiet : (bit : ℕ) (level : Bool) (old new : Member) → MemberGoes bit level old new → IsQuiet new.deed
 still_quiet bit level old new h = subst IsQuiet (sym h.deed_is) h.quiet
@@ -75,17 +54,6 @@ resting_on : (bit : ℕ) (level : Bool) (old new : Member) → new ≡ old → o
     IfAwake (MemberGoes bit level) old new
 resting_on bit level old new same is =
     record { rests_on = λ e. same; stays_awake = λ e. absurd (cc (e, is)); steps = λ e. absurd (cc (e, is)) }
-
-pub one_goes : (place bit : ℕ) (before after : Listener) (level : Bool) (old new : List Member) → OthersRest place old →
-    MovesOne place (MemberSends bit before level after) old new → AllGo bit level old new
-one_goes place bit before after level old new others moves = record {
-  at = λ k a b p q. elim (cases_eq k place) [
-    | inl here ↦ going bit level a b (goes_sending bit before after level a b
-        (moves.at a b (ap (slice_get old) (sym here) ∙ p) (ap (slice_get new) (sym here) ∙ q)))
-    | inr other ↦ resting_on bit level a b (same_some b a (sym q ∙ moves.others k other ∙ p)) (others k a p other)
-  ];
-  size = moves.size;
-}
 
 -- so they start nothing,
 pub go_starts : (bit : ℕ) (level : Bool) (plan : List Talker) (old new : List Member) → AllGo bit level old new →

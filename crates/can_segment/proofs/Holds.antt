@@ -8,16 +8,15 @@ use Rattle.can_station.specs.declared.plan.Talker.{Talker}
 use Rattle.can_segment.specs.declared.rest.Rest.{Rest}
 use Rattle.can_station.specs.declared.place_set.PlaceSet.{PlaceSet}
 use Rattle.can_segment.specs.Rests.{AreResting, AreSpent, IsSame, RestHolds, RestsThrough}
-use Rattle.can_station.specs.PlaceSets.{HasOneAtMost}
 use Rattle.can_station.specs.RestingNodes.{AwakeWithin, LeavesResting, NoneRests}
 use Rattle.can_segment.proofs.Rests.{next_rests}
 
 -- where none rests
-pub none_rests : (rest : Rest) (bit : ℕ) (plan : List Talker) (talkers controllers : List Member) → rest.few ≡ false →
+pub none_rests : (rest : Rest) (bit : ℕ) (plan : List Talker) (talkers controllers : List Member) →
     AwakeWithin rest.talkers talkers → AwakeWithin rest.controllers controllers → length talkers ≤ 64 →
     length controllers ≤ 64 → NoneRests talkers → NoneRests controllers →
     RestHolds rest bit plan talkers controllers
-none_rests rest bit plan talkers controllers many w w_too fit fit_too t c = record {
+none_rests rest bit plan talkers controllers w w_too fit fit_too t c = record {
   talkers_rest = λ k m e is. absurd (let awake = t k m e in cc (is, awake));
   controllers_rest = λ k m e is. absurd (let awake = c k m e in cc (is, awake));
   talkers_spent = λ s k m talker e f is. absurd (let awake = t k m e in cc (is, awake));
@@ -26,7 +25,6 @@ none_rests rest bit plan talkers controllers many w w_too fit fit_too t c = reco
   controllers_within = w_too;
   talkers_fit = fit;
   controllers_fit = fit_too;
-  few_are = λ few. absurd (cc (few, many));
 }
 
 pub none_rests_on : (rest : Rest) (bit next : ℕ) (plan : List Talker) (talkers controllers : List Member) →
@@ -41,7 +39,6 @@ none_rests_on rest bit next plan talkers controllers t c h = record {
   controllers_within = h.controllers_within;
   talkers_fit = h.talkers_fit;
   controllers_fit = h.controllers_fit;
-  few_are = h.few_are;
 }
 
 -- where it is known that none does
@@ -67,9 +64,9 @@ same_rests old new bit members same rests k m e is =
     }
 
 pub same_holds : (old new : Rest) (bit : ℕ) (plan : List Talker) (talkers controllers : List Member) → IsSame old new →
-    new.talkers ≡ old.talkers → new.controllers ≡ old.controllers → new.few ≡ old.few →
+    new.talkers ≡ old.talkers → new.controllers ≡ old.controllers →
     RestHolds old bit plan talkers controllers → RestHolds new bit plan talkers controllers
-same_holds old new bit plan talkers controllers same talkers_is controllers_is few_is h = record {
+same_holds old new bit plan talkers controllers same talkers_is controllers_is h = record {
   talkers_rest = same_rests old new bit talkers same h.talkers_rest;
   controllers_rest = same_rests old new bit controllers same h.controllers_rest;
   talkers_spent = λ s. h.talkers_spent (sym same.spent_is ∙ s);
@@ -78,10 +75,6 @@ same_holds old new bit plan talkers controllers same talkers_is controllers_is f
   controllers_within = subst (λ set. AwakeWithin set controllers) (sym controllers_is) h.controllers_within;
   talkers_fit = h.talkers_fit;
   controllers_fit = h.controllers_fit;
-  few_are = λ few. let are = h.few_are (sym few_is ∙ few) in record {
-    talkers = subst HasOneAtMost (sym talkers_is) are.talkers;
-    controllers = subst HasOneAtMost (sym controllers_is) are.controllers;
-  };
 }
 
 pub left_rests : (rest : Rest) (bit : ℕ) (old new : List Member) → LeavesResting old new → AreResting rest bit old →
@@ -114,15 +107,14 @@ left_holds rest bit plan t0 t1 c0 c1 t c w w_too size size_too h = record {
   controllers_within = w_too rest.controllers h.controllers_within;
   talkers_fit = omega (arith, size, h.talkers_fit);
   controllers_fit = omega (arith, size_too, h.controllers_fit);
-  few_are = h.few_are;
 }
 
 -- where some woke
 pub woken_holds : (old new : Rest) (bit : ℕ) (plan : List Talker) (t0 t1 c0 c1 : List Member) → IsSame old new →
-    new.few ≡ false → AwakeWithin new.talkers t1 → AwakeWithin new.controllers c1 → length t1 ≡ length t0 →
+    AwakeWithin new.talkers t1 → AwakeWithin new.controllers c1 → length t1 ≡ length t0 →
     length c1 ≡ length c0 → LeavesResting t0 t1 → LeavesResting c0 c1 →
     RestHolds old bit plan t0 c0 → RestHolds new bit plan t1 c1
-woken_holds old new bit plan t0 t1 c0 c1 same many w w_too size size_too t c h = record {
+woken_holds old new bit plan t0 t1 c0 c1 same w w_too size size_too t c h = record {
   talkers_rest = same_rests old new bit t1 same (left_rests old bit t0 t1 t h.talkers_rest);
   controllers_rest = same_rests old new bit c1 same (left_rests old bit c0 c1 c h.controllers_rest);
   talkers_spent = λ s. left_spent old plan t0 t1 t h.talkers_spent (sym same.spent_is ∙ s);
@@ -131,7 +123,6 @@ woken_holds old new bit plan t0 t1 c0 c1 same many w w_too size size_too t c h =
   controllers_within = w_too;
   talkers_fit = omega (arith, size, h.talkers_fit);
   controllers_fit = omega (arith, size_too, h.controllers_fit);
-  few_are = λ few. absurd (cc (few, many));
 }
 
 -- behind a bit through which they rest
@@ -150,8 +141,4 @@ through_holds old new bit level plan t c through h = record {
   controllers_within = subst (λ set. AwakeWithin set c) (sym through.controllers_is) h.controllers_within;
   talkers_fit = h.talkers_fit;
   controllers_fit = h.controllers_fit;
-  few_are = λ few. let are = h.few_are (sym through.few_is ∙ few) in record {
-    talkers = subst HasOneAtMost (sym through.talkers_is) are.talkers;
-    controllers = subst HasOneAtMost (sym through.controllers_is) are.controllers;
-  };
 }

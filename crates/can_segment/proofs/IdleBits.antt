@@ -39,11 +39,6 @@ as_spent rest = record {
   spent = true;
   talkers = rest.talkers;
   controllers = rest.controllers;
-  few = rest.few;
-  settled = rest.settled;
-  asleep = rest.asleep;
-  steady = rest.steady;
-  apart = rest.apart;
 }
 
 spent_rests : (rest : Rest) (bit : ℕ) (members : List Member) → AreResting rest bit members →

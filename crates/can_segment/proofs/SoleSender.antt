@@ -1,15 +1,14 @@
--- A bit of which nothing is told, and one of those at which one node alone sends and all others rest.
-use Rattle.std.proofs.Common.{◌≡◌, ◌≢◌, ℕ, zero, suc, ◌+◌, ◌≤◌, ◌&&◌, nat_le, cond, Bool, true, false, Some, None}
-use Rattle.std.proofs.Common.{IfSome, Option, List, [], ◌∷◌, length, slice_get, refl, sym, ap, subst, arith, inl, inr}
+-- A bit of which nothing is told.
+use Rattle.std.proofs.Common.{◌≡◌, ◌≢◌, ℕ, zero, suc, ◌+◌, ◌&&◌, Bool, true, false, Some, None}
+use Rattle.std.proofs.Common.{IfSome, Option, List, [], ◌∷◌, length, slice_get, refl, sym, ap, subst, arith}
 use Rattle.std.proofs.Common.{◌∙◌}
 use Rattle.std.specs.List.{list_all}
-use Rattle.std.proofs.lemmas.Bool.Decides.{leb_tells}
 use Rattle.std.proofs.lemmas.List.{length-map}
-use Rattle.std.proofs.lemmas.Option.{slice_get_past, slice_get_within}
+use Rattle.std.proofs.lemmas.Option.{slice_get_within}
 use Rattle.bx_core.specs.TxBus.{Item, BusPast, BusCall}
 use Rattle.can_frame.specs.Frames.{FrameValue}
 use Rattle.can_node.specs.Listener.{Follows, IsListening}
-use Rattle.can_node.specs.Node.{driven_by, may_begin}
+use Rattle.can_node.specs.Node.{may_begin}
 use Rattle.can_confinement.specs.declared.counters.Counters.{Counters}
 use Rattle.can_node.specs.declared.listener.Listener.{Listener}
 use Rattle.can_station.specs.declared.member.Member.{Member}
@@ -17,11 +16,11 @@ use Rattle.can_station.specs.declared.plan.Talker.{Talker}
 use Rattle.can_segment.specs.declared.rest.Rest.{Rest}
 use Rattle.can_station.specs.Deeds.{AreQuiet}
 use Rattle.can_station.specs.Members.{PortSettles, PortStarts, Samples, TalkerStarts, drives_at, is_on, wants_at}
-use Rattle.can_station.specs.Places.{AtPlaces, AtBoth, MovesOne}
+use Rattle.can_station.specs.Places.{AtPlaces, AtBoth}
 use Rattle.can_station.specs.Ports.{item_of}
-use Rattle.can_segment.specs.Rests.{Drives, GoesQuietly, driven_beside, RestHolds, RestsThrough, SendsAlone, StartsNone}
+use Rattle.can_segment.specs.Rests.{GoesQuietly, driven_beside, RestHolds, RestsThrough}
 use Rattle.can_segment.specs.Rests.{members_at}
-use Rattle.can_station.specs.RestingNodes.{AllGo, MemberGoes, MemberSends, OneSends, OthersRest, TransmitsAll}
+use Rattle.can_station.specs.RestingNodes.{AllGo, MemberGoes, TransmitsAll}
 use Rattle.can_station.specs.RestingNodes.{caught_up, passes, woken}
 use Rattle.can_segment.specs.Segments.{AreFrom, sending_of_all}
 use Rattle.can_station.proofs.Places.{same_some, some_there}
@@ -31,33 +30,7 @@ use Rattle.can_segment.proofs.Rests.{members_sample, talkers_start, transmits_re
 use Rattle.can_segment.proofs.Shown.{map_at, map_there}
 use Rattle.can_station.proofs.PlaceSets.{all_pass, within_places}
 use Rattle.can_segment.proofs.Woken.{awake_woken, left_places, resting_woken, same_list}
-use Rattle.can_segment.proofs.Going.{go_quiet, go_requests, go_samples, go_settles, go_shown, go_starts, one_goes}
-
--- the one's level is that of the line
-sole_level : (place bit : ℕ) (before after : Listener) (level : Bool) (old new : List Member) →
-    OneSends place bit before level after old new → level ≡ passes (drives_at bit) (slice_get old place)
-sole_level place bit before after level old new h =
-    let from = h.from in
-    h.step.sends.drives ∙ ap (λ b. cond b (driven_by from.station.node) true) (sym (on_at from.on bit h.step.is_on))
-    ∙ ap (passes (drives_at bit)) (sym h.from_is)
-  where
-    on_at : (on bit : ℕ) → on ≤ bit → nat_le on bit ≡ true
-    on_at on bit h =
-        elim (leb_tells on bit) [ inl is ↦ is.0 | inr isnt ↦ absurd (let less = isnt.1 in omega (arith, h, less)) ]
-
--- there is none that could move
-none_moves : (place : ℕ) (Step : Member → Member → Type 0) (members : List Member) → length members ≤ place →
-    MovesOne place Step members members
-none_moves place Step members past =
-    record {
-      at = λ a b p q. absurd (let within = slice_get_within members place a p in omega (arith, within, past));
-      others = λ k not. refl;
-      size = refl;
-    }
-
-none_passes : (place bit : ℕ) (members : List Member) → length members ≤ place →
-    passes (drives_at bit) (slice_get members place) ≡ true
-none_passes place bit members past = ap (passes (drives_at bit)) (slice_get_past members place past)
+use Rattle.can_segment.proofs.Going.{go_quiet, go_requests, go_samples, go_settles, go_shown, go_starts}
 
 pub and_true : (b : Bool) → (b && true) ≡ b
 and_true true = refl
@@ -73,33 +46,6 @@ one_passes test zero (x ∷ xs) h =
 one_passes test (suc place) (x ∷ xs) h = ap (λ b. b && list_all test xs) (h zero x refl (λ is. omega (arith, is)))
     ∙ one_passes test place xs (λ k m e not. h (suc k) m e (λ is. not (omega (arith, is))))
 
--- so where the others rest
-sole_drives : (place bit : ℕ) (members : List Member) → OthersRest place members →
-    ((m : Member) → slice_get members place ≡ Some m → m.rests ≡ false) →
-    driven_beside bit true members ≡ passes (drives_at bit) (slice_get members place)
-sole_drives place bit members others awake =
-    one_passes (λ m. cond m.rests true (drives_at bit m)) place members
-    (λ k m e not. ap (λ b. cond b true (drives_at bit m)) (others k m e not)) ∙ by (slice_get members place) refl
-  where
-    by : (found : Option Member) → slice_get members place ≡ found →
-        passes (λ m. cond m.rests true (drives_at bit m)) found ≡ passes (drives_at bit) found
-    by None e = refl
-    by (Some m) e = ap (λ b. cond b true (drives_at bit m)) (awake m e)
-
--- the one that sends is awake
-sends_there : (place bit : ℕ) (before after : Listener) (level : Bool) (old new : List Member) (m : Member) →
-    MovesOne place (MemberSends bit before level after) old new → slice_get old place ≡ Some m →
-    (n : Member) × (slice_get new place ≡ Some n) × MemberSends bit before level after m n
-sends_there place bit before after level old new m moves e =
-    let n = some_there new place (let within = slice_get_within old place m e in omega (arith, within, moves.size)) in
-    (n.0, n.1, moves.at m n.0 e n.1)
-
-sole_awake : (place bit : ℕ) (before after : Listener) (level : Bool) (old new : List Member) →
-    MovesOne place (MemberSends bit before level after) old new → (m : Member) → slice_get old place ≡ Some m →
-    m.rests ≡ false
-sole_awake place bit before after level old new moves m e =
-    (sends_there place bit before after level old new m moves e).2.awake
-
 -- those that rest, with this listener
 abbrev pub with_listener : Rest → Listener → Rest
 with_listener rest listener = record {
@@ -109,11 +55,6 @@ with_listener rest listener = record {
   spent = rest.spent;
   talkers = rest.talkers;
   controllers = rest.controllers;
-  few = rest.few;
-  settled = rest.settled;
-  asleep = rest.asleep;
-  steady = rest.steady;
-  apart = rest.apart;
 }
 
 pub rests_through : (rest : Rest) (bit : ℕ) (after : Listener) (level : Bool) →
@@ -123,63 +64,10 @@ rests_through rest bit after level follows listens = record {
   resting = refl;
   talkers_is = refl;
   controllers_is = refl;
-  few_is = refl;
   known_is = refl;
   spent_is = refl;
   follows = follows;
   listens = λ was. listens;
-}
-
-rests_through_alone : (rest : Rest) (place bit : ℕ) (after : Listener) (level : Bool) (old new : List Member) →
-    OneSends place bit rest.listener level after old new → RestsThrough bit level rest (with_listener rest after)
-rests_through_alone rest place bit after level old new h =
-    rests_through rest bit after level (h.step.sends.follows rest.known bit) h.step.sends.listens
-
-drives_alone : (rest : Rest) (place bit : ℕ) (after : Listener) (level : Bool) (old new : List Member) →
-    OneSends place bit rest.listener level after old new → Drives rest true
-drives_alone rest place bit after level old new h = λ listening node at. sym (h.step.sends.others_drive node at)
-
-pub talker_alone : (rest : Rest) (sender controller bit : ℕ) (after : Listener) (level : Bool) (t0 t1 c : List Member) →
-    length c ≤ controller → OneSends sender bit rest.listener level after t0 t1 →
-    SendsAlone bit level sender controller rest
-    (with_listener rest after) t0 t1 c c
-talker_alone rest sender controller bit after level t0 t1 c past h = record {
-  starts_none = inr h.step.sends.others_begin;
-  through = rests_through_alone rest sender bit after level t0 t1 h;
-  drives = drives_alone rest sender bit after level t0 t1 h;
-  talkers = h.moves;
-  controllers = none_moves controller (MemberSends bit rest.listener level after) c past;
-  level_is = sole_level sender bit rest.listener after level t0 t1 h
-      ∙ sym (and_true (passes (drives_at bit) (slice_get t0 sender)))
-      ∙ ap (λ b. passes (drives_at bit) (slice_get t0 sender) && b) (sym (none_passes controller bit c past));
-}
-
-pub controller_alone : (rest : Rest) (sender controller bit : ℕ) (after : Listener) (level : Bool)
-    (t c0 c1 : List Member) → length t ≤ sender → OneSends controller bit rest.listener level after c0 c1 →
-    SendsAlone bit level sender controller rest
-    (with_listener rest after) t t c0 c1
-controller_alone rest sender controller bit after level t c0 c1 past h = record {
-  starts_none = inr h.step.sends.others_begin;
-  through = rests_through_alone rest controller bit after level c0 c1 h;
-  drives = drives_alone rest controller bit after level c0 c1 h;
-  talkers = none_moves sender (MemberSends bit rest.listener level after) t past;
-  controllers = h.moves;
-  level_is = sole_level controller bit rest.listener after level c0 c1 h
-      ∙ ap (λ b. b && passes (drives_at bit) (slice_get c0 controller)) (sym (none_passes sender bit t past));
-}
-
--- all rest, and the line is recessive
-pub none_alone : (old new : Rest) (sender controller bit : ℕ) (level : Bool) (t c : List Member) → length t ≤ sender →
-    length c ≤ controller → StartsNone old → Drives old level → level ≡ true → RestsThrough bit level old new →
-    SendsAlone bit level sender controller old new t t c c
-none_alone old new sender controller bit level t c no_talker no_controller starts drives is through = record {
-  starts_none = starts;
-  through = through;
-  drives = subst (Drives old) is drives;
-  talkers = none_moves sender (MemberSends bit old.listener level new.listener) t no_talker;
-  controllers = none_moves controller (MemberSends bit old.listener level new.listener) c no_controller;
-  level_is = is ∙ ap (λ b. b && true) (sym (none_passes sender bit t no_talker))
-      ∙ ap (λ b. passes (drives_at bit) (slice_get t sender) && b) (sym (none_passes controller bit c no_controller));
 }
 
 pub if_some : {A : Type 0} (P Q : A → Type 0) (o : Option A) → ((x : A) → P x → Q x) → IfSome o P → IfSome o Q
@@ -190,29 +78,6 @@ pub both_if_some : {A : Type 0} (P Q R : A → Type 0) (o : Option A) → ((x : 
     IfSome o Q → IfSome o R
 both_if_some P Q R None h one other = tt
 both_if_some P Q R (Some x) h one other = h x one other
-
--- where all others rest
-others_drive : (place bit : ℕ) (before after : Listener) (level : Bool) (old new : List Member) → OthersRest place old →
-    MovesOne place (MemberSends bit before level after) old new →
-    driven_beside bit true old ≡ passes (drives_at bit) (slice_get old place)
-others_drive place bit before after level old new others moves =
-    sole_drives place bit old others (sole_awake place bit before after level old new moves)
-
-pub alone_goes_quietly : (bit : ℕ) (level : Bool) (sender controller : ℕ) (old new : Rest) (t0 t1 c0 c1 : List Member) →
-    OthersRest sender t0 → OthersRest controller c0 → SendsAlone bit level sender controller old new t0 t1 c0 c1 →
-    GoesQuietly bit level old new t0 t1 c0 c1
-alone_goes_quietly bit level sender controller old new t0 t1 c0 c1 others others_too h = record {
-  starts_none = h.starts_none;
-  through = h.through;
-  resting = true;
-  drives = h.drives;
-  talkers = one_goes sender bit old.listener new.listener level t0 t1 others h.talkers;
-  controllers = one_goes controller bit old.listener new.listener level c0 c1 others_too h.controllers;
-  level_is = h.level_is ∙ ap (λ b. b && passes (drives_at bit) (slice_get c0 controller))
-      (sym (others_drive sender bit old.listener new.listener level t0 t1 others h.talkers))
-      ∙ ap (λ b. driven_beside bit true t0 && b)
-      (sym (others_drive controller bit old.listener new.listener level c0 c1 others_too h.controllers));
-}
 
 pub talkers_start_alone : (plan : List Talker) (bit : ℕ) (level : Bool) (old new : Rest) (t0 t1 c0 c1 : List Member) →
     GoesQuietly bit level old new t0 t1 c0 c1 → RestHolds old bit plan t0 c0 →

@@ -13,9 +13,7 @@ use Rattle.can_segment.specs.declared.rest.Rest.{Rest}
 use Rattle.can_station.specs.Deeds.{IsQuiet}
 use Rattle.can_station.specs.Members.{drives_at}
 use Rattle.can_station.specs.RestingNodes.{AllGo, AreAlike, AwakeWithin, LeavesResting}
-use Rattle.can_station.specs.RestingNodes.{MayLieDown, MemberSends, NoneRests, passes, woken}
-use Rattle.can_station.specs.Places.{MovesOne}
-use Rattle.can_station.specs.PlaceSets.{HasOneAtMost}
+use Rattle.can_station.specs.RestingNodes.{MayLieDown, NoneRests, woken}
 
 -- nodes as they are before this bit
 abbrev pub members_at : Rest → ℕ → List Member → List Member
@@ -40,11 +38,6 @@ AreSpent rest talkers members =
     rest.spent ≡ true → (k : ℕ) (m : Member) (talker : Talker) → slice_get members k ≡ Some m →
     slice_get talkers k ≡ Some talker → m.rests ≡ true → slice_get talker.frames.items m.station.completed ≡ None
 
--- one talker is awake at most, and one controller
-pub record AreFew (rest : Rest) : Type 0 where
-  pub talkers : HasOneAtMost rest.talkers
-  pub controllers : HasOneAtMost rest.controllers
-
 -- what stands before a bit of those that rest
 pub record RestHolds (rest : Rest) (bit : ℕ) (plan : List Talker) (talkers controllers : List Member) : Type 0 where
   pub talkers_rest : AreResting rest bit talkers
@@ -55,7 +48,6 @@ pub record RestHolds (rest : Rest) (bit : ℕ) (plan : List Talker) (talkers con
   pub controllers_within : AwakeWithin rest.controllers controllers
   pub talkers_fit : length talkers ≤ 64
   pub controllers_fit : length controllers ≤ 64
-  pub few_are : rest.few ≡ true → AreFew rest
 
 -- no node that rests wants to start, or none has anything to
 abbrev pub StartsNone : Rest → Type 0
@@ -72,7 +64,6 @@ pub record RestsThrough (bit : ℕ) (level : Bool) (old new : Rest) : Type 0 whe
   pub resting : new.resting ≡ old.resting
   pub talkers_is : new.talkers ≡ old.talkers
   pub controllers_is : new.controllers ≡ old.controllers
-  pub few_is : new.few ≡ old.few
   pub known_is : new.known ≡ old.known
   pub spent_is : new.spent ≡ old.spent
   pub follows : Follows old.known old.listener bit level new.listener
@@ -84,7 +75,6 @@ pub record RestsAcknowledging (level : Bool) (old new : Rest) : Type 0 where
   pub resting_is : new.resting ≡ old.resting
   pub talkers_is : new.talkers ≡ old.talkers
   pub controllers_is : new.controllers ≡ old.controllers
-  pub few_is : new.few ≡ old.few
   pub spent_is : new.spent ≡ old.spent
   pub acknowledges : Acknowledges old.listener level new.listener
   pub listens : IsListening new.listener
@@ -95,7 +85,6 @@ pub record IsSameButKnown (old new : Rest) : Type 0 where
   pub resting_is : new.resting ≡ old.resting
   pub talkers_is : new.talkers ≡ old.talkers
   pub controllers_is : new.controllers ≡ old.controllers
-  pub few_is : new.few ≡ old.few
   pub spent_is : new.spent ≡ old.spent
 
 -- The nodes that rest go through a bit at which they sample this level: the listener followed for them. Some may have
@@ -113,7 +102,6 @@ pub record IsLess (old new : Rest) : Type 0 where
   pub spends : new.spent ≡ true → old.spent ≡ true
   pub talkers_is : new.talkers ≡ old.talkers
   pub controllers_is : new.controllers ≡ old.controllers
-  pub few_is : new.few ≡ old.few
 
 -- one that may have come to rest, and what is known of all that rest then
 pub record Lulls (bit : ℕ) (is_spent : Bool) (before after : Rest) (old new : Member) : Type 0 where
@@ -132,7 +120,6 @@ pub record IsSame (old new : Rest) : Type 0 where
 
 -- where none rests there may be another listener
 pub record Chooses (old new : Rest) : Type 0 where
-  pub many : new.few ≡ false
   pub talkers_is : new.talkers ≡ old.talkers
   pub controllers_is : new.controllers ≡ old.controllers
   pub chosen : IsSame old new ⊎ (old.resting ≡ false)
@@ -142,18 +129,6 @@ pub record ComesToRest (bit : ℕ) (plan : List Talker) (old new : Rest) (t0 t1 
   pub talkers : AreAlike (members_at old bit t0) (members_at new bit t1)
   pub controllers : AreAlike (members_at old bit c0) (members_at new bit c1)
   pub holds : RestHolds new bit plan t1 c1
-
--- A bit at which the talker at the first of these places sends on, or the controller at the second, or none, and the
--- listener follows for those that rest: the line has the level that the one drives, or else is recessive.
-pub record SendsAlone (bit : ℕ) (level : Bool) (talker controller : ℕ) (old new : Rest)
-    (t0 t1 c0 c1 : List Member) : Type 0 where
-  pub starts_none : StartsNone old
-  pub through : RestsThrough bit level old new
-  pub drives : Drives old true
-  pub talkers : MovesOne talker (MemberSends bit old.listener level new.listener) t0 t1
-  pub controllers : MovesOne controller (MemberSends bit old.listener level new.listener) c0 c1
-  pub level_is : level ≡ (passes (drives_at bit) (slice_get t0 talker)
-      && passes (drives_at bit) (slice_get c0 controller))
 
 -- the AND of what these drive at a bit, of which those that rest drive this level
 abbrev pub driven_beside : ℕ → Bool → List Member → Bool

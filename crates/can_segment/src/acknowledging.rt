@@ -16,11 +16,7 @@ impl Rest {
         ensures acknowledges { result ≡ true → RestsAcknowledging level self.old self.new }
         ensures other { result ≡ false → self.new ≡ self.old }
     {
-        if !self.resting || !self.listener.acknowledge(level) {
-            return false;
-        }
-        self.steady = false;
-        true
+        self.resting && self.listener.acknowledge(level)
     }
 
     /// Those that rest count the frame that they have acknowledged.

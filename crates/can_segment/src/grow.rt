@@ -10,13 +10,12 @@ use crate::counts_shown::show_all;
 use crate::make_bit::make_bit;
 use crate::record::Record;
 use crate::rest::Rest;
-use crate::sole_sender::grow_quietly;
 use can_station::{FaultOrder, Member, RxSink, SegmentPlan};
 
 /// One bit more at which any node may have something to do: those that are awake are gone through.
 // out of line, so that quiet bits need not make way for its values
 #[inline(never)]
-fn grow_any<R, P: RxSink<R>>(
+pub(crate) fn grow<R, P: RxSink<R>>(
     rt: &R,
     plan: &SegmentPlan,
     made: &mut Record,
@@ -73,58 +72,6 @@ fn grow_any<R, P: RxSink<R>>(
         controllers,
         made.levels.len() as u64,
         sampled.told,
-        idles,
-    );
-}
-
-/// One bit more, for which there is room. Behind it nodes may come to rest, where `idles` also controllers that want to
-/// start.
-pub(crate) fn grow<R, P: RxSink<R>>(
-    rt: &R,
-    plan: &SegmentPlan,
-    made: &mut Record,
-    talkers: &mut [Member],
-    controllers: &mut [Member],
-    ports: &mut [P],
-    rest: &mut Rest,
-    faults: &FaultOrder,
-    is_loud: bool,
-    idles: bool,
-)
-    requires stands { StandsAt plan.now (length made.old.levels.items) faults.now }
-    requires holds { SegmentHolds plan.now made.old
-        (members_at rest.old (length made.old.levels.items) talkers.old)
-        (members_at rest.old (length made.old.levels.items) controllers.old) }
-    requires rests { RestHolds rest.old (length made.old.levels.items) plan.now.talkers.items
-        talkers.old controllers.old }
-    requires still { length made.old.levels.items < plan.now.bits }
-    requires ports { length ports.old ≡ length controllers.old }
-    requires transmits { TransmitsAll P.transmitting
-        (members_at rest.old (length made.old.levels.items) controllers.old) ports.old }
-    requires level_room { vec_len made.old.levels < vec_capacity made.old.levels }
-    requires event_room { vec_len made.old.events + 3 * (length talkers.old + length controllers.old)
-        ≤ vec_capacity made.old.events }
-    ensures holds { SegmentHolds plan.now made.new
-        (members_at rest.new (length made.new.levels.items) talkers.new)
-        (members_at rest.new (length made.new.levels.items) controllers.new) }
-    ensures rests { RestHolds rest.new (length made.new.levels.items) plan.now.talkers.items
-        talkers.new controllers.new }
-    ensures bit { Grows P.bus_after P.bus_asked P.transmitting P.sink_after P.port_stays plan.now made.old made.new
-        (members_at rest.old (length made.old.levels.items) controllers.old)
-        (members_at rest.new (length made.new.levels.items) controllers.new) ports.old ports.new }
-{
-    if grow_quietly(made, talkers, controllers, rest, faults, is_loud) {
-        return;
-    }
-    grow_any(
-        rt,
-        plan,
-        made,
-        talkers,
-        controllers,
-        ports,
-        rest,
-        faults,
         idles,
     );
 }

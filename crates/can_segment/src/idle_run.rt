@@ -7,12 +7,12 @@ ghost use Rattle.can_segment.specs.Rests.{AreAllSpent, AreIdle, AreRecessive, Go
 use crate::rest::Rest;
 use can_station::{Member, Talker};
 
-/// So many recessive levels, and 32 at most.
+/// So many recessive levels, and 256 at most.
 pub(crate) fn recessive<'a>(most: usize) -> &'a [bool]
     ensures few { length result.now ≤ most }
     ensures recessive { AreRecessive result.now }
 {
-    const RECESSIVE: &[bool] = &[true; 32];
+    const RECESSIVE: &[bool] = &[true; 256];
     &RECESSIVE[..most.min(RECESSIVE.len())]
 }
 

@@ -7,7 +7,7 @@ ghost use Rattle.can_segment.specs.Rests.{members_at};
 ghost use Rattle.can_station.specs.Places.{AtPlaces};
 
 use crate::awake::{Awake, asks_at_each_bit};
-use crate::leader::{Votes, first_listening, one_of_many};
+use crate::leader::{first_listening, one_of_many};
 use crate::rest::Rest;
 use can_node::KnownCounts;
 use can_station::{Member, Talker, fall_silent};
@@ -31,77 +31,52 @@ impl Rest {
     {
         fall_silent(talkers, told, self.talkers);
         fall_silent(controllers, told, self.controllers);
-        let were_apart = self.apart;
-        self.lull_alike(plan, talkers, controllers, bit, told, idles);
+        if !idles && asks_at_each_bit(controllers.first()) {
+            return;
+        }
         // where too few had come as far as the listener, those may that have come as far as another one
-        if self.apart && !were_apart {
+        if self.lull_alike(plan, talkers, controllers, bit, false, idles) {
             self.lull_alike(plan, talkers, controllers, bit, true, idles);
         }
     }
 
-    /// Nodes come to rest before this bit that listen and have come as far as the listener.
+    /// Nodes come to rest before this bit that listen and have come as far as the listener. Returns true where too few
+    /// had, so that all are awake again and another listener may serve more of them.
     fn lull_alike(
         &mut self,
         plan: &[Talker],
         talkers: &mut [Member],
         controllers: &mut [Member],
         bit: u64,
-        told: bool,
+        by_votes: bool,
         idles: bool,
-    )
+    ) -> bool
         requires plan { length plan.now ≡ length talkers.old }
         requires holds { RestHolds self.old bit plan.now talkers.old controllers.old }
         ensures { ComesToRest bit plan.now self.old self.new talkers.old talkers.new controllers.old controllers.new }
     {
-        if !idles && self.stays_so(talkers, controllers, bit, told) {
-            return;
-        }
-        self.choose(talkers, controllers, bit);
+        self.choose(talkers, controllers, bit, by_votes);
         if !self.resting {
-            return;
+            return false;
         }
         let awake = self.lull_talkers(plan, talkers, bit);
         let awake_too = self.lull_controllers(controllers, bit, idles);
-        self.settle(plan, talkers, controllers, bit, &awake, &awake_too);
+        self.settle(plan, talkers, controllers, bit, &awake, &awake_too)
     }
 
-    /// Whether none comes to rest: ports are asked at each bit, or none that is awake can have come as far as the
-    /// listener at the last bit, as far as that is seen at once.
-    fn stays_so(&self, talkers: &[Member], controllers: &[Member], bit: u64, told: bool) -> bool {
-        if asks_at_each_bit(controllers.first()) {
-            return true;
-        }
-        // where one has woken, or something was told, it is looked once more at which places they are awake
-        if told || !self.settled {
-            return false;
-        }
-        if self.steady {
-            return true;
-        }
-        if !self.resting {
-            return false;
-        }
-        let mut votes = Votes::none();
-        votes.count(talkers, self.talkers, &self.listener, bit);
-        votes.count(controllers, self.controllers, &self.listener, bit);
-        votes.alike == 0 && votes.listening <= self.asleep
-    }
-
-    /// Where none rests, those may come to rest that have come as far as one that listens: as far as many have, where
-    /// too few had come as far as the first.
-    fn choose(&mut self, talkers: &[Member], controllers: &[Member], bit: u64)
+    /// Where none rests, those may come to rest that have come as far as one that listens: the first, or by votes one as
+    /// far as which many have.
+    fn choose(&mut self, talkers: &[Member], controllers: &[Member], bit: u64, by_votes: bool)
         ensures { Chooses self.old self.new }
     {
-        self.few = false;
         if self.resting {
             return;
         }
-        let chosen = if self.apart {
+        let chosen = if by_votes {
             one_of_many(talkers, controllers, bit)
         } else {
             first_listening(talkers, controllers, bit)
         };
-        self.apart = false;
         let Some(member) = chosen else {
             return;
         };
@@ -176,8 +151,8 @@ impl Rest {
         awake
     }
 
-    /// Keeps where nodes are awake. Where more listen that are awake than rest, all wake, so that another listener is
-    /// chosen.
+    /// Keeps where nodes are awake. Where more than twice as many listen that are awake as rest, all wake. Returns
+    /// whether they did.
     fn settle(
         &mut self,
         plan: &[Talker],
@@ -186,7 +161,7 @@ impl Rest {
         bit: u64,
         awake_talkers: &Awake,
         awake_controllers: &Awake,
-    )
+    ) -> bool
         requires talkers { AwakeWithin awake_talkers.now.places talkers.old }
         requires controllers { AwakeWithin awake_controllers.now.places controllers.old }
         requires holds { RestHolds self.old bit plan.now talkers.old controllers.old }
@@ -195,16 +170,11 @@ impl Rest {
         ensures holds { RestHolds self.new bit plan.now talkers.new controllers.new }
     {
         if awake_talkers.outnumber(awake_controllers) {
-            self.apart = true;
             self.wake(plan, talkers, controllers, bit);
-            return;
+            return true;
         }
         self.talkers = awake_talkers.places;
         self.controllers = awake_controllers.places;
-        self.few = self.talkers.has_one_at_most() && self.controllers.has_one_at_most();
-        self.settled = true;
-        self.asleep = awake_talkers
-            .resting()
-            .saturating_add(awake_controllers.resting());
+        false
     }
 }

@@ -25,15 +25,6 @@ pub(crate) struct Rest {
     // all talkers rest but some of those at these places, and so do all controllers
     pub(crate) talkers: PlaceSet,
     pub(crate) controllers: PlaceSet,
-    // each of these sets has one place at most
-    pub(crate) few: bool,
-    // none woke since these sets were made, and so many rested then
-    pub(crate) settled: bool,
-    pub(crate) asleep: usize,
-    // those that rest read on in the stuffed region at the last bit, and before it
-    pub(crate) steady: bool,
-    // too few had come as far as the listener, so that all woke
-    pub(crate) apart: bool,
 }
 
 impl Rest {
@@ -41,7 +32,6 @@ impl Rest {
     pub(crate) fn none(talkers: &[Member], controllers: &[Member]) -> Rest
         requires { length talkers.now + length controllers.now ≤ 64 }
         ensures resting { result.resting ≡ false }
-        ensures few { result.few ≡ false }
         ensures talkers { AwakeWithin result.talkers talkers.now }
         ensures controllers { AwakeWithin result.controllers controllers.now }
     {
@@ -52,11 +42,6 @@ impl Rest {
             spent: false,
             talkers: PlaceSet::of_awake(talkers),
             controllers: PlaceSet::of_awake(controllers),
-            few: false,
-            settled: false,
-            asleep: 0,
-            steady: false,
-            apart: false,
         }
     }
 
@@ -77,23 +62,14 @@ impl Rest {
         !self.listener.wants_start()
     }
 
-    /// Whether those that rest read within the stuffed region of a frame, or drive dominant, as in its ACK slot.
-    pub(crate) fn is_reading_or_driving(&self) -> bool {
-        self.listener.is_reading() || !self.listener.drive()
-    }
-
     /// It is looked once more at which places nodes are awake, for some have woken.
     pub(crate) fn look_everywhere(&mut self, talkers: &[Member], controllers: &[Member])
         requires few_talkers { length talkers.now ≤ 64 }
         requires few_controllers { length controllers.now ≤ 64 }
         ensures same { IsSame self.old self.new }
-        ensures few { self.new.few ≡ false }
         ensures talkers { AwakeWithin self.new.talkers talkers.now }
         ensures controllers { AwakeWithin self.new.controllers controllers.now }
     {
-        self.few = false;
-        self.settled = false;
-        self.steady = false;
         self.talkers = PlaceSet::of_awake(talkers);
         self.controllers = PlaceSet::of_awake(controllers);
     }
@@ -186,12 +162,7 @@ impl Rest {
         if !self.resting {
             return false;
         }
-        let reading = self.listener.is_reading();
-        if !self.listener.follow(bit, level, self.known) {
-            return false;
-        }
-        self.steady = reading & self.listener.is_reading();
-        true
+        self.listener.follow(bit, level, self.known)
     }
 
     /// The listener follows through a bit at which those that rest sample this level, where it can: then they may have

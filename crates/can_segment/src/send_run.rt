@@ -131,6 +131,9 @@ pub(crate) fn send_run(
         idle_run(levels, talkers, controllers, rest, most);
         return;
     }
+    if !rest.listener.may_follow_by() {
+        return;
+    }
     let awake = rest.talkers;
     let awake_too = rest.controllers;
     let talker = first_sender(talkers, awake);

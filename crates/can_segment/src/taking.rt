@@ -47,7 +47,6 @@ impl Rest {
     fn end(&mut self, talkers: &[Member], controllers: &[Member])
         requires few_talkers { length talkers.now ≤ 64 }
         requires few_controllers { length controllers.now ≤ 64 }
-        ensures few { self.new.few ≡ false }
         ensures talkers { AwakeWithin self.new.talkers talkers.now }
         ensures controllers { AwakeWithin self.new.controllers controllers.now }
     {
@@ -91,7 +90,6 @@ pub(crate) fn sample_together<R, P: RxSink<R>>(
     ensures quiet { result ≡ false → AreQuiet bit (members_at rest.new (bit + 1) talkers.new)
         × AreQuiet bit (members_at rest.new (bit + 1) controllers.new) }
     ensures awake { NoneRests talkers.new × NoneRests controllers.new }
-    ensures few { rest.new.few ≡ false }
     ensures within { AwakeWithin rest.new.talkers talkers.new × AwakeWithin rest.new.controllers controllers.new }
     ensures fit { (length talkers.new ≤ 64) × (length controllers.new ≤ 64) }
 {

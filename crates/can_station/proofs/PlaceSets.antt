@@ -15,8 +15,8 @@ use Rattle.can_station.specs.declared.member.Member.{Member}
 use Rattle.can_station.specs.declared.place_set.PlaceSet.{PlaceSet}
 use Rattle.can_station.specs.Places.{AtBoth, AtPlaces}
 use Rattle.can_station.proofs.Places.{AtBothBut, AtPlacesBut, same_some, some_there, get_set_same, get_set_other}
-use Rattle.can_station.specs.PlaceSets.{HasOneAtMost, HasPlace, IsEmpty, IsFirst, IsWith, IsWithout}
-use Rattle.can_station.specs.RestingNodes.{AwakeWithin, IfAwake, IfAwakeBoth, OthersRest}
+use Rattle.can_station.specs.PlaceSets.{HasPlace, IsEmpty, IsFirst, IsWith, IsWithout}
+use Rattle.can_station.specs.RestingNodes.{AwakeWithin, IfAwake, IfAwakeBoth}
 
 -- the first place of a set that has one is that of the lowest 1
 pub first_is : (set : PlaceSet) → 0 < set.bits → set.bits < 2 ^ 64 → IsFirst (trailing_zeros w64 set.bits) set
@@ -167,15 +167,6 @@ within_both {P = P} Step set old new from to sizes h w = record {
         by : (b : Bool) → x.rests ≡ b → x.rests ≡ false
         by false on = on
         by true on = ap (λ y. y.rests) (sym (step.rests_on on).0) ∙ is
-
--- where there is one place at most, all others rest
-pub others_within : (set : PlaceSet) (members : List Member) (place : ℕ) → HasOneAtMost set →
-    (place < 64 → IsFirst place set) → (64 ≤ place → IsEmpty set) → AwakeWithin set members → OthersRest place members
-others_within set members place one some none h k m e not =
-    rests_outside set members k m h e (elim (cases_lt place 64) [
-      | inl less ↦ (λ is. not (one k place is (some less).has))
-      | inr more ↦ none (omega (arith, more)) k
-    ])
 
 -- this is so of each node, but of those left
 pub record EachBut (Q : ℕ → Member → Type 0) (members : List Member) (left : PlaceSet) : Type 0 where

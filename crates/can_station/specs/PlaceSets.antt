@@ -11,10 +11,6 @@ HasPlace set k = bit_at set.bits k ≡ 1
 abbrev pub IsEmpty : PlaceSet → Type 0
 IsEmpty set = (k : ℕ) → HasPlace set k → ⊥
 
--- all places are the same one
-abbrev pub HasOneAtMost : PlaceSet → Type 0
-HasOneAtMost set = (k l : ℕ) → HasPlace set k → HasPlace set l → k ≡ l
-
 -- the first place of the set
 pub record IsFirst (place : ℕ) (set : PlaceSet) : Type 0 where
   pub has : HasPlace set place

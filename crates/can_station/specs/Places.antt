@@ -1,5 +1,5 @@
 -- What a loop over the nodes of a segment does, place by place; and one over nodes and their ports.
-use Rattle.std.specs.Prelude.{◌≡◌, ◌≢◌, ℕ, List, Some, slice_get, length}
+use Rattle.std.specs.Prelude.{◌≡◌, ℕ, List, Some, slice_get, length}
 
 -- each element made this step
 pub record AtPlaces {M : Type 0} (Step : ℕ → M → M → Type 0) (old new : List M) : Type 0 where
@@ -13,9 +13,3 @@ pub record AtBoth {M P : Type 0} (Step : ℕ → M → M → P → P → Type 0)
       slice_get from k ≡ Some p → slice_get to k ≡ Some q → Step k a b p q
   pub size : length new ≡ length old
   pub size_too : length to ≡ length from
-
--- the element at this place, if there is one, made this step, and the others are as they were
-pub record MovesOne {M : Type 0} (place : ℕ) (Step : M → M → Type 0) (old new : List M) : Type 0 where
-  pub at : (a b : M) → slice_get old place ≡ Some a → slice_get new place ≡ Some b → Step a b
-  pub others : (k : ℕ) → k ≢ place → slice_get new k ≡ slice_get old k
-  pub size : length new ≡ length old

@@ -5,7 +5,7 @@ use Rattle.bx_core.specs.TxBus.{Item}
 use Rattle.can_confinement.specs.KnownCounts.{Knows}
 use Rattle.can_confinement.specs.declared.known_counts.KnownCounts.{KnownCounts}
 use Rattle.can_node.specs.Histories.{Past, IsHistory}
-use Rattle.can_node.specs.Listener.{AllShare, Receives, SendsTo, StandsWith, caught_up as node_caught_up}
+use Rattle.can_node.specs.Listener.{AllShare, Receives, StandsWith, caught_up as node_caught_up}
 use Rattle.can_node.specs.Node.{IsSample, StandsAfter, bit_of, counters_in, may_begin}
 use Rattle.can_node.specs.declared.outcome.Outcome.TheVariants.{Nothing}
 use Rattle.can_node.specs.declared.shared_sample.SharedSample.{SharedSample}
@@ -18,7 +18,7 @@ use Rattle.can_station.specs.declared.place_set.PlaceSet.{PlaceSet}
 use Rattle.can_station.specs.Faults.{is_inverted}
 use Rattle.can_station.specs.Deeds.{IsQuiet, no_deed}
 use Rattle.can_station.specs.Members.{Samples, drives_at}
-use Rattle.can_station.specs.Places.{AtPlaces, MovesOne}
+use Rattle.can_station.specs.Places.{AtPlaces}
 use Rattle.can_station.specs.PlaceSets.{HasPlace}
 use Rattle.can_station.specs.Ports.{item_of}
 
@@ -91,10 +91,6 @@ pub record IfAwakeBoth {P : Type 0} (Step : Member → Member → P → P → Ty
 -- none of these rests
 abbrev pub NoneRests : List Member → Type 0
 NoneRests members = (k : ℕ) (m : Member) → slice_get members k ≡ Some m → m.rests ≡ false
-
--- all of these rest but the one at this place
-abbrev pub OthersRest : ℕ → List Member → Type 0
-OthersRest place members = (k : ℕ) (m : Member) → slice_get members k ≡ Some m → k ≢ place → m.rests ≡ true
 
 -- of these nodes only some at the places of the set are awake
 pub record AwakeWithin (set : PlaceSet) (members : List Member) : Type 0 where
@@ -183,27 +179,6 @@ AwakeAreQuiet bit members = (k : ℕ) (m : Member) → slice_get members k ≡ S
 abbrev pub TransmitsAll : {P : Type 0} → (P → Option Item) → List Member → List P → Type 0
 TransmitsAll {P = P} transmitting members ports = (k : ℕ) (m : Member) (p : P) → slice_get members k ≡ Some m →
     slice_get ports k ≡ Some p → transmitting p ≡ item_of m.station.sending
-
--- one bit of a frame that it sends while all others that are there listen, and nothing is told of it
-pub record MemberSends (bit : ℕ) (before : Listener) (level : Bool) (after : Listener) (old new : Member) : Type 0 where
-  pub awake : old.rests ≡ false
-  pub is_on : old.on ≤ bit
-  pub quiet : IsQuiet old.deed
-  pub sends : SendsTo old.station.node before level new.station.node after
-  pub awake_too : new.rests ≡ false
-  pub on_is : new.on ≡ old.on
-  pub deed_is : new.deed ≡ old.deed
-  pub sending_is : new.station.sending ≡ old.station.sending
-  pub completed_is : new.station.completed ≡ old.station.completed
-
--- so does the one at this place, which is there
-pub record OneSends (place bit : ℕ) (before : Listener) (level : Bool) (after : Listener)
-    (old new : List Member) : Type 0 where
-  pub from : Member
-  pub to : Member
-  pub from_is : slice_get old place ≡ Some from
-  pub step : MemberSends bit before level after from to
-  pub moves : MovesOne place (MemberSends bit before level after) old new
 
 -- it goes on with this bit, if that has this level, and nothing is told of it
 pub record MayGo (bit : ℕ) (level : Bool) (member : Member) : Type 0 where

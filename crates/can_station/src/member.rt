@@ -11,7 +11,7 @@ ghost use Rattle.can_station.specs.Fresh.{IsFresh};
 ghost use Rattle.can_station.specs.Deeds.{IsQuiet, Names, no_deed};
 ghost use Rattle.can_station.specs.Outcomes.{sending_after, completed_by};
 ghost use Rattle.can_station.specs.RestingNodes.{GoesAsItMay, MayGo, MayGoBy, MayWake};
-ghost use Rattle.can_station.specs.RestingNodes.{CountsReceived, KnowsResting, MemberGoes, MemberSends, Shares};
+ghost use Rattle.can_station.specs.RestingNodes.{CountsReceived, KnowsResting, MemberGoes, Shares};
 ghost use Rattle.can_station.specs.RestingNodes.{laid_down, silenced, woken};
 ghost use Rattle.can_station.specs.Members.{
   AreOf,
@@ -377,22 +377,5 @@ impl Member {
             return;
         }
         self.station.node.go_on(level);
-    }
-
-    /// One bit of a frame that it sends while all others that are there listen (`Node::send_to`): the level of the
-    /// line. `None` where that can't be, or something of it is still told: then nothing is changed.
-    #[inline(always)]
-    pub fn send_to(&mut self, bit: u64, listener: &mut Listener) -> Option<bool>
-        requires { self.old.rests ≡ false → self.old.on ≤ bit → bit_of self.old.station.node < u64.MAX }
-        ensures sends { IfSome result (λ level. MemberSends bit listener.old level listener.new self.old self.new) }
-        ensures none { IfNone result ((self.new ≡ self.old) × (listener.new ≡ listener.old)) }
-    {
-        if self.rests || bit < self.on {
-            return None;
-        }
-        if !self.deed.is_quiet() {
-            return None;
-        }
-        self.station.node.send_to(listener)
     }
 }

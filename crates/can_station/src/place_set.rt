@@ -1,7 +1,7 @@
 //! Sets of places.
 
 ghost use Rattle.std.specs.Prelude.{◌≡◌, ◌≤◌, ◌<◌, ℕ, Some, IfNone, IfSome, true, false, length, slice_get};
-ghost use Rattle.can_station.specs.PlaceSets.{HasPlace, HasOneAtMost, IsEmpty, IsFirst, IsWith, IsWithout};
+ghost use Rattle.can_station.specs.PlaceSets.{HasPlace, IsEmpty, IsFirst, IsWith, IsWithout};
 ghost use Rattle.can_station.specs.RestingNodes.{AwakeWithin};
 
 use crate::member::Member;
@@ -77,15 +77,5 @@ impl PlaceSet {
         ensures some { IsEmpty self → result ≡ true }
     {
         self.bits == 0
-    }
-
-    /// Whether it has one place at most.
-    pub fn has_one_at_most(self) -> bool
-        ensures one { result ≡ true → HasOneAtMost self }
-        ensures more { HasOneAtMost self → result ≡ true }
-    {
-        let mut others = self;
-        let _ = others.take_first();
-        others.is_empty()
     }
 }

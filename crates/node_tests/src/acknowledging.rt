@@ -55,19 +55,3 @@ fn those_that_are_left_alone_count_what_they_acknowledge(rt: HostRuntime) {
     assert_eq!(rt; (alone.counters().rec(), resting.counters().rec()), (0, 0));
     assert!(rt; !listener.acknowledge(false));
 }
-
-#[test]
-fn a_delimiter_begins_behind_the_flag(rt: HostRuntime) {
-    let mut node = Node::new(0);
-    for _ in 0..11u8 {
-        sample(&mut node, true);
-    }
-    for _ in 0..12u8 {
-        sample(&mut node, false);
-        assert!(rt; !node.listener().begins_delimiter());
-    }
-    sample(&mut node, true);
-    assert!(rt; node.listener().begins_delimiter());
-    sample(&mut node, true);
-    assert!(rt; !node.listener().begins_delimiter());
-}

@@ -15,14 +15,6 @@ fn sample(node: &mut Node, level: bool) -> Option<Outcome> {
     Some(node.sample(level))
 }
 
-/// The node sends a bit to all that this one stands for, if it has a bit left.
-fn send_to(node: &mut Node, listener: &mut Listener) -> Option<bool> {
-    if node.bit() == u64::MAX {
-        return None;
-    }
-    node.send_to(listener)
-}
-
 /// The node samples a level with which it goes on, if it has a bit left.
 fn go_on(node: &mut Node, level: bool) -> Option<Outcome> {
     if node.bit() == u64::MAX || !node.goes_on(level) {
@@ -119,8 +111,7 @@ fn one_follows_for_those_that_listen(rt: HostRuntime) {
             // the last bit of the CRC, at which the frame is read, and the ACK slot, at which a receiver answers
             39 | 41 => {
                 assert_eq!(rt; listener.drive(), place != 41);
-                assert_eq!(rt; listener.is_reading(), place == 39);
-                assert_eq!(rt; send_to(&mut sender, &mut listener), None);
+                assert_eq!(rt; listener.reads_along_by(&[level]), 0);
                 // a CRC that is wrong is told behind the ACK slot; that one's own dominant level is missing is a bit
                 // error
                 let wrong = if place == 41 {
@@ -139,7 +130,7 @@ fn one_follows_for_those_that_listen(rt: HostRuntime) {
             }
             // the sixth bit of EOF, at which a receiver takes the frame
             48 => {
-                assert_eq!(rt; send_to(&mut sender, &mut listener), None);
+                assert_eq!(rt; listener.reads_along_by(&[level]), 0);
                 assert!(rt; !listener.follow(sender.bit(), level, KnownCounts::Zero));
                 assert!(rt; !receiver.stands_with(&listener));
                 assert!(rt; listener.takes(false).is_none());
@@ -160,7 +151,9 @@ fn one_follows_for_those_that_listen(rt: HostRuntime) {
             49 => assert_eq!(rt; sample(&mut sender, level), Some(Outcome::Completed)),
             _ => {
                 assert!(rt; listener.drive());
-                assert_eq!(rt; send_to(&mut sender, &mut listener), Some(level));
+                assert_eq!(rt; sender.drive(), level);
+                assert_eq!(rt; sample(&mut sender, level), Some(Outcome::Nothing));
+                assert_eq!(rt; listener.reads_along_by(&[level]), 1);
             }
         }
     }

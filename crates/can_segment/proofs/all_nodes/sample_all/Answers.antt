@@ -272,5 +272,5 @@ returns-in-Shares-clause-rests g c =
     let made = c.sample_together-told.new in
     let within = c.sample_together-told.ensures.within in
     let fit = c.sample_together-told.ensures.fit in
-    none_rests made.rest (c.args.bit + 1) c.args.plan.now made.talkers made.controllers c.sample_together-told.ensures.few
+    none_rests made.rest (c.args.bit + 1) c.args.plan.now made.talkers made.controllers
     within.0 within.1 fit.0 fit.1 c.sample_together-told.ensures.awake.0 c.sample_together-told.ensures.awake.1

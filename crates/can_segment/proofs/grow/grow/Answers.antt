@@ -1,104 +1,165 @@
-use Rattle.std.proofs.Common.{rules, ◌≡◌, ◌+◌, ◌++◌, ◌∷◌, [], Some, length, slice_get, refl, arith, sym, ap, ◌∙◌}
-use Rattle.std.proofs.Common.{length-append}
-use Rattle.std.proofs.lemmas.List.{append-nil}
+use Rattle.std.proofs.Common.{rules, ◌≡◌, ◌+◌, ◌∷◌, [], length, arith, sym, ap, subst, ◌∙◌, length-append}
 use Rattle.std.proofs.lemmas.Option.{slice_get_within}
-use Rattle.can_segment.specs.Brought.{told_of}
+use Rattle.can_segment.specs.Brought.{IsBrought, told_of}
+use Rattle.can_segment.specs.Kept.{SegmentKept}
 use Rattle.can_station.specs.Members.{wants_at}
+use Rattle.can_station.specs.Ports.{item_of}
+use Rattle.can_station.specs.RestingNodes.{AreAlike}
 use Rattle.can_segment.specs.Rests.{members_at}
+use Rattle.can_segment.specs.Segments.{AreFrom}
 use Rattle.can_station.specs.Tellings.{bit_lines}
 use Rattle.can_segment.proofs.Brought.{port_brought}
 use Rattle.can_segment.proofs.LinesOfNodes.{of_controller}
-use Rattle.can_segment.proofs.Keeps.{controller_clocks, run_length, talker_clocks}
-use Rattle.can_segment.proofs.Moves.{port_moves}
+use Rattle.can_segment.proofs.Keeps.{run_length}
 use Rattle.can_station.proofs.Places.{some_there}
-use Rattle.can_segment.proofs.QuietBits.{grown_holds, grown_kept, grown_rests}
-use Rattle.can_segment.proofs.Woken.{found_awake}
-use Rattle.can_segment.proofs.SoleSender.{controllers_settle_alone, controllers_start_alone}
+use Rattle.can_segment.proofs.Rests.{members_length}
+use Rattle.can_segment.proofs.Wholes.{from_left, from_real, from_whole, holds_alike}
 use Rattle.can_segment.proofs.grow.grow.Goals as goal
 
-pub grow_quietly-requires-clause-talker_room : goal.grow_quietly-requires-clause-talker_room
-grow_quietly-requires-clause-talker_room g c k m e awake on =
+pub make_bit-sampled-requires-clause-few : goal.make_bit-sampled-requires-clause-few
+make_bit-sampled-requires-clause-few g c =
     let rest = c.args.rest.now in
-    let levels = c.args.made.now.levels.items in
-    let bit = length levels in
-    talker_clocks c.args.plan.now levels c.args.made.now.events.items (members_at rest bit c.args.talkers.now)
-    (members_at rest bit c.args.controllers.now) bit _ c.requires.holds.kept refl (search rules) k m
-    (found_awake rest.listener bit c.args.talkers.now k m e awake) on
+    let bit = length c.args.made.now.levels.items in
+    omega (
+      arith,
+      c.requires.holds.few,
+      members_length rest bit c.args.talkers.now,
+      members_length rest bit c.args.controllers.now,
+    )
 
-pub grow_quietly-requires-clause-room : goal.grow_quietly-requires-clause-room
-grow_quietly-requires-clause-room g c k m e awake on =
-    let rest = c.args.rest.now in
-    let levels = c.args.made.now.levels.items in
-    let bit = length levels in
-    controller_clocks c.args.plan.now levels c.args.made.now.events.items (members_at rest bit c.args.talkers.now)
-    (members_at rest bit c.args.controllers.now) bit _ c.requires.holds.kept refl (search rules) k m
-    (found_awake rest.listener bit c.args.controllers.now k m e awake) on
+pub show_all-requires-clause-size : goal.show_all-requires-clause-size
+show_all-requires-clause-size g c =
+    let bit = length c.args.made.now.levels.items in
+    let new = c.make_bit-sampled.new.rest in
+    let before = c.requires.holds.kept.stands in
+    let behind = c.make_bit-sampled.ensures.kept.stands in
+    omega (
+      arith,
+      c.requires.holds.size,
+      before.talkers_size,
+      before.controllers_size,
+      behind.talkers_size,
+      behind.controllers_size,
+      members_length new (bit + 1) c.make_bit-sampled.new.talkers,
+      members_length new (bit + 1) c.make_bit-sampled.new.controllers,
+    )
 
-pub returns-then-grow_quietly-clause-holds : goal.returns-then-grow_quietly-clause-holds
-returns-then-grow_quietly-clause-holds g c =
-    grown_holds c.args.plan.now c.args.faults.now c.args.made.now c.grow_quietly.new.made c.args.rest.now
-    c.grow_quietly.new.rest c.args.talkers.now c.grow_quietly.new.talkers c.args.controllers.now
-    c.grow_quietly.new.controllers
-    (c.grow_quietly.ensures.quiet c.if-grow_quietly.true) c.requires.holds c.requires.still c.requires.stands
-    c.requires.rests
-
-pub returns-then-grow_quietly-clause-rests : goal.returns-then-grow_quietly-clause-rests
-returns-then-grow_quietly-clause-rests g c =
-    grown_rests c.args.plan.now c.args.faults.now c.args.made.now c.grow_quietly.new.made c.args.rest.now
-    c.grow_quietly.new.rest c.args.talkers.now c.grow_quietly.new.talkers c.args.controllers.now
-    c.grow_quietly.new.controllers
-    (c.grow_quietly.ensures.quiet c.if-grow_quietly.true) c.requires.rests
-
-pub returns-then-grow_quietly-clause-bit : goal.returns-then-grow_quietly-clause-bit
-returns-then-grow_quietly-clause-bit g c =
-    let made = c.args.made.now in
-    let plan = c.args.plan.now in
+pub show_all-requires-clause-talkers : goal.show_all-requires-clause-talkers
+show_all-requires-clause-talkers g c none =
     let old = c.args.rest.now in
-    let new = c.grow_quietly.new.rest in
-    let t0 = c.args.talkers.now in
-    let t1 = c.grow_quietly.new.talkers in
-    let c0 = c.args.controllers.now in
-    let c1 = c.grow_quietly.new.controllers in
-    let ports = c.args.ports.now in
-    let bit = length made.levels.items in
-    let grown = c.grow_quietly.ensures.quiet c.if-grow_quietly.true in
-    let level = grown.level in
-    let h = grown.sends in
-    let quiet = grown_kept plan c.args.faults.now made c.grow_quietly.new.made old new t0 t1 c0 c1 grown
-    c.requires.holds c.requires.still c.requires.stands c.requires.rests in
-    let talkers = members_at new (bit + 1) t1 in
-    let controllers = members_at new (bit + 1) c1 in
+    let counters = c.args.made.now.counters.items in
+    from_left 0 c.args.talkers.now c.make_bit-sampled.new.talkers counters
+    (from_whole 0 old (length c.args.made.now.levels.items) c.args.talkers.now counters
+    c.requires.holds.talkers_shown) (c.make_bit-sampled.ensures.left none).0
+
+pub show_all-requires-clause-controllers : goal.show_all-requires-clause-controllers
+show_all-requires-clause-controllers g c none =
+    let old = c.args.rest.now in
+    let new = c.make_bit-sampled.new.rest in
+    let bit = length c.args.made.now.levels.items in
+    let counters = c.args.made.now.counters.items in
+    let size : length (members_at old bit c.args.talkers.now) ≡ length c.make_bit-sampled.new.talkers =
+    omega (
+      arith,
+      c.requires.holds.kept.stands.talkers_size,
+      c.make_bit-sampled.ensures.kept.stands.talkers_size,
+      members_length new (bit + 1) c.make_bit-sampled.new.talkers,
+    ) in
+    from_left (length c.make_bit-sampled.new.talkers) c.args.controllers.now c.make_bit-sampled.new.controllers counters
+    (subst (λ first. AreFrom first c.args.controllers.now counters) size
+    (from_whole _ old bit c.args.controllers.now counters c.requires.holds.controllers_shown))
+    (c.make_bit-sampled.ensures.left none).1
+
+pub come_to_rest-requires-clause-plan : goal.come_to_rest-requires-clause-plan
+come_to_rest-requires-clause-plan g c =
+    let bit = length c.args.made.now.levels.items in
+    let behind = c.make_bit-sampled.ensures.kept.stands in
+    omega (
+      arith,
+      ap length c.as_slice.ensures.value,
+      behind.talkers_size,
+      members_length c.make_bit-sampled.new.rest (bit + 1) c.make_bit-sampled.new.talkers,
+    )
+
+pub returns-clause-holds : goal.returns-clause-holds
+returns-clause-holds g c =
+    let made = c.make_bit-sampled.ensures in
+    let old = c.args.rest.now in
+    let mid = c.make_bit-sampled.new.rest in
+    let new = c.come_to_rest.new.self in
+    let bit = length c.args.made.now.levels.items in
+    let next = length c.make_bit-sampled.new.levels.items in
+    let longer : bit + 1 ≡ next =
+    sym (ap length made.level.1 ∙ length-append c.args.made.now.levels.items (made.level.0 ∷ [])) in
+    let here : c.len.result ≡ next = search rules in
+    let t1 = c.make_bit-sampled.new.talkers in
+    let c1 = c.make_bit-sampled.new.controllers in
+    let kept = subst (λ n. SegmentKept c.args.plan.now c.make_bit-sampled.new.levels.items c.make_bit-sampled.new.events.items
+    (members_at mid n t1) (members_at mid n c1)) longer made.kept in
+    let talkers_size = members_length mid next t1 in
+    let controllers_size = members_length mid next c1 in
+    let before = c.requires.holds.kept.stands in
+    holds_alike c.args.plan.now (record {
+      levels = c.make_bit-sampled.new.levels;
+      events = c.make_bit-sampled.new.events;
+      counters = c.show_all.new.counters;
+    }) (members_at mid next t1)
+    (members_at new next c.come_to_rest.new.talkers)
+    (members_at mid next c1) (members_at new next c.come_to_rest.new.controllers)
+    (subst (λ n. AreAlike (members_at mid n t1) (members_at new n c.come_to_rest.new.talkers)) here
+    c.come_to_rest.ensures.talkers)
+    (subst (λ n. AreAlike (members_at mid n c1) (members_at new n c.come_to_rest.new.controllers)) here
+    c.come_to_rest.ensures.controllers) kept
+    (omega (
+      arith,
+      c.requires.holds.few,
+      before.talkers_size,
+      before.controllers_size,
+      kept.stands.talkers_size,
+      kept.stands.controllers_size,
+    )) (omega (arith, c.show_all.ensures.size, talkers_size, controllers_size))
+    (from_real 0 mid next t1 c.show_all.new.counters.items c.show_all.ensures.talkers)
+    (from_real (length (members_at mid next t1)) mid next c1 c.show_all.new.counters.items
+    (subst (λ first. AreFrom first c1 c.show_all.new.counters.items)
+    (sym talkers_size) c.show_all.ensures.controllers))
+
+pub returns-clause-bit : goal.returns-clause-bit
+returns-clause-bit g c =
+    let made = c.make_bit-sampled.ensures in
+    let mid = c.make_bit-sampled.new.rest in
+    let new = c.come_to_rest.new.self in
+    let bit = length c.args.made.now.levels.items in
+    let next = length c.make_bit-sampled.new.levels.items in
+    let longer : bit + 1 ≡ next =
+    sym (ap length made.level.1 ∙ length-append c.args.made.now.levels.items (made.level.0 ∷ [])) in
+    let here : c.len.result ≡ next = search rules in
+    let talkers = members_at mid (bit + 1) c.make_bit-sampled.new.talkers in
+    let controllers = members_at mid (bit + 1) c.make_bit-sampled.new.controllers in
     let lines = bit_lines bit talkers controllers in
-    let stands = quiet.kept.stands in
-    let longer : length c.grow_quietly.new.made.levels.items ≡ bit + 1 =
-    ap length grown.levels_is ∙ length-append made.levels.items (level ∷ []) in
-    let starts = controllers_start_alone g.P.TxBus.bus_after g.P.TxBus.bus_asked g.P.TxBus.transmitting
-    g.P.TxBus.bus_stays plan.talkers.items bit level old new t0 t1 c0 c1 ports g.met.P.TxBus.bus_stays_self h
-    c.requires.rests c.requires.transmits c.requires.ports in
-    let settles = controllers_settle_alone g.P.TxBus.bus_after g.P.TxBus.bus_asked g.P.TxBus.transmitting
-    g.P.RxSink.sink_after g.P.RxSink.port_stays plan.talkers.items bit level old new t0 t1 c0 c1 ports
-    (λ x. g.met.P.RxSink.port_of_bus x x (g.met.P.TxBus.bus_stays_self x)) h c.requires.rests c.requires.transmits
-    c.requires.ports in
+    let stands = made.kept.stands in
+    let alike = subst (λ n. AreAlike (members_at mid n c.make_bit-sampled.new.controllers)
+    (members_at new next c.come_to_rest.new.controllers)) (sym longer)
+    (subst (λ n. AreAlike (members_at mid n c.make_bit-sampled.new.controllers)
+    (members_at new n c.come_to_rest.new.controllers)) here c.come_to_rest.ensures.controllers) in
     record {
-      level = level;
+      level = made.level.0;
       lines = lines;
-      levels_is = grown.levels_is;
-      events_is = ap (λ v. v.items) grown.events_is
-          ∙ sym (ap (λ ls. made.events.items ++ ls) quiet.no_lines ∙ append-nil made.events.items);
-      ports = λ k a m p q d e f l.
-          let there : slice_get controllers k ≡ Some m = ap (λ n. slice_get (members_at new n c1) k) (sym longer) ∙ e in
-          let within = slice_get_within controllers k m there in
-          let planned = some_there plan.controllers.items k (omega (arith, within, stands.controllers_size)) in
-          let stood = stands.controllers_stand k planned.0 m planned.1 there in
-          let behind : length quiet.kept.trace ≡ bit + 1 =
-          sym (run_length quiet.kept.run) ∙ length-append made.levels.items (level ∷ []) in
-          port_brought g.P.TxBus.bus_after g.P.TxBus.bus_asked g.P.TxBus.transmitting g.P.RxSink.sink_after
-          g.P.RxSink.port_stays bit (wants_at bit a) _ m p q
-          (ap (λ n. told_of (n + k) lines) (sym stands.talkers_size) ∙ of_controller bit talkers controllers k m there)
-          (λ early. stood.quiet (omega (arith, behind, early, stood.on_is)))
-          (port_moves g.P.TxBus.bus_after g.P.TxBus.bus_asked g.P.TxBus.transmitting g.P.RxSink.sink_after
-          g.P.TxBus.bus_stays g.P.RxSink.port_stays bit _ a a m p p q g.met.P.RxSink.port_of_bus
-          g.met.P.RxSink.port_stays_on g.met.P.RxSink.sink_stays
-          (starts.at k a a p p d d f f) (settles.at k a m p q d there f l));
-      size = refl;
+      levels_is = made.level.1;
+      events_is = made.events;
+      ports = λ k a m p q d e f h.
+          let within = slice_get_within (members_at new next c.come_to_rest.new.controllers) k m e in
+          let x = some_there controllers k (omega (arith, within, alike.size)) in
+          let planned = some_there c.args.plan.now.controllers.items k
+          (omega (arith, within, alike.size, stands.controllers_size)) in
+          let stood = stands.controllers_stand k planned.0 x.0 planned.1 x.1 in
+          let behind : length made.kept.trace ≡ bit + 1 = sym (run_length made.kept.run) ∙ sym longer in
+          subst (λ sends. IsBrought g.P.TxBus.bus_after g.P.TxBus.bus_asked g.P.TxBus.transmitting g.P.RxSink.sink_after
+          g.P.RxSink.port_stays (told_of (length c.args.plan.now.talkers.items + k) lines) (wants_at bit a)
+          (item_of sends) p q)
+          (sym (alike.at k x.0 m x.1 e).sending_is)
+          (port_brought g.P.TxBus.bus_after g.P.TxBus.bus_asked g.P.TxBus.transmitting g.P.RxSink.sink_after
+          g.P.RxSink.port_stays bit (wants_at bit a) _ x.0 p q
+          (ap (λ n. told_of (n + k) lines) (sym stands.talkers_size) ∙ of_controller bit talkers controllers k x.0 x.1)
+          (λ early. stood.quiet (omega (arith, behind, early, stood.on_is))) (made.port k a x.0 p q d x.1 f h));
+      size = made.size;
     }

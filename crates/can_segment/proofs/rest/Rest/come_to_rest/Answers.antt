@@ -23,8 +23,29 @@ lull_alike-requires-clause-holds c =
     (λ set. within_places (λ k. FallsSilent c.args.told) set c0 c1 c.fall_silent-2.ensures)
     (omega (arith, c.fall_silent.ensures.size)) (omega (arith, c.fall_silent-2.ensures.size)) c.requires.holds
 
-pub returns-else-self : goal.returns-else-self
-returns-else-self c =
+pub returns-then-asks_at_each_bit : goal.returns-then-asks_at_each_bit
+returns-then-asks_at_each_bit c =
+    let rest = c.args.self.now in
+    record {
+      talkers = all_silent c.args.told rest.listener c.args.bit c.args.talkers.now c.fall_silent.new.members
+          c.fall_silent.ensures;
+      controllers = all_silent c.args.told rest.listener c.args.bit c.args.controllers.now c.fall_silent-2.new.members
+          c.fall_silent-2.ensures;
+      holds = left_holds rest c.args.bit c.args.plan.now c.args.talkers.now c.fall_silent.new.members
+          c.args.controllers.now c.fall_silent-2.new.members
+          (left_places (λ k. FallsSilent c.args.told) c.args.talkers.now c.fall_silent.new.members
+          c.fall_silent.ensures)
+          (left_places (λ k. FallsSilent c.args.told) c.args.controllers.now c.fall_silent-2.new.members
+          c.fall_silent-2.ensures)
+          (λ set. within_places (λ k. FallsSilent c.args.told) set c.args.talkers.now c.fall_silent.new.members
+          c.fall_silent.ensures)
+          (λ set. within_places (λ k. FallsSilent c.args.told) set c.args.controllers.now c.fall_silent-2.new.members
+          c.fall_silent-2.ensures)
+          (omega (arith, c.fall_silent.ensures.size)) (omega (arith, c.fall_silent-2.ensures.size)) c.requires.holds;
+    }
+
+pub returns-else-lull_alike : goal.returns-else-lull_alike
+returns-else-lull_alike c =
     let rest = c.args.self.now in
     record {
       talkers =
@@ -43,33 +64,33 @@ returns-else-self c =
       holds = c.lull_alike.ensures.holds;
     }
 
-pub lull_alike-requires-then-not-were_apart : goal.lull_alike-requires-then-not-were_apart
-lull_alike-requires-then-not-were_apart c = record {
+pub lull_alike-requires-then-lull_alike : goal.lull_alike-requires-then-lull_alike
+lull_alike-requires-then-lull_alike c = record {
   plan = omega (arith, c.requires.plan, c.fall_silent.ensures.size, c.lull_alike.ensures.talkers.size);
   holds = c.lull_alike.ensures.holds;
 }
 
-pub returns-then-not-were_apart : goal.returns-then-not-were_apart
-returns-then-not-were_apart c =
+pub returns-then-lull_alike : goal.returns-then-lull_alike
+returns-then-lull_alike c =
     let bit = c.args.bit in
     let rest = c.args.self.now in
     let mid = c.lull_alike.new.self in
-    let last = c.lull_alike-then-not-were_apart.new.self in
+    let last = c.lull_alike-then-lull_alike.new.self in
     record {
       talkers =
           all_alike_on (members_at rest bit c.args.talkers.now) (members_at mid bit c.lull_alike.new.talkers)
-          (members_at last bit c.lull_alike-then-not-were_apart.new.talkers)
+          (members_at last bit c.lull_alike-then-lull_alike.new.talkers)
           (all_alike_on (members_at rest bit c.args.talkers.now) (members_at rest bit c.fall_silent.new.members)
           (members_at mid bit c.lull_alike.new.talkers)
           (all_silent c.args.told rest.listener bit c.args.talkers.now c.fall_silent.new.members c.fall_silent.ensures)
-          c.lull_alike.ensures.talkers) c.lull_alike-then-not-were_apart.ensures.talkers;
+          c.lull_alike.ensures.talkers) c.lull_alike-then-lull_alike.ensures.talkers;
       controllers =
           all_alike_on (members_at rest bit c.args.controllers.now) (members_at mid bit c.lull_alike.new.controllers)
-          (members_at last bit c.lull_alike-then-not-were_apart.new.controllers)
+          (members_at last bit c.lull_alike-then-lull_alike.new.controllers)
           (all_alike_on (members_at rest bit c.args.controllers.now) (members_at rest bit c.fall_silent-2.new.members)
           (members_at mid bit c.lull_alike.new.controllers)
           (all_silent c.args.told rest.listener bit c.args.controllers.now c.fall_silent-2.new.members
           c.fall_silent-2.ensures)
-          c.lull_alike.ensures.controllers) c.lull_alike-then-not-were_apart.ensures.controllers;
-      holds = c.lull_alike-then-not-were_apart.ensures.holds;
+          c.lull_alike.ensures.controllers) c.lull_alike-then-lull_alike.ensures.controllers;
+      holds = c.lull_alike-then-lull_alike.ensures.holds;
     }

@@ -33,7 +33,6 @@ returns-clause-holds c =
     let everywhere = c.look_everywhere.ensures in
     woken_holds c.args.self.now c.look_everywhere.new.self c.args.bit c.args.plan.now c.args.talkers.now
     c.wake_disturbed.new.members c.args.controllers.now c.wake_disturbed-2.new.members everywhere.same
-    everywhere.few
     everywhere.talkers everywhere.controllers (omega (arith, c.wake_disturbed.ensures.size))
     (omega (arith, c.wake_disturbed-2.ensures.size)) left.0 left.1
     c.requires.holds

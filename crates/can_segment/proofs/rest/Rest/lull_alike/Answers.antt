@@ -1,13 +1,9 @@
-use Rattle.std.proofs.Common.{arith, refl, subst, sym, ap, ◌∙◌}
+use Rattle.std.proofs.Common.{arith, subst, sym, ap, ◌∙◌}
 use Rattle.can_station.specs.RestingNodes.{AreAlike, AwakeWithin}
 use Rattle.can_segment.specs.Rests.{members_at}
 use Rattle.can_segment.proofs.ComesToRest.{alike_at_rest, alike_self, chosen_awake, chosen_rests, chosen_same}
 use Rattle.can_segment.proofs.ComesToRest.{chosen_spent, lain_within, less_rests}
 use Rattle.can_segment.proofs.rest.Rest.lull_alike.Goals as goal
-
-pub returns-then-stays_so : goal.returns-then-stays_so
-returns-then-stays_so c =
-    record { talkers = alike_self _ _ refl; controllers = alike_self _ _ refl; holds = c.requires.holds }
 
 pub returns-then-not-self : goal.returns-then-not-self
 returns-then-not-self c =
@@ -18,7 +14,6 @@ returns-then-not-self c =
     let controllers = c.args.controllers.now in
     let held = c.requires.holds in
     let chosen = c.choose.ensures in
-    let many = chosen.many in
     record {
       talkers = alike_self _ _ (chosen_same old new bit talkers chosen held.talkers_rest);
       controllers = alike_self _ _ (chosen_same old new bit controllers chosen held.controllers_rest);
@@ -32,7 +27,6 @@ returns-then-not-self c =
             subst (λ set. AwakeWithin set controllers) (sym chosen.controllers_is) held.controllers_within;
         talkers_fit = held.talkers_fit;
         controllers_fit = held.controllers_fit;
-        few_are = λ few. absurd (cc (few, many));
       };
     }
 
@@ -69,8 +63,6 @@ lull_controllers-awake_too-requires-clause-spent c is =
 
 pub settle-requires : goal.settle-requires
 settle-requires c =
-    let few_is = c.lull_controllers-awake_too.ensures.less.few_is ∙ c.lull_talkers-awake.ensures.less.few_is ∙
-    c.choose.ensures.many in
     let talkers_is = c.lull_controllers-awake_too.ensures.less.talkers_is ∙ c.lull_talkers-awake.ensures.less.talkers_is
     ∙ c.choose.ensures.talkers_is in
     let controllers_is = c.lull_controllers-awake_too.ensures.less.controllers_is ∙
@@ -98,7 +90,6 @@ settle-requires c =
         talkers_fit = omega (arith, c.lull_talkers-awake.ensures.lie.size, c.requires.holds.talkers_fit);
         controllers_fit =
             omega (arith, c.lull_controllers-awake_too.ensures.lie.size, c.requires.holds.controllers_fit);
-        few_are = λ few. absurd (cc (few, few_is));
       };
     }
 
@@ -129,11 +120,6 @@ returns c = record {
         spent = mid.spent;
         talkers = mid.talkers;
         controllers = mid.controllers;
-        few = mid.few;
-        settled = mid.settled;
-        asleep = mid.asleep;
-        steady = mid.steady;
-        apart = mid.apart;
       }) c.args.bit
       c.args.controllers.now) c.lull_talkers-awake.ensures.less.listener_is
       ∙ chosen_same c.args.self.now c.choose.new.self c.args.bit c.args.controllers.now c.choose.ensures

@@ -33,7 +33,6 @@ returns-clause-holds c =
     let awake = all_woken c.args.self.now.listener c.args.bit c.args.controllers.now c.wake_all.new.members
     c.wake_all.ensures in
     let everywhere = c.look_everywhere.ensures in
-    let many = everywhere.few in
     record {
       talkers_rest = same_rests _ c.look_everywhere.new.self c.args.bit c.wake_unspent.new.members everywhere.same
           (λ k m e is. let h = held.talkers_rest k m (left.0 k m e is) is in
@@ -53,5 +52,4 @@ returns-clause-holds c =
       controllers_within = everywhere.controllers;
       talkers_fit = omega (arith, c.wake_unspent.ensures.size, held.talkers_fit);
       controllers_fit = omega (arith, c.wake_all.ensures.size, held.controllers_fit);
-      few_are = λ few. absurd (cc (few, many));
     }

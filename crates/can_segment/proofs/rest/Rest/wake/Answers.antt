@@ -41,8 +41,7 @@ returns-clause-controllers_awake c =
 
 pub returns-clause-holds : goal.returns-clause-holds
 returns-clause-holds c next = none_rests c.look_everywhere.new.self next c.args.plan.now c.wake_all.new.members
-    c.wake_all-2.new.members c.look_everywhere.ensures.few
-    c.look_everywhere.ensures.talkers c.look_everywhere.ensures.controllers
+    c.wake_all-2.new.members c.look_everywhere.ensures.talkers c.look_everywhere.ensures.controllers
     (omega (arith, c.wake_all.ensures.size, c.requires.holds.talkers_fit))
     (omega (arith, c.wake_all-2.ensures.size, c.requires.holds.controllers_fit)) (returns-clause-talkers_awake c)
     (returns-clause-controllers_awake c)

@@ -37,7 +37,6 @@ invariant_of-result c =
       subst (λ n. StandsAt c.args.plan n c.in_ok-faults.faults) (sym (ap length c.new-2.ensures.items))
           c.in_ok-faults.ensures,
       none_rests c.none-rest.result (length made.levels.items) c.args.plan.talkers.items talkers controllers
-          c.none-rest.ensures.few
           (search rules) (search rules)
           (omega (arith, held.few)) (omega (arith, held.few))
           awake awake_too,
