@@ -146,7 +146,7 @@ fn make_quiet_bits<R, P: RxSink<R>>(_rt: &R, segment: &mut Segment, ports: &[P],
     requires { Fit P.transmitting segment.old ports.now }
     ensures { Fit P.transmitting segment.new ports.now }
 {
-    segment.quiet_bits(limit);
+    segment.uneventful_bits(limit);
 }
 
 /// Makes bits of an idle bus, up to so many in all.

@@ -1,5 +1,6 @@
 -- Nodes that were left alone at the ACK slot of a frame that they acknowledge.
-use Rattle.std.proofs.Common.{◌≡◌, inl, inr, ℕ, ◌+◌, cond, Bool, true, false, Some, List, [], ◌∷◌, ◌++◌, length, refl, sym, ap}
+use Rattle.std.proofs.Common.{◌≡◌, inl, inr, ℕ, ◌+◌, cond, Bool, true, false, Some, List, [], ◌∷◌, ◌++◌, length, refl}
+use Rattle.std.proofs.Common.{sym, ap}
 use Rattle.std.proofs.Common.{subst, ◌∙◌}
 use Rattle.std.proofs.lemmas.List.Sums.{fold-append}
 use Rattle.can_frame.specs.Reading.{IsPush}
@@ -11,16 +12,16 @@ use Rattle.can_confinement.specs.Counters.{StandsAfter as CountersStandAfter, co
 use Rattle.can_confinement.specs.declared.confinement.ErrorEvent.{ErrorEvent}
 use Rattle.can_confinement.specs.declared.confinement.ErrorEvent.TheVariants.{Received}
 use Rattle.can_confinement.specs.declared.counters.Counters.{Counters}
-use Rattle.can_node.specs.declared.listener.Listener.{Listener}
+use Rattle.can_node.specs.declared.shared_receiver.SharedReceiver.{SharedReceiver}
 use Rattle.can_node.specs.declared.node.Node.{Node}
 use Rattle.can_node.specs.declared.outcome.Outcome.TheVariants.{Nothing}
 use Rattle.can_node.specs.declared.state.Stage.{Stage}
 use Rattle.can_node.specs.declared.state.Stage.TheVariants.{AfterSlot, Slot}
 use Rattle.can_node.specs.declared.state.State.{State}
-use Rattle.can_node.specs.declared.state.State.TheVariants.{Taking}
-use Rattle.can_node.specs.declared.state.Turn.{Turn}
+use Rattle.can_node.specs.declared.state.State.TheVariants.{Receiving}
+use Rattle.can_node.specs.declared.state.Transition.{Transition}
 use Rattle.can_node.specs.Histories.{Past}
-use Rattle.can_node.specs.Listener.{Acknowledges, caught_up}
+use Rattle.can_node.specs.SharedReceiver.{Acknowledges, materialized}
 use Rattle.can_node.specs.Machine.{Agrees, Counts, is_own_slot, is_taking}
 use Rattle.can_node.specs.Machine.Agrees.{in_off}
 use Rattle.can_node.specs.Machine.LeadsTo.{stays_on}
@@ -67,31 +68,33 @@ own_slot : (stage : Stage) → is_own_slot stage ≡ true → stage ≡ Slot tru
 own_slot (Slot right) own = ap Slot own
 own_slot stage own = absurd (cc own)
 
-pub acknowledges : (listener : Listener) (start : ℕ) (may : Bool) (stage : Stage) (new : Reader) (level : Bool) →
-    listener.state ≡ Taking start may stage → is_own_slot stage ≡ true → IsPush listener.reader level Tail new →
-    Acknowledges listener level (record { state = Taking start false AfterSlot; reader = new })
-acknowledges listener start may stage new level here own push node counted bit h =
+pub acknowledges : (shared_receiver : SharedReceiver) (start : ℕ) (may : Bool) (stage : Stage) (new : Reader) (level :
+    Bool) →
+    shared_receiver.state ≡ Receiving start may stage → is_own_slot stage ≡ true → IsPush shared_receiver.reader level
+    Tail new →
+    Acknowledges shared_receiver level (record { state = Receiving start false AfterSlot; reader = new })
+acknowledges shared_receiver start may stage new level here own push node counted bit h =
     by (is_off (counts_of node.counters)) refl
   where
-    is : listener.state ≡ Taking start may (Slot true)
-    is = here ∙ ap (Taking start may) (own_slot stage own)
+    is : shared_receiver.state ≡ Receiving start may (Slot true)
+    is = here ∙ ap (Receiving start may) (own_slot stage own)
 
-    turn : Turn
-    turn = record { state = Taking start false AfterSlot; event = Some Received; outcome = Nothing }
+    transition : Transition
+    transition = record { state = Receiving start false AfterSlot; event = Some Received; outcome = Nothing }
 
     before : Node
-    before = caught_up node listener bit
+    before = materialized node shared_receiver bit
 
     behind : Node
-    behind = caught_up counted (record { state = Taking start false AfterSlot; reader = new }) (bit + 1)
+    behind = materialized counted (record { state = Receiving start false AfterSlot; reader = new }) (bit + 1)
 
     by : (off : Bool) → is_off (counts_of node.counters) ≡ off → IsSample before level Nothing behind
     by false on = samples before behind level Nothing (rw is (record {
-      turn = turn;
+      transition = transition;
       errors = state_of (counts_of node.counters);
       shows = λ events s. ap state_of s;
-      advances = reading_advances start may (Slot true) listener.reader new node.spelling bit
-          (state_of (counts_of node.counters)) level Tail turn push
+      advances = reading_advances start may (Slot true) shared_receiver.reader new node.spelling bit
+          (state_of (counts_of node.counters)) level Tail transition push
           (λ m. tail_own_slot start m (state_of (counts_of node.counters)) level);
       is_made = record {
         off = false;

@@ -12,7 +12,7 @@ use Rattle.can_frame.proofs.Spellings.{slot_stands_alone}
 use Rattle.can_confinement.specs.declared.confinement.ErrorEvent.{ErrorEvent}
 use Rattle.can_node.specs.declared.outcome.Outcome.TheVariants.{Nothing}
 use Rattle.can_node.specs.declared.state.State.{State}
-use Rattle.can_node.specs.declared.state.State.TheVariants.{Taking, Sending}
+use Rattle.can_node.specs.declared.state.State.TheVariants.{Receiving, Transmitting}
 use Rattle.can_frame.specs.declared.spelling.Spelling.{Spelling}
 use Rattle.can_node.specs.declared.node.Node.{Node}
 use Rattle.can_node.specs.Pairs.{Pair, listening, dominating, recessive}
@@ -28,7 +28,7 @@ use Rattle.can_node.specs.Histories.{Past, IsOnOutside, with_episode}
 use Rattle.can_node.specs.Histories.Whole.{then}
 use Rattle.can_node.specs.Machine.{Agrees, Begins, InState, ReaderStands, may_start, sof_of}
 use Rattle.can_node.specs.Machine.Agrees.{in_sync, in_idle, in_take, in_send, in_last, in_active, in_overload}
-use Rattle.can_node.specs.Machine.Agrees.{in_passive, in_wait, in_delimiter, in_rest, in_suspend, in_off}
+use Rattle.can_node.specs.Machine.Agrees.{in_passive, in_wait, in_delimiter, in_intermission, in_suspend, in_off}
 use Rattle.can_node.specs.Node.{StandsAfter, with_begin}
 use Rattle.can_confinement.specs.Confinement.{counts_after}
 use Rattle.can_confinement.specs.Counters.{counts_of}
@@ -147,8 +147,8 @@ record Starts (next : State) (frame : FrameValue) (at : ℕ) (phase : Phase) (pa
       Episode at before phase part events Nothing (Send start given frame)
   pub still_on : (before : List ErrorEvent) → IsOnOutside phase (before ++ events) → AreOn (before ++ events)
   pub place : ℕ
-  pub next_is : next ≡ Sending start place
-  pub agrees : (later : ℕ) → Agrees (Sending start place) given later (Send start given frame) [] []
+  pub next_is : next ≡ Transmitting start place
+  pub agrees : (later : ℕ) → Agrees (Transmitting start place) given later (Send start given frame) [] []
 
 begin_starts : {state : State} {text : List Bool} {at : ℕ} {phase : Phase} {part : List Pair} {events : List ErrorEvent}
     (next : State) (now : ℕ) (frame : FrameValue) (spelling : Spelling) →
@@ -163,7 +163,7 @@ begin_starts {at = at} next now frame spelling (in_idle n) may clock k begins =
       episode = λ before on. begun n frame k.is_frame (subst AreOn (append-nil before) on);
       still_on = λ before on. on;
       place = 0;
-      next_is = begins ∙ ap (λ m. Sending m 0) here;
+      next_is = begins ∙ ap (λ m. Transmitting m 0) here;
       agrees = λ later. in_send [] frame [] [] first.driven first.expected refl first.bit refl;
     }
 begin_starts {text = text} {at = at} next now frame spelling
@@ -198,7 +198,7 @@ begin_starts next now frame spelling (in_overload levels size below runs few) ma
 begin_starts next now frame spelling (in_passive owed levels h) may clock k begins = absurd (cc may)
 begin_starts next now frame spelling (in_wait run n is far due) may clock k begins = absurd (cc may)
 begin_starts next now frame spelling (in_delimiter kind run n some below) may clock k begins = absurd (cc may)
-begin_starts next now frame spelling (in_rest below) may clock k begins = absurd (cc may)
+begin_starts next now frame spelling (in_intermission below) may clock k begins = absurd (cc may)
 begin_starts next now frame spelling (in_suspend below) may clock k begins = absurd (cc may)
 begin_starts next now frame spelling (in_off rest broken below counted b short) may clock k begins = absurd (cc may)
 
@@ -236,5 +236,5 @@ begin_stands old new frame may k begins counters_is clock_is past h =
     }
 
 pub begins_sending : (state next : State) (now : ℕ) → Begins state now next → IsSome (sof_of next)
-begins_sending (Taking start may stage) next now begins = subst (λ s. IsSome (sof_of s)) (sym begins) refl
+begins_sending (Receiving start may stage) next now begins = subst (λ s. IsSome (sof_of s)) (sym begins) refl
 begins_sending state next now begins = subst (λ s. IsSome (sof_of s)) (sym begins) refl

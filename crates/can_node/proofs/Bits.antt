@@ -12,25 +12,25 @@ use Rattle.can_node.specs.declared.outcome.Outcome.{Outcome}
 use Rattle.can_node.specs.declared.outcome.Outcome.TheVariants.{Nothing, WentOff}
 use Rattle.can_node.specs.declared.state.State.{State}
 use Rattle.can_frame.specs.declared.spelling.Spelling.{Spelling}
-use Rattle.can_node.specs.declared.state.State.TheVariants.{Recovering}
+use Rattle.can_node.specs.declared.state.State.TheVariants.{BusOffRecovery}
 use Rattle.can_node.specs.Pairs.{Pair}
 use Rattle.can_node.specs.Takes.{IsReadOn}
 use Rattle.can_node.specs.Phases.{Phase, flag_of}
 use Rattle.can_node.specs.Phases.Phase.{Sync, Idle, Send, Take, LastBit, ActiveFlag, OverloadFlag, PassiveFlag}
 use Rattle.can_node.specs.Phases.Phase.{Delimiter, Intermission, Suspend, BusOff}
 use Rattle.can_node.specs.Episodes.{Begun, Course, Episode, AreOn, AreOff}
-use Rattle.can_node.specs.Episodes.Course.{synced, woken, completed, lost, stuff_lost, unacknowledged, bit_differs}
-use Rattle.can_node.specs.Episodes.Course.{took, spoiled, quiet_end, late_overload, flagged, overload_flagged}
+use Rattle.can_node.specs.Episodes.Course.{synced, resumed, completed, lost, stuff_lost, unacknowledged, bit_differs}
+use Rattle.can_node.specs.Episodes.Course.{took, spoiled, recessive_last_bit, late_overload, flagged, overload_flagged}
 use Rattle.can_node.specs.Episodes.Course.{passive_flagged, delimited, cut_short, overloaded, rested, rested_sender}
 use Rattle.can_node.specs.Episodes.Course.{pressed, hurried, waited, overtaken, recovered}
 use Rattle.can_node.specs.Episodes.Begun.{syncing, idling, sending, taking, last_bit, active_flag, overload_flag}
-use Rattle.can_node.specs.Episodes.Begun.{passive_flag, delimiting, resting, suspended, recovering}
+use Rattle.can_node.specs.Episodes.Begun.{passive_flag, delimiting, in_pause, suspended, recovering}
 use Rattle.can_node.specs.Episodes.Episode.{ends, off_within, off_at_end}
 use Rattle.can_node.specs.Histories.{Past, with_episode, IsOnOutside, IsHistory, noted, begins}
 use Rattle.can_node.specs.Histories.Whole.{then}
 use Rattle.can_node.specs.Machine.{Agrees, Holds, Lands, InState, with_bit, listed, is_sending}
 use Rattle.can_node.specs.Machine.Agrees.{in_sync, in_idle, in_take, in_send, in_last, in_active, in_overload}
-use Rattle.can_node.specs.Machine.Agrees.{in_passive, in_wait, in_delimiter, in_rest, in_suspend, in_off}
+use Rattle.can_node.specs.Machine.Agrees.{in_passive, in_wait, in_delimiter, in_intermission, in_suspend, in_off}
 use Rattle.can_node.specs.Machine.Lands.{goes_on, is_over}
 use Rattle.can_node.proofs.ErrorMoves.{off_begins}
 
@@ -51,7 +51,7 @@ agrees_begun (in_passive owed levels h) = passive_flag owed _ levels h.without_s
 agrees_begun (in_wait {kind = kind} {role = role} run n is far due) =
     rw append-nil at (delimiting kind role run n 0 (omega arith))
 agrees_begun (in_delimiter kind run n some below) = delimiting kind _ run n _ below
-agrees_begun (in_rest below) = resting _ _ below
+agrees_begun (in_intermission below) = in_pause _ _ below
 agrees_begun (in_suspend below) = suspended _ below
 agrees_begun (in_off rest broken below counted b short) = recovering _ rest broken _ below counted b short
 
@@ -61,61 +61,61 @@ is_send (Send start given frame) = true
 is_send phase = false
 
 -- no frame is begun with such a phase, and it asks for no spelling
-pub record IsQuiet (phase : Phase) : Type 0 where
+pub record IsUneventful (phase : Phase) : Type 0 where
   pub no_send : is_send phase ≡ false
   pub begins_nothing : (n : ℕ) → begins n phase ≡ []
   pub holds : (spelling : Spelling) → Holds phase spelling
 
-quiet : (phase : Phase) → is_send phase ≡ false → IsQuiet phase
+uneventful : (phase : Phase) → is_send phase ≡ false → IsUneventful phase
 unfolding is_send
-quiet (Send start given frame) no_send = absurd (cc no_send)
-quiet Sync no_send = record { no_send = refl; begins_nothing = λ n. refl; holds = λ s. tt }
-quiet Idle no_send = record { no_send = refl; begins_nothing = λ n. refl; holds = λ s. tt }
-quiet (Take start given may_begin) no_send = record { no_send = refl; begins_nothing = λ n. refl; holds = λ s. tt }
-quiet LastBit no_send = record { no_send = refl; begins_nothing = λ n. refl; holds = λ s. tt }
-quiet (ActiveFlag role) no_send = record { no_send = refl; begins_nothing = λ n. refl; holds = λ s. tt }
-quiet (OverloadFlag role) no_send = record { no_send = refl; begins_nothing = λ n. refl; holds = λ s. tt }
-quiet (PassiveFlag owed role) no_send = record { no_send = refl; begins_nothing = λ n. refl; holds = λ s. tt }
-quiet (Delimiter kind role run) no_send = record { no_send = refl; begins_nothing = λ n. refl; holds = λ s. tt }
-quiet (Intermission role) no_send = record { no_send = refl; begins_nothing = λ n. refl; holds = λ s. tt }
-quiet Suspend no_send = record { no_send = refl; begins_nothing = λ n. refl; holds = λ s. tt }
-quiet BusOff no_send = record { no_send = refl; begins_nothing = λ n. refl; holds = λ s. tt }
+uneventful (Send start given frame) no_send = absurd (cc no_send)
+uneventful Sync no_send = record { no_send = refl; begins_nothing = λ n. refl; holds = λ s. tt }
+uneventful Idle no_send = record { no_send = refl; begins_nothing = λ n. refl; holds = λ s. tt }
+uneventful (Take start given may_begin) no_send = record { no_send = refl; begins_nothing = λ n. refl; holds = λ s. tt }
+uneventful LastBit no_send = record { no_send = refl; begins_nothing = λ n. refl; holds = λ s. tt }
+uneventful (ActiveFlag role) no_send = record { no_send = refl; begins_nothing = λ n. refl; holds = λ s. tt }
+uneventful (OverloadFlag role) no_send = record { no_send = refl; begins_nothing = λ n. refl; holds = λ s. tt }
+uneventful (PassiveFlag owed role) no_send = record { no_send = refl; begins_nothing = λ n. refl; holds = λ s. tt }
+uneventful (Delimiter kind role run) no_send = record { no_send = refl; begins_nothing = λ n. refl; holds = λ s. tt }
+uneventful (Intermission role) no_send = record { no_send = refl; begins_nothing = λ n. refl; holds = λ s. tt }
+uneventful Suspend no_send = record { no_send = refl; begins_nothing = λ n. refl; holds = λ s. tt }
+uneventful BusOff no_send = record { no_send = refl; begins_nothing = λ n. refl; holds = λ s. tt }
 
-quiet_flag : (e : ErrorState) (owed : List ErrorEvent) (role : Role) → IsQuiet (flag_of e owed role)
+uneventful_flag : (e : ErrorState) (owed : List ErrorEvent) (role : Role) → IsUneventful (flag_of e owed role)
 unfolding is_send
-quiet_flag Active owed role = quiet (ActiveFlag role) refl
-quiet_flag Passive owed role = quiet (PassiveFlag owed role) refl
-quiet_flag Off owed role = quiet BusOff refl
+uneventful_flag Active owed role = uneventful (ActiveFlag role) refl
+uneventful_flag Passive owed role = uneventful (PassiveFlag owed role) refl
+uneventful_flag Off owed role = uneventful BusOff refl
 
 -- a course that a bit ends does not lead to sending
-pub course_quiet : {at : ℕ} {before : List ErrorEvent} {phase next : Phase} {pairs : List Pair}
+pub course_uneventful : {at : ℕ} {before : List ErrorEvent} {phase next : Phase} {pairs : List Pair}
     {events : List ErrorEvent} {outcome : Outcome} →
-    Course at before phase pairs events outcome next → IsQuiet next
+    Course at before phase pairs events outcome next → IsUneventful next
 unfolding is_send
-course_quiet (synced broken b) = quiet _ refl
-course_quiet (woken n) = quiet _ refl
-course_quiet (completed start given frame driven sampled send) = quiet _ refl
-course_quiet (lost start given frame driven seen bit place) = quiet _ refl
-course_quiet (stuff_lost start given frame driven seen bit place) = quiet_flag _ _ _
-course_quiet (unacknowledged start given frame driven seen bit) = quiet_flag _ _ _
-course_quiet (bit_differs start given frame driven seen level bit no_loss no_stuff) = quiet_flag _ _ _
-course_quiet (took start given may_begin levels pairs events frame reads front) = quiet _ refl
-course_quiet (spoiled start given may_begin levels level pairs events kind reads fault) = quiet_flag _ _ _
-course_quiet quiet_end = quiet _ refl
-course_quiet late_overload = quiet _ refl
-course_quiet (flagged role levels size) = quiet _ refl
-course_quiet (overload_flagged role levels size) = quiet _ refl
-course_quiet (passive_flagged owed role levels level before six) = quiet _ refl
-course_quiet (delimited kind role run n) = quiet _ refl
-course_quiet (cut_short kind role run n k some below) = quiet_flag _ _ _
-course_quiet (overloaded kind role run n) = quiet _ refl
-course_quiet (rested role goes) = quiet _ refl
-course_quiet (rested_sender role waits) = quiet _ refl
-course_quiet (pressed role k below) = quiet _ refl
-course_quiet (hurried role) = quiet _ refl
-course_quiet waited = quiet _ refl
-course_quiet (overtaken k below) = quiet _ refl
-course_quiet (recovered text whole) = quiet _ refl
+course_uneventful (synced broken b) = uneventful _ refl
+course_uneventful (resumed n) = uneventful _ refl
+course_uneventful (completed start given frame driven sampled send) = uneventful _ refl
+course_uneventful (lost start given frame driven seen bit place) = uneventful _ refl
+course_uneventful (stuff_lost start given frame driven seen bit place) = uneventful_flag _ _ _
+course_uneventful (unacknowledged start given frame driven seen bit) = uneventful_flag _ _ _
+course_uneventful (bit_differs start given frame driven seen level bit no_loss no_stuff) = uneventful_flag _ _ _
+course_uneventful (took start given may_begin levels pairs events frame reads front) = uneventful _ refl
+course_uneventful (spoiled start given may_begin levels level pairs events kind reads fault) = uneventful_flag _ _ _
+course_uneventful recessive_last_bit = uneventful _ refl
+course_uneventful late_overload = uneventful _ refl
+course_uneventful (flagged role levels size) = uneventful _ refl
+course_uneventful (overload_flagged role levels size) = uneventful _ refl
+course_uneventful (passive_flagged owed role levels level before six) = uneventful _ refl
+course_uneventful (delimited kind role run n) = uneventful _ refl
+course_uneventful (cut_short kind role run n k some below) = uneventful_flag _ _ _
+course_uneventful (overloaded kind role run n) = uneventful _ refl
+course_uneventful (rested role goes) = uneventful _ refl
+course_uneventful (rested_sender role waits) = uneventful _ refl
+course_uneventful (pressed role k below) = uneventful _ refl
+course_uneventful (hurried role) = uneventful _ refl
+course_uneventful waited = uneventful _ refl
+course_uneventful (overtaken k below) = uneventful _ refl
+course_uneventful (recovered text whole) = uneventful _ refl
 
 -- a node sends a frame just in the episode of a send
 send_phase : {state : State} {text : List Bool} {at : ℕ} {phase : Phase} {part : List Pair} {events : List ErrorEvent} →
@@ -131,7 +131,7 @@ send_phase (in_overload levels size below runs few) = refl
 send_phase (in_passive owed levels h) = refl
 send_phase (in_wait run n is far due) = refl
 send_phase (in_delimiter kind run n some below) = refl
-send_phase (in_rest below) = refl
+send_phase (in_intermission below) = refl
 send_phase (in_suspend below) = refl
 send_phase (in_off rest broken below counted b short) = refl
 
@@ -143,7 +143,7 @@ pub no_send_behind : (old new : State) (text after : List Bool) (at : ℕ) (befo
 no_send_behind old new text after at before phase part more events counted outcome none agrees (goes_on goes nothing) =
     send_phase goes ∙ sym (send_phase agrees) ∙ none
 no_send_behind old new text after at before phase part more events counted outcome none agrees
-    (is_over next course begins) = send_phase (begins 0) ∙ (course_quiet course).no_send
+    (is_over next course begins) = send_phase (begins 0) ∙ (course_uneventful course).no_send
 
 -- what a state stands after is a history
 pub in_state_history : (state : State) (spelling : Spelling) (text : List Bool) (past : Past) →
@@ -209,7 +209,7 @@ outside BusOff events on = tt
 -- the episode is over with this bit
 pub stands_over : (old new : State) (spelling : Spelling) (text after : List Bool) (past : Past) (pair : Pair)
     (event : Option ErrorEvent) (outcome : Outcome) (next : Phase) (st : InState old spelling text past) →
-    IsQuiet next →
+    IsUneventful next →
     Episode (st.done.first + length st.done.pairs) st.done.events st.phase (st.part ++ pair ∷ [])
     (st.counting ++ listed event) outcome next →
     ((later : ℕ) → Agrees new after later next [] []) →
@@ -250,7 +250,7 @@ lands_on old new spelling text after past pair event outcome st (goes_on agrees 
     subst (λ o. InState new spelling after (with_bit past pair event o)) (sym nothing)
     (stands_on old new spelling text after past pair event st agrees (outside st.phase _ on))
 lands_on old new spelling text after past pair event outcome st (is_over next course agrees) on =
-    stands_over old new spelling text after past pair event outcome next st (course_quiet course)
+    stands_over old new spelling text after past pair event outcome next st (course_uneventful course)
     (ends course on) agrees (outside next _ on)
 
 -- a turn whose event leads to bus off: in place of what it would have ended, the node went off
@@ -259,12 +259,12 @@ pub lands_off : (old new : State) (spelling : Spelling) (text after : List Bool)
     Lands new outcome after (st.done.first + length st.done.pairs) st.done.events st.phase (st.part ++ pair ∷ [])
     (st.counting ++ event ∷ []) →
     AreOn (st.done.events ++ st.counting) → AreOff (st.done.events ++ st.counting ++ event ∷ []) →
-    InState (Recovering 0 0) spelling after (with_bit past pair (Some event) WentOff)
+    InState (BusOffRecovery 0 0) spelling after (with_bit past pair (Some event) WentOff)
 lands_off old new spelling text after past pair event outcome st (goes_on agrees nothing) on off =
-    stands_over old (Recovering 0 0) spelling text after past pair (Some event) WentOff BusOff st
-    (quiet_flag Off [] Receiver)
+    stands_over old (BusOffRecovery 0 0) spelling text after past pair (Some event) WentOff BusOff st
+    (uneventful_flag Off [] Receiver)
     (off_within pair event (agrees_begun st.agrees) on (agrees_begun agrees) off) (off_begins after) tt
 lands_off old new spelling text after past pair event outcome st (is_over next course agrees) on off =
-    stands_over old (Recovering 0 0) spelling text after past pair (Some event) WentOff BusOff st
-    (quiet_flag Off [] Receiver)
+    stands_over old (BusOffRecovery 0 0) spelling text after past pair (Some event) WentOff BusOff st
+    (uneventful_flag Off [] Receiver)
     (off_at_end pair event (agrees_begun st.agrees) on course off) (off_begins after) tt

@@ -4,7 +4,7 @@ use Rattle.std.proofs.Common.{◌||◌, get_or, inl, inr, refl, sym, ap, subst, 
 use Rattle.std.proofs.lemmas.Bool.Decides.{leb_tells}
 use Rattle.std.proofs.lemmas.List.{take_all, take_more}
 use Rattle.can_node.specs.declared.state.State.{State}
-use Rattle.can_node.specs.declared.state.State.TheVariants.{Recovering}
+use Rattle.can_node.specs.declared.state.State.TheVariants.{BusOffRecovery}
 use Rattle.can_node.specs.PlainBits.{StaysOut, out_behind, out_behind_all, stays_out}
 use Rattle.can_node.proofs.GoingBy.{behind_more}
 
@@ -12,8 +12,8 @@ use Rattle.can_node.proofs.GoingBy.{behind_more}
 pub record Nearer (runs ones : ℕ) (level : Bool) : Type 0 where
   pub runs_then : ℕ
   pub ones_then : ℕ
-  pub next_is : out_behind (Recovering runs ones) level ≡ Recovering runs_then ones_then
-  pub stays : stays_out level (Recovering runs ones) ≡ true
+  pub next_is : out_behind (BusOffRecovery runs ones) level ≡ BusOffRecovery runs_then ones_then
+  pub stays : stays_out level (BusOffRecovery runs ones) ≡ true
   pub by_one : 11 * runs_then + ones_then ≤ 11 * runs + ones + 1
 
 pub nearer : (runs ones : ℕ) (level : Bool) → 11 * runs + ones < 1407 → Nearer runs ones level
@@ -28,7 +28,7 @@ nearer runs ones true far = elim (leb_tells ones 9) [
   | inl few ↦ record {
     runs_then = runs;
     ones_then = ones + 1;
-    next_is = ap (λ b. cond b (Recovering runs (ones + 1)) (Recovering (runs + 1) 0)) few.0;
+    next_is = ap (λ b. cond b (BusOffRecovery runs (ones + 1)) (BusOffRecovery (runs + 1) 0)) few.0;
     stays = ap (λ b. b || false || nat_le runs 126) few.0;
     by_one = omega arith;
   }
@@ -38,7 +38,7 @@ nearer runs ones true far = elim (leb_tells ones 9) [
         | inl is ↦ record {
           runs_then = runs + 1;
           ones_then = 0;
-          next_is = ap (λ b. cond b (Recovering runs (ones + 1)) (Recovering (runs + 1) 0)) many.0;
+          next_is = ap (λ b. cond b (BusOffRecovery runs (ones + 1)) (BusOffRecovery (runs + 1) 0)) many.0;
           stays = ap (λ b. b || false || nat_le runs 126) many.0 ∙ is.0;
           by_one = omega (arith, more);
         }
@@ -47,7 +47,7 @@ nearer runs ones true far = elim (leb_tells ones 9) [
 ]
 
 pub far_stays : (runs ones : ℕ) (xs : List Bool) → 11 * runs + ones + length xs ≤ 1407 →
-    StaysOut (Recovering runs ones) xs
+    StaysOut (BusOffRecovery runs ones) xs
 far_stays runs ones [] far = tt
 far_stays runs ones (x ∷ xs) far =
     let step = nearer runs ones x (omega (arith, far)) in
@@ -55,7 +55,7 @@ far_stays runs ones (x ∷ xs) far =
     let rest = far_stays step.runs_then step.ones_then xs (omega (arith, far, near)) in
     (step.stays, subst (λ s. StaysOut s xs) (sym step.next_is) rest)
 
-pub far_stays_all : (state : State) (runs ones : ℕ) (levels : List Bool) → state ≡ Recovering runs ones →
+pub far_stays_all : (state : State) (runs ones : ℕ) (levels : List Bool) → state ≡ BusOffRecovery runs ones →
     11 * runs + ones + length levels ≤ 1407 → StaysOut state (take (length levels) levels)
 far_stays_all state runs ones levels here far =
     rw (take_all (length levels) levels (omega arith))
@@ -63,8 +63,8 @@ far_stays_all state runs ones levels here far =
 
 -- where it is behind one more
 pub run_over : (state : State) (whole run : ℕ) (levels : List Bool) (i : ℕ) → i < length levels → 9 < run →
-    get_or levels i false ≡ true → Recovering whole run ≡ out_behind_all state (take i levels) →
-    Recovering (whole + 1) 0 ≡ out_behind_all state (take (i + 1) levels)
+    get_or levels i false ≡ true → BusOffRecovery whole run ≡ out_behind_all state (take i levels) →
+    BusOffRecovery (whole + 1) 0 ≡ out_behind_all state (take (i + 1) levels)
 run_over state whole run levels i within many level is =
     let none : nat_le run 9 ≡ false = elim (leb_tells run 9) [
       | inl few ↦ absurd (let least = few.1 in omega (arith, least, many))
@@ -72,22 +72,22 @@ run_over state whole run levels i within many level is =
     ] in
     rw (take_more levels i false within)
     (sym (behind_more state (take i levels) (get_or levels i false)
-    ∙ ap (λ s. out_behind s (get_or levels i false)) (sym is) ∙ ap (out_behind (Recovering whole run)) level
-    ∙ ap (λ b. cond b (Recovering whole (run + 1)) (Recovering (whole + 1) 0)) none))
+    ∙ ap (λ s. out_behind s (get_or levels i false)) (sym is) ∙ ap (out_behind (BusOffRecovery whole run)) level
+    ∙ ap (λ b. cond b (BusOffRecovery whole (run + 1)) (BusOffRecovery (whole + 1) 0)) none))
 
 run_on : (whole run next : ℕ) (level : Bool) → (level ≡ true → run ≤ 9) → next ≡ cond level (run + 1) 0 →
-    out_behind (Recovering whole run) level ≡ Recovering whole next
+    out_behind (BusOffRecovery whole run) level ≡ BusOffRecovery whole next
 run_on whole run next true few is = elim (leb_tells run 9) [
-  | inl least ↦ ap (λ b. cond b (Recovering whole (run + 1)) (Recovering (whole + 1) 0)) least.0
-      ∙ ap (Recovering whole) (sym is)
+  | inl least ↦ ap (λ b. cond b (BusOffRecovery whole (run + 1)) (BusOffRecovery (whole + 1) 0)) least.0
+      ∙ ap (BusOffRecovery whole) (sym is)
   | inr more ↦ absurd (let many = more.1 in let least = few refl in omega (arith, many, least))
 ]
-run_on whole run next false few is = ap (Recovering whole) (sym is)
+run_on whole run next false few is = ap (BusOffRecovery whole) (sym is)
 
 pub run_more : (state : State) (whole run next : ℕ) (levels : List Bool) (i : ℕ) → i < length levels →
     (get_or levels i false ≡ true → run ≤ 9) → next ≡ cond (get_or levels i false) (run + 1) 0 →
-    Recovering whole run ≡ out_behind_all state (take i levels) →
-    Recovering whole next ≡ out_behind_all state (take (i + 1) levels)
+    BusOffRecovery whole run ≡ out_behind_all state (take i levels) →
+    BusOffRecovery whole next ≡ out_behind_all state (take (i + 1) levels)
 run_more state whole run next levels i within few next_is is =
     rw (take_more levels i false within)
     (sym (behind_more state (take i levels) (get_or levels i false)

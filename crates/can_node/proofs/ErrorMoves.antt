@@ -12,7 +12,8 @@ use Rattle.can_node.specs.declared.flag.FlagKind.TheVariants.{ActiveError, Overl
 use Rattle.can_node.specs.declared.outcome.ErrorKind.TheVariants.{Form}
 use Rattle.can_node.specs.declared.outcome.Outcome.TheVariants.{Errored}
 use Rattle.can_node.specs.declared.state.State.{State}
-use Rattle.can_node.specs.declared.state.State.TheVariants.{Flagging, PassiveFlagging, Delimiting, Resting, Recovering}
+use Rattle.can_node.specs.declared.state.State.TheVariants.{DominantFlag, PassiveErrorFlag, InDelimiter, InIntermission}
+use Rattle.can_node.specs.declared.state.State.TheVariants.{BusOffRecovery}
 use Rattle.can_node.specs.Flags.{EndsInSix}
 use Rattle.can_node.specs.Waits.Broken.{none}
 use Rattle.can_node.specs.Waits.Recoveries.{no_run}
@@ -21,12 +22,12 @@ use Rattle.can_node.specs.Phases.Phase.{ActiveFlag, OverloadFlag, PassiveFlag, I
 use Rattle.can_node.specs.Episodes.{error_of}
 use Rattle.can_node.specs.Episodes.Course.{delimited, cut_short, overloaded}
 use Rattle.can_node.specs.Machine.{Agrees, Goes}
-use Rattle.can_node.specs.Machine.Agrees.{in_active, in_passive, in_delimiter, in_rest, in_off}
+use Rattle.can_node.specs.Machine.Agrees.{in_active, in_passive, in_delimiter, in_intermission, in_off}
 use Rattle.can_node.specs.Machine.Lands.{goes_on, is_over}
-use Rattle.can_node.proofs.Moves.{turn, listening_more, overload_begins}
+use Rattle.can_node.proofs.Moves.{transition, listening_more, overload_begins}
 
 pub active_begins : (role : Role) (text : List Bool) (later : ℕ) →
-    Agrees (Flagging ActiveError role 0 14) text later (ActiveFlag role) [] []
+    Agrees (DominantFlag ActiveError role 0 14) text later (ActiveFlag role) [] []
 active_begins role text later = in_active [] refl (omega arith) refl (omega arith)
 
 nothing_owed : (b c : Bool) → cond b (let none : List ErrorEvent = [] in none) [] ≡ cond c [] []
@@ -40,7 +41,7 @@ no_six beginning more e (v, b, is) =
     omega (arith, ap length e, length-append beginning more, ap length is, length-append v (replicate 6 b))
 
 pub passive_begins : (role : Role) (text : List Bool) (later : ℕ) →
-    Agrees (PassiveFlagging role false 0 0) text later (PassiveFlag [] role) [] []
+    Agrees (PassiveErrorFlag role false 0 0) text later (PassiveFlag [] role) [] []
 passive_begins role text later = in_passive [] [] (record {
   without_six = no_six;
   ones_is = refl;
@@ -52,7 +53,7 @@ passive_begins role text later = in_passive [] [] (record {
 
 -- the flag of a passive sender that nobody acknowledged
 pub owing_begins : (text : List Bool) (later : ℕ) →
-    Agrees (PassiveFlagging Sender true 0 0) text later (PassiveFlag (SenderError ∷ []) Sender) [] []
+    Agrees (PassiveErrorFlag Sender true 0 0) text later (PassiveFlag (SenderError ∷ []) Sender) [] []
 owing_begins text later = in_passive (SenderError ∷ []) [] (record {
   without_six = no_six;
   ones_is = refl;
@@ -62,32 +63,36 @@ owing_begins text later = in_passive (SenderError ∷ []) [] (record {
   owes_nothing = λ no. absurd (cc no);
 })
 
-pub off_begins : (text : List Bool) (later : ℕ) → Agrees (Recovering 0 0) text later BusOff [] []
+pub off_begins : (text : List Bool) (later : ℕ) → Agrees (BusOffRecovery 0 0) text later BusOff [] []
 off_begins text later = in_off {runs = 0} {n = 0} [] [] (omega arith) no_run none (omega arith)
 
 pub delimit_on : (role : Role) (k now : ℕ) (e : ErrorState) → k < 7 →
-    Goes (Delimiting role k) now e true (turn (Delimiting role (k + 1)) None)
+    Goes (InDelimiter role k) now e true (transition (InDelimiter role (k + 1)) None)
 delimit_on role k now e room text at before phase part events clock err (in_delimiter kind run n some below) =
     goes_on (rw (listening_more, append_assoc, replicate_more, append-nil)
     (in_delimiter {k = k + 1} kind run n (omega arith) (omega arith))) refl
 
 pub delimit_ends : (role : Role) (k now : ℕ) (e : ErrorState) → 7 ≤ k →
-    Goes (Delimiting role k) now e true (turn (Resting role 0) None)
+    Goes (InDelimiter role k) now e true (transition (InIntermission role 0) None)
 delimit_ends role k now e full text at before phase part events clock err (in_delimiter kind run n some below) =
     let seven : k ≡ 7 = omega arith in
     is_over (Intermission role) (rw (seven, listening_more, append_assoc, append-nil) (delimited kind role run n))
-    (λ later. in_rest {k = 0} (omega arith))
+    (λ later. in_intermission {k = 0} (omega arith))
 
 pub delimit_cut : (role : Role) (k now : ℕ) (e : ErrorState) (flag : State) → k < 7 →
     ((text : List Bool) (later : ℕ) → Agrees flag text later (flag_of e [] role) [] []) →
-    Goes (Delimiting role k) now e false (record { state = flag; event = Some (error_of role); outcome = Errored Form })
+    Goes (InDelimiter role k) now e false (record {
+      state = flag;
+      event = Some (error_of role);
+      outcome = Errored Form;
+    })
 delimit_cut role k now e flag early begins text at before phase part events clock err
     (in_delimiter kind run n some below) =
     is_over (flag_of _ [] role) (rw listening_more (cut_short kind role run n k some early))
     (subst (λ s. (later : ℕ) → Agrees flag (false ∷ []) later (flag_of s [] role) [] []) err (begins (false ∷ [])))
 
 pub delimit_overload : (role : Role) (k now : ℕ) (e : ErrorState) → 7 ≤ k →
-    Goes (Delimiting role k) now e false (turn (Flagging Overload role 0 14) None)
+    Goes (InDelimiter role k) now e false (transition (DominantFlag Overload role 0 14) None)
 delimit_overload role k now e full text at before phase part events clock err (in_delimiter kind run n some below) =
     let seven : k ≡ 7 = omega arith in
     is_over (OverloadFlag role) (rw (seven, listening_more, append-nil) (overloaded kind role run n))

@@ -13,7 +13,7 @@ use Rattle.can_confinement.specs.declared.confinement.ErrorEvent.TheVariants.{Fl
 use Rattle.can_confinement.specs.declared.confinement.ErrorState.{ErrorState}
 use Rattle.can_node.specs.declared.flag.FlagKind.{FlagKind}
 use Rattle.can_node.specs.declared.flag.FlagKind.TheVariants.{ActiveError, Overload}
-use Rattle.can_node.specs.declared.state.State.TheVariants.{Flagging, Waiting, Delimiting}
+use Rattle.can_node.specs.declared.state.State.TheVariants.{DominantFlag, AwaitingDelimiter, InDelimiter}
 use Rattle.can_node.specs.Flags.{flag_bit, flag_bits, dominant_end, first_counted, is_counted, behind_flag}
 use Rattle.can_node.specs.Flags.{dominant_event, dominant_events}
 use Rattle.can_node.specs.Phases.Phase.{Delimiter}
@@ -21,7 +21,7 @@ use Rattle.can_node.specs.Episodes.Course.{flagged, overload_flagged}
 use Rattle.can_node.specs.Machine.{Agrees, Goes, IsDue, listed}
 use Rattle.can_node.specs.Machine.Agrees.{in_active, in_overload, in_wait, in_delimiter}
 use Rattle.can_node.specs.Machine.Lands.{goes_on, is_over}
-use Rattle.can_node.proofs.Moves.{turn, listening_more, dominating_more}
+use Rattle.can_node.proofs.Moves.{transition, listening_more, dominating_more}
 
 -- a dominant level makes the run at the end longer, and a recessive one ends it
 end_dominant : (w : List Bool) → dominant_end (w ++ false ∷ []) ≡ dominant_end w + 1
@@ -38,7 +38,7 @@ flag_bits_more role w level =
 -- behind a flag that drives dominant
 pub wait_begins : (kind : FlagKind) (role : Role) (run until later : ℕ) → first_counted kind ≡ 14 → run + until ≡ 14 →
     8 ≤ until →
-    Agrees (Waiting kind role until true) (false ∷ []) later (Delimiter kind role run) [] []
+    Agrees (AwaitingDelimiter kind role until true) (false ∷ []) later (Delimiter kind role run) [] []
 unfolding dominant_events
 wait_begins kind role run until later fourteen is far =
     in_wait run 0 refl (λ _. far) (record {
@@ -49,7 +49,8 @@ wait_begins kind role run until later fourteen is far =
     })
 
 pub flag_bit_on : (kind : FlagKind) (role : Role) (sent until now : ℕ) (e : ErrorState) → sent < 5 →
-    Goes (Flagging kind role sent until) now e true (turn (Flagging kind role (sent + 1) 14) (Some (FlagBit role)))
+    Goes (DominantFlag kind role sent until) now e true (transition (DominantFlag kind role (sent + 1) 14) (Some
+    (FlagBit role)))
 flag_bit_on kind role sent until now e room text at before phase part events clock err
     (in_active levels size below runs few) =
     goes_on (rw (dominating_more, flag_bits_more role levels true)
@@ -64,7 +65,8 @@ flag_bit_on kind role sent until now e room text at before phase part events clo
     (omega (arith, end_recessive levels)) (omega (arith, end_recessive levels)))) refl
 
 pub flag_on : (kind : FlagKind) (role : Role) (sent until now : ℕ) (e : ErrorState) → sent < 5 →
-    Goes (Flagging kind role sent until) now e false (turn (Flagging kind role (sent + 1) (until - 1)) None)
+    Goes (DominantFlag kind role sent until) now e false (transition (DominantFlag kind role (sent + 1) (until - 1))
+    None)
 flag_on kind role sent until now e room text at before phase part events clock err
     (in_active levels size below runs few) =
     goes_on (rw (dominating_more, flag_bits_more role levels false)
@@ -79,7 +81,8 @@ flag_on kind role sent until now e room text at before phase part events clock e
     (omega (arith, end_dominant levels, runs, few)) (omega (arith, end_dominant levels, few)))) refl
 
 pub flag_bit_last : (kind : FlagKind) (role : Role) (sent until now : ℕ) (e : ErrorState) → 5 ≤ sent →
-    Goes (Flagging kind role sent until) now e true (turn (Waiting kind role 14 true) (Some (FlagBit role)))
+    Goes (DominantFlag kind role sent until) now e true (transition (AwaitingDelimiter kind role 14 true) (Some (FlagBit
+    role)))
 flag_bit_last kind role sent until now e full text at before phase part events clock err
     (in_active levels size below runs few) =
     is_over (Delimiter ActiveError role (dominant_end (levels ++ true ∷ [])))
@@ -94,7 +97,8 @@ flag_bit_last kind role sent until now e full text at before phase part events c
     (λ later. wait_begins Overload role _ 14 later refl (omega (arith, end_recessive levels)) (omega arith))
 
 pub flag_last : (kind : FlagKind) (role : Role) (sent until now : ℕ) (e : ErrorState) → 5 ≤ sent →
-    Goes (Flagging kind role sent until) now e false (turn (Waiting kind role (until - 1) true) None)
+    Goes (DominantFlag kind role sent until) now e false (transition (AwaitingDelimiter kind role (until - 1) true)
+    None)
 flag_last kind role sent until now e full text at before phase part events clock err
     (in_active levels size below runs few) =
     is_over (Delimiter ActiveError role (dominant_end (levels ++ false ∷ [])))
@@ -148,7 +152,7 @@ early_is_not kind run n until due later = elim (eq-zero-or-pos due.eighths) [
 ]
 
 pub wait_over : (kind : FlagKind) (role : Role) (until now : ℕ) (first : Bool) (e : ErrorState) →
-    Goes (Waiting kind role until first) now e true (turn (Delimiting role 1) None)
+    Goes (AwaitingDelimiter kind role until first) now e true (transition (InDelimiter role 1) None)
 wait_over kind role until now first e text at before phase part events clock err (in_wait run n is far due) =
     goes_on (rw (listening_more, append-nil) (in_delimiter {k = 1} kind run n (omega arith) (omega arith))) refl
 
@@ -157,7 +161,8 @@ wait_longer : (kind : FlagKind) (role : Role) (until next now : ℕ) (first : Bo
     (event : Option ErrorEvent) →
     ((run n : ℕ) → first ≡ (n == 0) → (n ≡ 0 → 8 ≤ until) → IsDue kind run n until →
     (listed event ≡ dominant_event kind role run n) × IsDue kind run (n + 1) next) →
-    Goes (Waiting kind role until first) now e false (turn (Waiting kind role next false) event)
+    Goes (AwaitingDelimiter kind role until first) now e false (transition (AwaitingDelimiter kind role next false)
+    event)
 wait_longer kind role until next now first e event step text at before phase part events clock err
     (in_wait run n is far due) =
     let x : (listed event ≡ dominant_event kind role run n) × IsDue kind run (n + 1) next = step run n is far due in
@@ -166,7 +171,8 @@ wait_longer kind role until next now first e event step text at before phase par
     (λ no. absurd (omega (arith, no))) x.1)) refl
 
 pub wait_run : (kind : FlagKind) (role : Role) (until now : ℕ) (first : Bool) (e : ErrorState) → until ≤ 1 →
-    Goes (Waiting kind role until first) now e false (turn (Waiting kind role 8 false) (Some (DominantRun role)))
+    Goes (AwaitingDelimiter kind role until first) now e false (transition (AwaitingDelimiter kind role 8 false) (Some
+    (DominantRun role)))
 wait_run kind role until now first e here =
     wait_longer kind role until 8 now first e (Some (DominantRun role)) (λ run n is far due.
     let later : 0 < n =
@@ -191,12 +197,14 @@ next_due kind run n until later due = record {
 
 pub wait_first : (kind : FlagKind) (role : Role) (until now : ℕ) (e : ErrorState) (event : Option ErrorEvent) →
     1 < until → listed event ≡ behind_flag kind role →
-    Goes (Waiting kind role until true) now e false (turn (Waiting kind role (until - 1) false) event)
+    Goes (AwaitingDelimiter kind role until true) now e false (transition (AwaitingDelimiter kind role (until - 1)
+    false) event)
 wait_first kind role until now e event later is =
     wait_longer kind role until (until - 1) now true e event (λ run n first far due.
     (rw (sym first, early_is_not kind run n until due later, append-nil) is, next_due kind run n until later due))
 
 pub wait_on : (kind : FlagKind) (role : Role) (until now : ℕ) (e : ErrorState) → 1 < until →
-    Goes (Waiting kind role until false) now e false (turn (Waiting kind role (until - 1) false) None)
+    Goes (AwaitingDelimiter kind role until false) now e false (transition (AwaitingDelimiter kind role (until - 1)
+    false) None)
 wait_on kind role until now e later = wait_longer kind role until (until - 1) now false e None (λ run n first far due.
     (rw (sym first, early_is_not kind run n until due later) refl, next_due kind run n until later due))

@@ -14,10 +14,11 @@ use Rattle.can_node.specs.declared.node.Node.{Node}
 use Rattle.can_node.specs.declared.state.State.{State}
 use Rattle.can_confinement.specs.Confinement.{state_of}
 use Rattle.can_confinement.specs.Counters.{counts_of}
-use Rattle.can_node.specs.declared.state.State.TheVariants.{Delimiting, Idling, PassiveFlagging, Recovering}
-use Rattle.can_node.specs.declared.state.State.TheVariants.{Resting, Sending, Suspending, Waiting}
+use Rattle.can_node.specs.declared.state.State.TheVariants.{InDelimiter, BusIdle, PassiveErrorFlag, BusOffRecovery}
+use Rattle.can_node.specs.declared.state.State.TheVariants.{InIntermission, Transmitting, SuspendTransmission}
+use Rattle.can_node.specs.declared.state.State.TheVariants.{AwaitingDelimiter}
 use Rattle.can_frame.proofs.ReadingOn.{goes_on-take}
-use Rattle.can_node.specs.Machine.{Goes, is_in_region, is_sending, is_taking, level_in, may_start, quiet}
+use Rattle.can_node.specs.Machine.{Goes, is_in_region, is_sending, is_taking, level_in, may_start, uneventful}
 use Rattle.can_node.specs.Phases.{suspends}
 use Rattle.can_node.specs.PlainBits.{GoesOnBy, LeavesPlainly, MayGoOnBy, StaysOut, is_plain, out_behind, out_behind_all}
 use Rattle.can_node.specs.PlainBits.{StaysBy, StaysNoLonger, stays_out}
@@ -113,18 +114,18 @@ is_not false h = absurd (cc h)
 -- or in a passive error flag
 flag_next : (role : Role) (owes : Bool) (ones dominant more none : ℕ) (level : Bool) →
     more ≡ cond level (ones + 1) 0 → none ≡ cond (not level) (dominant + 1) 0 →
-    PassiveFlagging role owes more none ≡ out_behind (PassiveFlagging role owes ones dominant) level
+    PassiveErrorFlag role owes more none ≡ out_behind (PassiveErrorFlag role owes ones dominant) level
 flag_next role owes ones dominant more none true is too = rw (is, too) refl
 flag_next role owes ones dominant more none false is too = rw (is, too) refl
 
 pub flag_more : (role : Role) (owes : Bool) (o z ones zeros more none : ℕ) (levels : List Bool) (i : ℕ) →
-    i < length levels → StaysBy (PassiveFlagging role owes o z) levels i (PassiveFlagging role owes ones zeros) →
-    stays_out (get_or levels i false) (PassiveFlagging role owes ones zeros) ≡ true →
+    i < length levels → StaysBy (PassiveErrorFlag role owes o z) levels i (PassiveErrorFlag role owes ones zeros) →
+    stays_out (get_or levels i false) (PassiveErrorFlag role owes ones zeros) ≡ true →
     more ≡ cond (get_or levels i false) (ones + 1) 0 → none ≡ cond (not (get_or levels i false)) (zeros + 1) 0 →
-    StaysBy (PassiveFlagging role owes o z) levels (i + 1) (PassiveFlagging role owes more none)
+    StaysBy (PassiveErrorFlag role owes o z) levels (i + 1) (PassiveErrorFlag role owes more none)
 flag_more role owes o z ones zeros more none levels i within by stays is too =
-    stays_more (PassiveFlagging role owes o z) (PassiveFlagging role owes ones zeros)
-    (PassiveFlagging role owes more none) levels i within by stays
+    stays_more (PassiveErrorFlag role owes o z) (PassiveErrorFlag role owes ones zeros)
+    (PassiveErrorFlag role owes more none) levels i within by stays
     (flag_next role owes ones zeros more none (get_or levels i false) is too)
 
 -- the node behind so many bits at which nothing but its state changes
@@ -138,15 +139,15 @@ behind_by node state bits = record {
 }
 
 -- one that sends
-sends_by : (node : Node) (start place : ℕ) (levels : List Bool) → node.state ≡ Sending start place →
+sends_by : (node : Node) (start place : ℕ) (levels : List Bool) → node.state ≡ Transmitting start place →
     StandAhead node.spelling place levels → place + length levels ≤ 255 →
-    GoesOnBy true node levels (behind_by node (Sending start (place + length levels)) (length levels))
+    GoesOnBy true node levels (behind_by node (Transmitting start (place + length levels)) (length levels))
 sends_by node start place [] here ahead short =
-    let state : Sending start (place + 0) ≡ node.state = ap (λ p. Sending start p) (omega arith) ∙ sym here in
+    let state : Transmitting start (place + 0) ≡ node.state = ap (λ p. Transmitting start p) (omega arith) ∙ sym here in
     let clock : node.clock + 0 ≡ node.clock = omega arith in
     rw (state, clock) refl
 sends_by node start place (level ∷ levels) here ahead short =
-    let mid = behind node (Sending start (place + 1)) in
+    let mid = behind node (Transmitting start (place + 1)) in
     let n = length levels in
     let further : place + suc n ≡ place + 1 + n = omega arith in
     let later : node.clock + suc n ≡ node.clock + 1 + n = omega arith in (
@@ -184,18 +185,18 @@ one_out state level next plain drives begins sends next_is sends_then leaves = r
 }
 
 -- in bus off
-off_out : (runs ones : ℕ) (level : Bool) (next : State) → stays_out level (Recovering runs ones) ≡ true →
-    out_behind (Recovering runs ones) level ≡ next → is_sending next ≡ false →
-    ((counters : Counters) (now : ℕ) → LeavesPlainly (Recovering runs ones) counters now level next) →
-    IsOut (Recovering runs ones) level
+off_out : (runs ones : ℕ) (level : Bool) (next : State) → stays_out level (BusOffRecovery runs ones) ≡ true →
+    out_behind (BusOffRecovery runs ones) level ≡ next → is_sending next ≡ false →
+    ((counters : Counters) (now : ℕ) → LeavesPlainly (BusOffRecovery runs ones) counters now level next) →
+    IsOut (BusOffRecovery runs ones) level
 off_out runs ones level next h next_is sends leaves =
-    one_out (Recovering runs ones) level next h (λ spelling. refl) refl refl next_is sends leaves
+    one_out (BusOffRecovery runs ones) level next h (λ spelling. refl) refl refl next_is sends leaves
 
 -- with a recessive level that makes a turn which is the same in each error state
 waits_out : (state next : State) → is_plain true state ≡ true → ((spelling : Spelling) → level_in state spelling ≡
     true) →
     may_start state ≡ false → is_sending state ≡ false → out_behind state true ≡ next → is_sending next ≡ false →
-    is_taking next ≡ false → ((now : ℕ) (e : ErrorState) → Goes state now e true (quiet next)) → IsOut state true
+    is_taking next ≡ false → ((now : ℕ) (e : ErrorState) → Goes state now e true (uneventful next)) → IsOut state true
 waits_out state next plain drives begins sends next_is sends_then reads goes =
     one_out state true next plain drives begins sends next_is sends_then (λ counters now. record {
       goes = goes now (state_of (counts_of counters));
@@ -203,74 +204,76 @@ waits_out state next plain drives begins sends next_is sends_then reads goes =
     })
 
 -- in the intermission, behind a frame that it read where that ends
-rests_out : (role : Role) (ones : ℕ) → (nat_le ones 1 ≡ false → role ≡ Receiver) → IsOut (Resting role ones) true
+rests_out : (role : Role) (ones : ℕ) → (nat_le ones 1 ≡ false → role ≡ Receiver) → IsOut (InIntermission role ones) true
 rests_out role ones receiver = elim (leb_tells ones 1) [
   | inl few ↦
       let least = few.1 in
-      waits_out (Resting role ones) (Resting role (ones + 1)) refl (λ spelling. refl) refl refl
-      (ap (λ b. cond b (Resting role (ones + 1)) Idling) few.0) refl refl
+      waits_out (InIntermission role ones) (InIntermission role (ones + 1)) refl (λ spelling. refl) refl refl
+      (ap (λ b. cond b (InIntermission role (ones + 1)) BusIdle) few.0) refl refl
       (λ now e. rest_on role ones now e (omega (arith, least)))
   | inr many ↦
       let more = many.1 in
-      waits_out (Resting role ones) Idling refl (λ spelling. refl) refl refl
-      (ap (λ b. cond b (Resting role (ones + 1)) Idling) many.0) refl refl
+      waits_out (InIntermission role ones) BusIdle refl (λ spelling. refl) refl refl
+      (ap (λ b. cond b (InIntermission role (ones + 1)) BusIdle) many.0) refl refl
       (λ now e. rest_ends role ones now e (omega (arith, more)) (ap (λ r. suspends r e) (receiver many.0)))
 ]
 
 pub is_out : (state : State) (level : Bool) → stays_out level state ≡ true → IsOut state level
-is_out (Recovering runs ones) true h = elim (leb_tells ones 9) [
-  | inl few ↦ off_out runs ones true (Recovering runs (ones + 1)) h
-      (ap (λ b. cond b (Recovering runs (ones + 1)) (Recovering (runs + 1) 0)) few.0) refl
+is_out (BusOffRecovery runs ones) true h = elim (leb_tells ones 9) [
+  | inl few ↦ off_out runs ones true (BusOffRecovery runs (ones + 1)) h
+      (ap (λ b. cond b (BusOffRecovery runs (ones + 1)) (BusOffRecovery (runs + 1) 0)) few.0) refl
       (λ counters now. off_longer_plain runs ones counters now (let least = few.1 in omega (arith, least)))
   | inr many ↦
       let whole : 10 ≤ ones = let more = many.1 in omega (arith, more) in
-      off_out runs ones true (Recovering (runs + 1) 0) h
-      (ap (λ b. cond b (Recovering runs (ones + 1)) (Recovering (runs + 1) 0)) many.0) refl
+      off_out runs ones true (BusOffRecovery (runs + 1) 0) h
+      (ap (λ b. cond b (BusOffRecovery runs (ones + 1)) (BusOffRecovery (runs + 1) 0)) many.0) refl
       (λ counters now. off_counts_plain runs ones counters now whole (not_the_last runs ones h whole))
 ]
-is_out (Recovering runs ones) false h =
-    off_out runs ones false (Recovering runs 0) h refl refl (λ counters now. off_broken_plain runs ones counters now)
-is_out (PassiveFlagging role owes ones zeros) true h =
-    waits_out (PassiveFlagging role owes ones zeros) (PassiveFlagging role owes (ones + 1) 0) refl (λ spelling. refl)
+is_out (BusOffRecovery runs ones) false h =
+    off_out runs ones false (BusOffRecovery runs 0) h refl refl (λ counters now. off_broken_plain runs ones counters
+    now)
+is_out (PassiveErrorFlag role owes ones zeros) true h =
+    waits_out (PassiveErrorFlag role owes ones zeros) (PassiveErrorFlag role owes (ones + 1) 0) refl (λ spelling. refl)
     refl
     refl refl refl refl
     (λ now e. passive_recessive role owes ones zeros now e (let few = few_of ones 4 h in omega (arith, few)))
-is_out (PassiveFlagging role true ones zeros) false h = absurd (cc h)
-is_out (PassiveFlagging role false ones zeros) false h =
-    one_out (PassiveFlagging role false ones zeros) false (PassiveFlagging role false 0 (zeros + 1)) refl
+is_out (PassiveErrorFlag role true ones zeros) false h = absurd (cc h)
+is_out (PassiveErrorFlag role false ones zeros) false h =
+    one_out (PassiveErrorFlag role false ones zeros) false (PassiveErrorFlag role false 0 (zeros + 1)) refl
     (λ spelling. refl) refl refl refl refl (λ counters now. record {
       goes = passive_dominant role ones zeros now (state_of (counts_of counters))
           (let few = few_of zeros 4 h in omega (arith, few));
       reads_none = refl;
     })
-is_out (Waiting kind role until first) true h =
-    waits_out (Waiting kind role until first) (Delimiting role 1) refl (λ spelling. refl) refl refl refl refl refl
+is_out (AwaitingDelimiter kind role until first) true h =
+    waits_out (AwaitingDelimiter kind role until first) (InDelimiter role 1) refl (λ spelling. refl) refl refl refl refl
+    refl
     (λ now e. wait_over kind role until now first e)
-is_out (Delimiting role ones) true h = elim (leb_tells ones 6) [
+is_out (InDelimiter role ones) true h = elim (leb_tells ones 6) [
   | inl few ↦
       let least = few.1 in
-      waits_out (Delimiting role ones) (Delimiting role (ones + 1)) refl (λ spelling. refl) refl refl
-      (ap (λ b. cond b (Delimiting role (ones + 1)) (Resting role 0)) few.0) refl refl
+      waits_out (InDelimiter role ones) (InDelimiter role (ones + 1)) refl (λ spelling. refl) refl refl
+      (ap (λ b. cond b (InDelimiter role (ones + 1)) (InIntermission role 0)) few.0) refl refl
       (λ now e. delimit_on role ones now e (omega (arith, least)))
   | inr many ↦
       let more = many.1 in
-      waits_out (Delimiting role ones) (Resting role 0) refl (λ spelling. refl) refl refl
-      (ap (λ b. cond b (Delimiting role (ones + 1)) (Resting role 0)) many.0) refl refl
+      waits_out (InDelimiter role ones) (InIntermission role 0) refl (λ spelling. refl) refl refl
+      (ap (λ b. cond b (InDelimiter role (ones + 1)) (InIntermission role 0)) many.0) refl refl
       (λ now e. delimit_ends role ones now e (omega (arith, more)))
 ]
-is_out (Resting Receiver ones) true h = rests_out Receiver ones (λ more. refl)
-is_out (Resting Sender ones) true h =
+is_out (InIntermission Receiver ones) true h = rests_out Receiver ones (λ more. refl)
+is_out (InIntermission Sender ones) true h =
     rests_out Sender ones (λ more. absurd (let on = ap (λ b. b || false) (sym more) ∙ h in cc on))
-is_out (Suspending ones) true h = elim (leb_tells ones 6) [
+is_out (SuspendTransmission ones) true h = elim (leb_tells ones 6) [
   | inl few ↦
       let least = few.1 in
-      waits_out (Suspending ones) (Suspending (ones + 1)) refl (λ spelling. refl) refl refl
-      (ap (λ b. cond b (Suspending (ones + 1)) Idling) few.0) refl refl
+      waits_out (SuspendTransmission ones) (SuspendTransmission (ones + 1)) refl (λ spelling. refl) refl refl
+      (ap (λ b. cond b (SuspendTransmission (ones + 1)) BusIdle) few.0) refl refl
       (λ now e. suspend_on ones now e (omega (arith, least)))
   | inr many ↦
       let more = many.1 in
-      waits_out (Suspending ones) Idling refl (λ spelling. refl) refl refl
-      (ap (λ b. cond b (Suspending (ones + 1)) Idling) many.0) refl refl
+      waits_out (SuspendTransmission ones) BusIdle refl (λ spelling. refl) refl refl
+      (ap (λ b. cond b (SuspendTransmission (ones + 1)) BusIdle) many.0) refl refl
       (λ now e. suspend_ends ones now e (omega (arith, more)))
 ]
 is_out state level h = absurd (cc h)
@@ -294,18 +297,18 @@ out_by node (level ∷ levels) out =
 
 -- whichever it is tells its state
 pub sending_by : (node : Node) (start place next n : ℕ) (levels : List Bool) (is_sender : Bool) →
-    node.state ≡ Sending start place → n ≡ length levels → next ≡ min (place + n) 255 →
+    node.state ≡ Transmitting start place → n ≡ length levels → next ≡ min (place + n) 255 →
     place ≤ 255 → MayGoOnBy is_sender levels node →
-    GoesOnBy is_sender node levels (behind_by node (Sending start next) n)
+    GoesOnBy is_sender node levels (behind_by node (Transmitting start next) n)
 sending_by node start place next n levels is_sender here size next_is fits (sends_on s p is there ahead short) =
-    let same : Sending s p ≡ Sending start place = sym there ∙ here in
+    let same : Transmitting s p ≡ Transmitting start place = sym there ∙ here in
     let started : s ≡ start = cc same in
     let placed : p ≡ place = cc same in
     let end : next ≡ p + length levels = omega (arith, size, next_is, short, placed) in
     rw (is, sym started, end, size) (sends_by node s p levels there ahead short)
 sending_by node start place next n [] is_sender here size next_is fits (waits_on is out) =
-    let end : Sending start next ≡ node.state =
-    ap (λ p. Sending start p) (omega (arith, size, next_is, fits)) ∙ sym here in
+    let end : Transmitting start next ≡ node.state =
+    ap (λ p. Transmitting start p) (omega (arith, size, next_is, fits)) ∙ sym here in
     let clock : node.clock + n ≡ node.clock = omega (arith, size) in
     rw (end, clock) refl
 sending_by node start place next n (level ∷ levels) is_sender here size next_is fits (waits_on is out) =
@@ -315,7 +318,7 @@ sending_by node start place next n levels is_sender here size next_is fits (read
     absurd (let elsewhere : is_in_region node.state ≡ false = ap is_in_region here in cc (elsewhere, there))
 
 pub waiting_by : (node : Node) (next : State) (n : ℕ) (levels : List Bool) (is_sender : Bool) →
-    ((start place : ℕ) → node.state ≡ Sending start place → ⊥) → is_in_region node.state ≡ false →
+    ((start place : ℕ) → node.state ≡ Transmitting start place → ⊥) → is_in_region node.state ≡ false →
     n ≡ length levels → (StaysOut node.state levels → next ≡ out_behind_all node.state levels) →
     MayGoOnBy is_sender levels node → GoesOnBy is_sender node levels (behind_by node next n)
 waiting_by node next n levels is_sender not elsewhere size next_is (sends_on s p is there ahead short) =
@@ -327,7 +330,7 @@ waiting_by node next n levels is_sender not elsewhere size next_is (reads_on is 
 
 -- no more levels than it has places
 pub short_by : (node : Node) (start place : ℕ) (levels : List Bool) (is_sender : Bool) →
-    node.state ≡ Sending start place → MayGoOnBy is_sender levels node → length levels ≤ 255
+    node.state ≡ Transmitting start place → MayGoOnBy is_sender levels node → length levels ≤ 255
 short_by node start place levels is_sender here (sends_on s p is there ahead short) = omega (arith, short)
 short_by node start place [] is_sender here (waits_on is out) = omega arith
 short_by node start place (level ∷ levels) is_sender here (waits_on is out) =

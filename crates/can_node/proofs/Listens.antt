@@ -18,72 +18,73 @@ use Rattle.can_node.specs.declared.outcome.Outcome.{Outcome}
 use Rattle.can_node.specs.declared.shared_sample.HeardLevel.{HeardLevel}
 use Rattle.can_node.specs.declared.outcome.Outcome.TheVariants.{Nothing, Took}
 use Rattle.can_node.specs.declared.state.State.{State}
-use Rattle.can_node.specs.declared.state.State.TheVariants.{Closing, Idling, Taking, Sending}
+use Rattle.can_node.specs.declared.state.State.TheVariants.{LastEofBit, BusIdle, Receiving, Transmitting}
 use Rattle.can_node.specs.declared.state.Stage.{Stage}
 use Rattle.can_node.specs.declared.state.Stage.TheVariants.{Region, AfterRegion, Slot, AfterSlot}
-use Rattle.can_node.specs.declared.state.Turn.{Turn}
+use Rattle.can_node.specs.declared.state.Transition.{Transition}
 use Rattle.can_frame.specs.declared.spelling.Spelling.{Spelling}
 use Rattle.can_node.specs.declared.node.Node.{Node}
-use Rattle.can_node.specs.declared.listener.Listener.{Listener}
+use Rattle.can_node.specs.declared.shared_receiver.SharedReceiver.{SharedReceiver}
 use Rattle.can_confinement.specs.Confinement.{no_counts, is_off, after_event, counts_after, state_of}
 use Rattle.can_confinement.specs.Counters.{StandsAfter as CountersStandAfter, counts_of}
 use Rattle.can_node.specs.Machine.{Advances, behind_end, Counts, Goes, GoesReading, IsMade, ReaderStands, Steps}
 use Rattle.can_node.specs.Machine.{is_in_region}
-use Rattle.can_node.specs.Machine.{is_sending, is_taking, level_in, may_start, quiet}
+use Rattle.can_node.specs.Machine.{is_sending, is_taking, level_in, may_start, uneventful}
 use Rattle.can_frame.specs.Sending.{level_at}
 use Rattle.can_node.specs.Machine.LeadsTo.{stays_on}
 use Rattle.can_node.specs.Node.{IsSample}
-use Rattle.can_node.specs.Listener.{AllHear, AllTake, Follows, Idles, IsUnseen, ReadsAlong, StandsWith}
-use Rattle.can_node.specs.Listener.{caught_up, taken_up}
-use Rattle.can_node.proofs.Samples.{counts_none, quiet_steps, samples}
+use Rattle.can_node.specs.SharedReceiver.{AllHear, AllTake, Follows, Idles, IsUnseen, ReadsAlong, Matches}
+use Rattle.can_node.specs.SharedReceiver.{materialized, taken_up}
+use Rattle.can_node.proofs.Samples.{counts_none, uneventful_steps, samples}
 use Rattle.can_node.specs.PlainBits.{LeavesPlainly}
 use Rattle.can_node.proofs.PlainSteps.{plain_steps}
 use Rattle.can_node.proofs.Advancing.{idle_advances, other_advances, reading_advances}
 use Rattle.can_node.proofs.Samples.{stands_history}
-use Rattle.can_node.proofs.Advancing.{sending_advances, steady_advances}
+use Rattle.can_node.proofs.Advancing.{sending_advances, staying_advances}
 use Rattle.can_node.proofs.SendMoves.{send_echoed}
 use Rattle.can_node.proofs.TakeMoves.{tail_delimiter, tail_later, take_taken}
 
-abbrev listening : State → Reader → Listener
+abbrev listening : State → Reader → SharedReceiver
 listening state reader = record { state = state; reader = reader }
 
-follows_by : (known : KnownCounts) (old new : Listener) (bit : ℕ) (level : Bool) →
+follows_by : (known : KnownCounts) (old new : SharedReceiver) (bit : ℕ) (level : Bool) →
     ((node : Node) → Knows known node.counters →
     Steps old.state node.counters old.reader node.spelling bit level Nothing new.state node.counters new.reader) →
     Follows known old bit level new
 follows_by known old new bit level steps node counts =
-    samples (caught_up node old bit) (caught_up node new (bit + 1)) level Nothing (steps node counts) refl refl
+    samples (materialized node old bit) (materialized node new (bit + 1)) level Nothing (steps node counts) refl refl
 
-steady_follows : (known : KnownCounts) (start : ℕ) (old new : Reader) (bit : ℕ) (level : Bool) (step : Step) →
+staying_follows : (known : KnownCounts) (start : ℕ) (old new : Reader) (bit : ℕ) (level : Bool) (step : Step) →
     IsPush old level step new → (step ≡ More) ⊎ (step ≡ StuffBit) →
-    Follows known (listening (Taking start false Region) old) bit level (listening (Taking start false Region) new)
-steady_follows known start old new bit level step push goes_on =
-    let here = Taking start false Region in
+    Follows known (listening (Receiving start false Region) old) bit level (listening (Receiving start false Region)
+    new)
+staying_follows known start old new bit level step push goes_on =
+    let here = Receiving start false Region in
     follows_by known (listening here old) (listening here new) bit level
-    (λ node counts. quiet_steps here here node.counters old new node.spelling bit level
-    (λ errors. steady_advances start false Region old new node.spelling bit errors level step push
+    (λ node counts. uneventful_steps here here node.counters old new node.spelling bit level
+    (λ errors. staying_advances start false Region old new node.spelling bit errors level step push
     (record { reads = refl; inside = refl; goes_on = goes_on })))
 
 -- within the stuffed region of a frame
 pub region_follows : (known : KnownCounts) (state : State) (old new : Reader) (bit : ℕ) (level : Bool) →
     is_in_region state ≡ true → ReadsOn old level new →
     Follows known (listening state old) bit level (listening state new)
-region_follows known (Taking start false Region) old new bit level is (inl more) =
-    steady_follows known start old new bit level More more (inl refl)
-region_follows known (Taking start false Region) old new bit level is (inr stuff) =
-    steady_follows known start old new bit level StuffBit stuff (inr refl)
+region_follows known (Receiving start false Region) old new bit level is (inl more) =
+    staying_follows known start old new bit level More more (inl refl)
+region_follows known (Receiving start false Region) old new bit level is (inr stuff) =
+    staying_follows known start old new bit level StuffBit stuff (inr refl)
 region_follows known state old new bit level is on = absurd (cc is)
 
 -- on an idle bus
-pub idle_follows : (known : KnownCounts) (state : State) (reader : Reader) (bit : ℕ) (level : Bool) → state ≡ Idling →
+pub idle_follows : (known : KnownCounts) (state : State) (reader : Reader) (bit : ℕ) (level : Bool) → state ≡ BusIdle →
     level ≡ true →
     Follows known (listening state reader) bit level (listening state reader)
 idle_follows known state reader bit level is recessive = rw (is, recessive)
-    (follows_by known (listening Idling reader) (listening Idling reader) bit true
-    (λ node counts. quiet_steps Idling Idling node.counters reader reader node.spelling bit true
+    (follows_by known (listening BusIdle reader) (listening BusIdle reader) bit true
+    (λ node counts. uneventful_steps BusIdle BusIdle node.counters reader reader node.spelling bit true
     (λ errors. idle_advances reader node.spelling bit errors)))
 
-pub idles : (state : State) (reader : Reader) → state ≡ Idling → Idles (listening state reader)
+pub idles : (state : State) (reader : Reader) → state ≡ BusIdle → Idles (listening state reader)
 idles state reader is = record {
   drives = λ node bit. ap (λ s. level_in s node.spelling) is;
   follows = λ known bit. idle_follows known state reader bit true is refl;
@@ -106,46 +107,49 @@ counts_unseen known counters event counts (inl is) events = counts_none counters
 counts_unseen known counters event counts (inr is) events =
     rw is.1 (counts_received counters (subst (λ k. Knows k counters) is.0 counts) events)
 
-unseen_follows : (known : KnownCounts) (old new : Listener) (bit : ℕ) (level : Bool) (turn : Turn) →
-    IsUnseen known turn → new.state ≡ turn.state →
+unseen_follows : (known : KnownCounts) (old new : SharedReceiver) (bit : ℕ) (level : Bool) (transition : Transition) →
+    IsUnseen known transition → new.state ≡ transition.state →
     ((spelling : Spelling) (errors : ErrorState) →
-    Advances old.state old.reader spelling bit errors level turn new.reader) → Follows known old bit level new
-unseen_follows known old new bit level turn unseen state_is advances =
+    Advances old.state old.reader spelling bit errors level transition new.reader) → Follows known old bit level new
+unseen_follows known old new bit level transition unseen state_is advances =
     follows_by known old new bit level (λ node counts. record {
-      turn = turn;
+      transition = transition;
       errors = state_of (counts_of node.counters);
       shows = λ events h. ap state_of h;
       advances = advances node.spelling (state_of (counts_of node.counters));
       is_made = record {
         off = false;
-        counts = counts_unseen known node.counters turn.event counts unseen.counts_none;
+        counts = counts_unseen known node.counters transition.event counts unseen.counts_none;
         ends_in = (state_is, sym unseen.tells_none);
       };
     })
 
 -- a level of a frame with which all read on
-pub reading_follows : (known : KnownCounts) (old : Listener) (start : ℕ) (may : Bool) (stage : Stage) (new : Reader)
-    (bit : ℕ) (level : Bool) (step : Step) (turn : Turn) → old.state ≡ Taking start may stage →
+pub reading_follows : (known : KnownCounts) (old : SharedReceiver) (start : ℕ) (may : Bool) (stage : Stage) (new :
+    Reader)
+    (bit : ℕ) (level : Bool) (step : Step) (transition : Transition) → old.state ≡ Receiving start may stage →
     IsPush old.reader level step new → ((errors : ErrorState) (may : Bool) →
-    GoesReading (Taking start may stage) errors step level turn) → IsUnseen known turn →
-    Follows known old bit level (listening turn.state new)
-reading_follows known old start may stage new bit level step turn is push goes unseen =
-    unseen_follows known old (listening turn.state new) bit level turn unseen refl
-    (λ spelling errors. rw is (reading_advances start may stage old.reader new spelling bit errors level step turn push
+    GoesReading (Receiving start may stage) errors step level transition) → IsUnseen known transition →
+    Follows known old bit level (listening transition.state new)
+reading_follows known old start may stage new bit level step transition is push goes unseen =
+    unseen_follows known old (listening transition.state new) bit level transition unseen refl
+    (λ spelling errors. rw is (reading_advances start may stage old.reader new spelling bit errors level step transition
+    push
     (goes errors)))
 
 -- a level outside of one
-pub other_follows : (known : KnownCounts) (old : Listener) (new : Reader) (bit : ℕ) (level : Bool) (turn : Turn) →
-    is_sending old.state ≡ false → ((errors : ErrorState) → Goes old.state bit errors level turn) →
-    IsUnseen known turn → (is_taking turn.state ≡ true → ReaderStandsAfter new (false ∷ [])) →
-    (is_taking turn.state ≡ true → IsReading new) → Follows known old bit level (listening turn.state new)
-other_follows known old new bit level turn sends_none goes unseen stands reading =
-    unseen_follows known old (listening turn.state new) bit level turn unseen refl
-    (λ spelling errors. other_advances old.state old.reader new spelling bit errors level turn sends_none
+pub other_follows : (known : KnownCounts) (old : SharedReceiver) (new : Reader) (bit : ℕ) (level : Bool) (transition :
+    Transition) →
+    is_sending old.state ≡ false → ((errors : ErrorState) → Goes old.state bit errors level transition) →
+    IsUnseen known transition → (is_taking transition.state ≡ true → ReaderStandsAfter new (false ∷ [])) →
+    (is_taking transition.state ≡ true → IsReading new) → Follows known old bit level (listening transition.state new)
+other_follows known old new bit level transition sends_none goes unseen stands reading =
+    unseen_follows known old (listening transition.state new) bit level transition unseen refl
+    (λ spelling errors. other_advances old.state old.reader new spelling bit errors level transition sends_none
     (goes errors) stands reading)
 
 -- a level with which a flag, a delimiter or the intermission goes on
-pub plain_follows : (known : KnownCounts) (old : Listener) (next : State) (bit : ℕ) (level : Bool) →
+pub plain_follows : (known : KnownCounts) (old : SharedReceiver) (next : State) (bit : ℕ) (level : Bool) →
     is_sending old.state ≡ false → ((counters : Counters) → LeavesPlainly old.state counters bit level next) →
     Follows known old bit level (listening next old.reader)
 plain_follows known old next bit level sends_none leaves =
@@ -160,14 +164,15 @@ same_reads state one other text same reads = record {
   reading = λ is. (same is).reading (reads.reading is);
 }
 
-pub stands_with : (node : Node) (listener : Listener) → node.state ≡ listener.state → is_sending node.state ≡ false →
-    (is_taking node.state ≡ true → StandsAs node.reader listener.reader) →
-    StandsWith node listener
-stands_with node listener is sends_none same = record {
+pub matches : (node : Node) (shared_receiver : SharedReceiver) → node.state ≡ shared_receiver.state → is_sending
+    node.state ≡ false →
+    (is_taking node.state ≡ true → StandsAs node.reader shared_receiver.reader) →
+    Matches node shared_receiver
+matches node shared_receiver is sends_none same = record {
   stands = λ past h. record {
     text = h.text;
     in_state = rw (sym is) h.in_state;
-    reads = rw (sym is) (same_reads node.state node.reader listener.reader h.text same h.reads);
+    reads = rw (sym is) (same_reads node.state node.reader shared_receiver.reader h.text same h.reads);
     clock_is = h.clock_is;
     counted = h.counted;
   };
@@ -177,57 +182,61 @@ stands_with node listener is sends_none same = record {
 
 -- One that reads on in the stuffed region drives recessive, and doesn't begin to send.
 region_drives : (state : State) (spelling : Spelling) → is_in_region state ≡ true → level_in state spelling ≡ true
-region_drives (Taking start false Region) spelling is = refl
+region_drives (Receiving start false Region) spelling is = refl
 region_drives state spelling is = absurd (cc is)
 
 pub region_begins : (state : State) → is_in_region state ≡ true → may_start state ≡ false
-region_begins (Taking start false Region) is = refl
+region_begins (Receiving start false Region) is = refl
 region_begins state is = absurd (cc is)
 
 region_listens : (state : State) → is_in_region state ≡ true → is_sending state ≡ false
-region_listens (Taking start false Region) is = refl
+region_listens (Receiving start false Region) is = refl
 region_listens state is = absurd (cc is)
 
 -- a bit of the stuffed region is read along
-pub along_region : (listener : Listener) (reader : Reader) (level : Bool) → is_in_region listener.state ≡ true →
-    ReadsOn listener.reader level reader → ReadsAlong listener level (listening listener.state reader)
-along_region listener reader level inside reads = record {
-  drives = λ other bit. region_drives listener.state other.spelling inside;
-  begins = λ other bit. region_begins listener.state inside;
-  follows = λ known bit. region_follows known listener.state listener.reader reader bit level inside reads;
-  listens = region_listens listener.state inside;
+pub along_region : (shared_receiver : SharedReceiver) (reader : Reader) (level : Bool) → is_in_region
+    shared_receiver.state ≡ true →
+    ReadsOn shared_receiver.reader level reader → ReadsAlong shared_receiver level (listening shared_receiver.state
+    reader)
+along_region shared_receiver reader level inside reads = record {
+  drives = λ other bit. region_drives shared_receiver.state other.spelling inside;
+  begins = λ other bit. region_begins shared_receiver.state inside;
+  follows = λ known bit. region_follows known shared_receiver.state shared_receiver.reader reader bit level inside
+      reads;
+  listens = region_listens shared_receiver.state inside;
 }
 
 end_follows : (known : KnownCounts) (start : ℕ) (stage : Stage) (behind : State) (old new : Reader) (bit : ℕ)
     (level : Bool) → is_sending behind ≡ false →
-    ((errors : ErrorState) (may : Bool) → GoesReading (Taking start may stage) errors Tail level (quiet behind)) →
+    ((errors : ErrorState) (may : Bool) → GoesReading (Receiving start may stage) errors Tail level (uneventful behind))
+    →
     IsPush old level Tail new →
-    Follows known (listening (Taking start false stage) old) bit level (listening behind new)
+    Follows known (listening (Receiving start false stage) old) bit level (listening behind new)
 end_follows known start stage behind old new bit level sends_none goes push =
-    reading_follows known (listening (Taking start false stage) old) start false stage new bit level Tail
-    (quiet behind) refl push goes
+    reading_follows known (listening (Receiving start false stage) old) start false stage new bit level Tail
+    (uneventful behind) refl push goes
     (record { tells_none = refl; counts_none = inl refl; sends_none = sends_none })
 
 -- so is a bit behind it with which the frame goes on, but the ACK slot
 pub along_end : (state behind : State) (old new : Reader) (level : Bool) → behind_end state ≡ Some behind →
     IsPush old level Tail new → ReadsAlong (listening state old) level (listening behind new)
-along_end (Taking start false (AfterRegion right)) behind old new level is push =
-    let next : Taking start false (Slot right) ≡ behind = cc is in
-    subst (λ s. ReadsAlong (listening (Taking start false (AfterRegion right)) old) level (listening s new)) next
+along_end (Receiving start false (AfterRegion right)) behind old new level is push =
+    let next : Receiving start false (Slot right) ≡ behind = cc is in
+    subst (λ s. ReadsAlong (listening (Receiving start false (AfterRegion right)) old) level (listening s new)) next
     (record {
       drives = λ other bit. refl;
       begins = λ other bit. refl;
       follows = λ known bit. end_follows known start (AfterRegion right)
-          (Taking start false (Slot right)) old new bit level refl
+          (Receiving start false (Slot right)) old new bit level refl
           (λ errors may. tail_delimiter start may right errors level) push;
       listens = refl;
     })
-along_end (Taking start false AfterSlot) behind old new level is push =
-    let next : Taking start false AfterSlot ≡ behind = cc is in
-    subst (λ s. ReadsAlong (listening (Taking start false AfterSlot) old) level (listening s new)) next (record {
+along_end (Receiving start false AfterSlot) behind old new level is push =
+    let next : Receiving start false AfterSlot ≡ behind = cc is in
+    subst (λ s. ReadsAlong (listening (Receiving start false AfterSlot) old) level (listening s new)) next (record {
       drives = λ other bit. refl;
       begins = λ other bit. refl;
-      follows = λ known bit. end_follows known start AfterSlot (Taking start false AfterSlot) old new bit level refl
+      follows = λ known bit. end_follows known start AfterSlot (Receiving start false AfterSlot) old new bit level refl
           (λ errors may. tail_later start may errors level) push;
       listens = refl;
     })
@@ -235,10 +244,11 @@ along_end state behind old new level is push = absurd (cc is)
 
 -- a frame that is taken: the reader has done its work
 other_reader : (state : State) (old new other : Reader) (spelling : Spelling) (now : ℕ) (errors : ErrorState)
-    (level : Bool) (turn : Turn) → is_taking turn.state ≡ false →
-    Advances state old spelling now errors level turn new →
-    Advances state old spelling now errors level turn other
-other_reader state old new other spelling now errors level turn none advances text at before phase part events clock err
+    (level : Bool) (transition : Transition) → is_taking transition.state ≡ false →
+    Advances state old spelling now errors level transition new →
+    Advances state old spelling now errors level transition other
+other_reader state old new other spelling now errors level transition none advances text at before phase part events
+    clock err
     agrees holds reads =
     let lands = advances text at before phase part events clock err agrees holds reads in
     record {
@@ -247,52 +257,59 @@ other_reader state old new other spelling now errors level turn none advances te
       reads = record { stands = λ is. absurd (cc (is, none)); reading = λ is. absurd (cc (is, none)) };
     }
 
-pub all_take : (listener : Listener) (start : ℕ) (may : Bool) (stage : Stage) (level : Bool) (frame : FrameValue)
-    (new : Reader) → listener.state ≡ Taking start may stage → IsPush listener.reader level (Taken frame) new →
-    AllTake listener level (record { start = start; frame = frame })
-all_take listener start may stage level frame new here push node bit =
-    let turn : Turn = record { state = Closing; event = None; outcome = Took start frame } in
-    samples (caught_up node listener bit) (taken_up node bit) level (Took start frame) (rw here (record {
-      turn = turn;
+pub all_take : (shared_receiver : SharedReceiver) (start : ℕ) (may : Bool) (stage : Stage) (level : Bool) (frame :
+    FrameValue)
+    (new : Reader) → shared_receiver.state ≡ Receiving start may stage → IsPush shared_receiver.reader level (Taken
+    frame) new →
+    AllTake shared_receiver level (record { start = start; frame = frame })
+all_take shared_receiver start may stage level frame new here push node bit =
+    let transition : Transition = record { state = LastEofBit; event = None; outcome = Took start frame } in
+    samples (materialized node shared_receiver bit) (taken_up node bit) level (Took start frame) (rw here (record {
+      transition = transition;
       errors = state_of (counts_of node.counters);
       shows = λ events h. ap state_of h;
-      advances = other_reader (Taking start may stage) listener.reader new node.reader node.spelling bit
-          (state_of (counts_of node.counters)) level turn refl
-          (reading_advances start may stage listener.reader new node.spelling bit (state_of (counts_of node.counters))
-          level (Taken frame) turn push
+      advances = other_reader (Receiving start may stage) shared_receiver.reader new node.reader node.spelling bit
+          (state_of (counts_of node.counters)) level transition refl
+          (reading_advances start may stage shared_receiver.reader new node.spelling bit (state_of (counts_of
+          node.counters))
+          level (Taken frame) transition push
           (λ may. take_taken start may stage (state_of (counts_of node.counters)) level frame));
       is_made = record { off = false; counts = counts_none node.counters None refl; ends_in = (refl, refl) };
     })) refl refl
 
 -- One that reads a frame as all do: where it reads on its reader is that of all, and else it has done its work.
 heard_advances : (start : ℕ) (may : Bool) (stage : Stage) (old new own : Reader) (spelling : Spelling) (now : ℕ)
-    (errors : ErrorState) (level : Bool) (step : Step) (turn : Turn) (taking : Bool) → is_taking turn.state ≡ taking →
+    (errors : ErrorState) (level : Bool) (step : Step) (transition : Transition) (taking : Bool) → is_taking
+    transition.state ≡ taking →
     (taking ≡ true → own ≡ new) → IsPush old level step new →
-    ((may : Bool) → GoesReading (Taking start may stage) errors step level turn) →
-    Advances (Taking start may stage) old spelling now errors level turn own
-heard_advances start may stage old new own spelling now errors level step turn true is copied push goes =
-    subst (Advances (Taking start may stage) old spelling now errors level turn) (sym (copied refl))
-    (reading_advances start may stage old new spelling now errors level step turn push goes)
-heard_advances start may stage old new own spelling now errors level step turn false is copied push goes =
-    other_reader (Taking start may stage) old new own spelling now errors level turn is
-    (reading_advances start may stage old new spelling now errors level step turn push goes)
+    ((may : Bool) → GoesReading (Receiving start may stage) errors step level transition) →
+    Advances (Receiving start may stage) old spelling now errors level transition own
+heard_advances start may stage old new own spelling now errors level step transition true is copied push goes =
+    subst (Advances (Receiving start may stage) old spelling now errors level transition) (sym (copied refl))
+    (reading_advances start may stage old new spelling now errors level step transition push goes)
+heard_advances start may stage old new own spelling now errors level step transition false is copied push goes =
+    other_reader (Receiving start may stage) old new own spelling now errors level transition is
+    (reading_advances start may stage old new spelling now errors level step transition push goes)
 
-pub all_hear : (listener : Listener) (bit : ℕ) (level : Bool) (heard : HeardLevel) (turn : Turn) (outcome : Outcome)
-    (old new : Node) (taking : Bool) → AllHear listener level heard →
+pub all_hear : (shared_receiver : SharedReceiver) (bit : ℕ) (level : Bool) (heard : HeardLevel) (transition :
+    Transition) (outcome : Outcome)
+    (old new : Node) (taking : Bool) → AllHear shared_receiver level heard →
     ((may : Bool) →
-    GoesReading (Taking heard.start may heard.stage) (state_of (counts_of old.counters)) heard.step level turn) →
-    is_taking turn.state ≡ taking → (taking ≡ true → new.reader ≡ heard.reader) →
-    IsMade turn old.counters new.counters new.state outcome → new.spelling ≡ old.spelling → new.clock ≡ bit + 1 →
-    IsSample (caught_up old listener bit) level outcome new
-all_hear listener bit level heard turn outcome old new taking all goes is copied made same clock_is =
+    GoesReading (Receiving heard.start may heard.stage) (state_of (counts_of old.counters)) heard.step level transition)
+    →
+    is_taking transition.state ≡ taking → (taking ≡ true → new.reader ≡ heard.reader) →
+    IsMade transition old.counters new.counters new.state outcome → new.spelling ≡ old.spelling → new.clock ≡ bit + 1 →
+    IsSample (materialized old shared_receiver bit) level outcome new
+all_hear shared_receiver bit level heard transition outcome old new taking all goes is copied made same clock_is =
     let errors = state_of (counts_of old.counters) in
-    samples (caught_up old listener bit) new level outcome
-    (subst (λ state. Steps state old.counters listener.reader old.spelling bit level outcome new.state new.counters
+    samples (materialized old shared_receiver bit) new level outcome
+    (subst (λ state. Steps state old.counters shared_receiver.reader old.spelling bit level outcome new.state
+    new.counters
     new.reader) (sym all.state_is) (record {
-      turn = turn;
+      transition = transition;
       errors = errors;
       shows = λ events h. ap state_of h;
-      advances = heard_advances heard.start all.may_begin heard.stage listener.reader heard.reader new.reader
-          old.spelling bit errors level heard.step turn taking is copied all.push goes;
+      advances = heard_advances heard.start all.may_begin heard.stage shared_receiver.reader heard.reader new.reader
+          old.spelling bit errors level heard.step transition taking is copied all.push goes;
       is_made = made;
     })) same clock_is

@@ -13,8 +13,8 @@ use Rattle.can_node.specs.Pairs.{Pair}
 use Rattle.can_node.specs.Phases.{Phase}
 use Rattle.can_node.specs.Phases.Phase.{Send, Take}
 use Rattle.can_node.specs.Episodes.{Course, Episode}
-use Rattle.can_node.specs.Episodes.Course.{synced, woken, completed, lost, stuff_lost, unacknowledged, bit_differs}
-use Rattle.can_node.specs.Episodes.Course.{took, spoiled, quiet_end, late_overload, flagged, overload_flagged}
+use Rattle.can_node.specs.Episodes.Course.{synced, resumed, completed, lost, stuff_lost, unacknowledged, bit_differs}
+use Rattle.can_node.specs.Episodes.Course.{took, spoiled, recessive_last_bit, late_overload, flagged, overload_flagged}
 use Rattle.can_node.specs.Episodes.Course.{passive_flagged, delimited, cut_short, overloaded, rested, rested_sender}
 use Rattle.can_node.specs.Episodes.Course.{pressed, hurried, waited, overtaken, recovered}
 use Rattle.can_node.specs.Episodes.Episode.{begun, joined, ends, off_within, off_at_end}
@@ -135,7 +135,7 @@ course_completed : {at : ℕ} {before : List ErrorEvent} {phase next : Phase} {p
     {events : List ErrorEvent} {outcome : Outcome} →
     Course at before phase pairs events outcome next → outcome ≡ Completed → IsSendOf phase
 course_completed (synced broken b) e = absurd (cc e)
-course_completed (woken n) e = absurd (cc e)
+course_completed (resumed n) e = absurd (cc e)
 course_completed (completed start given frame driven sampled send) e =
     record { start = start; given = given; frame = frame; is = refl }
 course_completed (lost start given frame driven seen bit place) e = absurd (cc e)
@@ -144,7 +144,7 @@ course_completed (unacknowledged start given frame driven seen bit) e = absurd (
 course_completed (bit_differs start given frame driven seen level bit no_loss no_stuff) e = absurd (cc e)
 course_completed (took start given may_begin levels pairs events frame reads front) e = absurd (cc e)
 course_completed (spoiled start given may_begin levels level pairs events kind reads fault) e = absurd (cc e)
-course_completed quiet_end e = absurd (cc e)
+course_completed recessive_last_bit e = absurd (cc e)
 course_completed late_overload e = absurd (cc e)
 course_completed (flagged role levels size) e = absurd (cc e)
 course_completed (overload_flagged role levels size) e = absurd (cc e)
@@ -206,7 +206,7 @@ course_took : {at s : ℕ} {f : FrameValue} {before : List ErrorEvent} {phase ne
     {events : List ErrorEvent} {outcome : Outcome} →
     Course at before phase pairs events outcome next → outcome ≡ Took s f → IsTakeOf phase s f
 course_took (synced broken b) e = absurd (cc e)
-course_took (woken n) e = absurd (cc e)
+course_took (resumed n) e = absurd (cc e)
 course_took (completed start given frame driven sampled send) e = absurd (cc e)
 course_took (lost start given frame driven seen bit place) e = absurd (cc e)
 course_took (stuff_lost start given frame driven seen bit place) e = absurd (cc e)
@@ -215,7 +215,7 @@ course_took (bit_differs start given frame driven seen level bit no_loss no_stuf
 course_took (took start given may_begin levels pairs events frame reads front) e =
     took_is start given may_begin frame 0 e
 course_took (spoiled start given may_begin levels level pairs events kind reads fault) e = absurd (cc e)
-course_took quiet_end e = absurd (cc e)
+course_took recessive_last_bit e = absurd (cc e)
 course_took late_overload e = absurd (cc e)
 course_took (flagged role levels size) e = absurd (cc e)
 course_took (overload_flagged role levels size) e = absurd (cc e)

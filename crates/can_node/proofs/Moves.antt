@@ -10,10 +10,11 @@ use Rattle.can_confinement.specs.declared.confinement.ErrorEvent.TheVariants.{Re
 use Rattle.can_node.specs.declared.flag.FlagKind.TheVariants.{Overload}
 use Rattle.can_node.specs.declared.outcome.Outcome.TheVariants.{Nothing, CameBack}
 use Rattle.can_node.specs.declared.state.State.{State}
-use Rattle.can_node.specs.declared.state.State.TheVariants.{Syncing, Idling, Taking, Closing, Flagging, Resting}
-use Rattle.can_node.specs.declared.state.State.TheVariants.{Suspending, Recovering}
+use Rattle.can_node.specs.declared.state.State.TheVariants.{Integrating, BusIdle, Receiving, LastEofBit, DominantFlag}
+use Rattle.can_node.specs.declared.state.State.TheVariants.{InIntermission}
+use Rattle.can_node.specs.declared.state.State.TheVariants.{SuspendTransmission, BusOffRecovery}
 use Rattle.can_node.specs.declared.state.Stage.TheVariants.{Region}
-use Rattle.can_node.specs.declared.state.Turn.{Turn}
+use Rattle.can_node.specs.declared.state.Transition.{Transition}
 use Rattle.can_confinement.specs.Confinement.{state_after}
 use Rattle.can_node.specs.Pairs.{listening, dominating, recessive}
 use Rattle.can_node.specs.Waits.{Recoveries}
@@ -21,16 +22,17 @@ use Rattle.can_node.specs.Waits.Broken.{none, again}
 use Rattle.can_node.specs.Waits.Recoveries.{one_more}
 use Rattle.can_node.specs.Phases.{suspends}
 use Rattle.can_node.specs.Phases.Phase.{Idle, Take, OverloadFlag, Intermission, Suspend}
-use Rattle.can_node.specs.Episodes.Course.{synced, woken, quiet_end, late_overload, rested, rested_sender, pressed}
+use Rattle.can_node.specs.Episodes.Course.{synced, resumed, recessive_last_bit, late_overload, rested, rested_sender}
+use Rattle.can_node.specs.Episodes.Course.{pressed}
 use Rattle.can_node.specs.Episodes.Course.{hurried, waited, overtaken, recovered}
 use Rattle.can_node.specs.Machine.{Agrees, Goes}
-use Rattle.can_node.specs.Machine.Agrees.{in_sync, in_idle, in_last, in_overload, in_rest, in_suspend, in_off}
+use Rattle.can_node.specs.Machine.Agrees.{in_sync, in_idle, in_last, in_overload, in_intermission, in_suspend, in_off}
 use Rattle.can_node.specs.Machine.Lands.{goes_on, is_over}
 use Rattle.can_node.proofs.Starts.{starts}
 
 -- a turn that ends nothing that is told
-abbrev pub turn : State → Option ErrorEvent → Turn
-turn state event = record { state = state; event = event; outcome = Nothing }
+abbrev pub transition : State → Option ErrorEvent → Transition
+transition state event = record { state = state; event = event; outcome = Nothing }
 
 pub listening_more : (w : List Bool) (b : Bool) → listening w
     ++ record { driven = true; sampled = b } ∷ [] ≡ listening (w ++ b ∷ [])
@@ -43,52 +45,55 @@ dominating_more w b = sym (map-append _ w (b ∷ []))
 length-listening : (w : List Bool) → length (listening w) ≡ length w
 length-listening w = length-map w _
 
-pub sync_broken : (n now : ℕ) (e : ErrorState) → Goes (Syncing n) now e false (turn (Syncing 0) None)
+pub sync_broken : (n now : ℕ) (e : ErrorState) → Goes (Integrating n) now e false (transition (Integrating 0) None)
 sync_broken n now e text at before phase part events clock err (in_sync broken b below) =
     goes_on
     (rw listening_more
     (rw append-nil at (in_sync {text = false ∷ []} {at = at} {n = 0} ((broken ++ recessive n) ++ false ∷ [])
     (again b n below) (omega arith)))) refl
 
-pub sync_longer : (n now : ℕ) (e : ErrorState) → n < 10 → Goes (Syncing n) now e true (turn (Syncing (n + 1)) None)
+pub sync_longer : (n now : ℕ) (e : ErrorState) → n < 10 → Goes (Integrating n) now e true (transition (Integrating (n +
+    1)) None)
 sync_longer n now e room text at before phase part events clock err (in_sync broken b below) =
     goes_on (rw (listening_more, append_assoc, replicate_more) (in_sync {n = n + 1} broken b (omega arith))) refl
 
-pub sync_ends : (n now : ℕ) (e : ErrorState) → 10 ≤ n → Goes (Syncing n) now e true (turn Idling None)
+pub sync_ends : (n now : ℕ) (e : ErrorState) → 10 ≤ n → Goes (Integrating n) now e true (transition BusIdle None)
 sync_ends n now e full text at before phase part events clock err (in_sync broken b below) =
     is_over Idle (let ten : n ≡ 10 = omega arith in rw (ten, listening_more, append_assoc) (synced broken b))
     (λ later. in_idle 0)
 
-pub idle_on : (now : ℕ) (e : ErrorState) → Goes Idling now e true (turn Idling None)
+pub idle_on : (now : ℕ) (e : ErrorState) → Goes BusIdle now e true (transition BusIdle None)
 idle_on now e text at before phase part events clock err (in_idle n) =
     goes_on (rw (listening_more, replicate_more) (in_idle (n + 1))) refl
 
-pub idle_wakes : (now : ℕ) (e : ErrorState) → Goes Idling now e false (turn (Taking now false Region) None)
-idle_wakes now e text at before phase part events clock err (in_idle n) =
+pub idle_resumes : (now : ℕ) (e : ErrorState) → Goes BusIdle now e false (transition (Receiving now false Region) None)
+idle_resumes now e text at before phase part events clock err (in_idle n) =
     let here : at + n ≡ now =
     sym (clock ∙ ap (λ k. at + k) (length-listening (recessive n) ∙ length-replicate n true)) in
-    is_over (Take (at + n) (false ∷ []) false) (rw listening_more (woken n)) (starts now (at + n) here false)
+    is_over (Take (at + n) (false ∷ []) false) (rw listening_more (resumed n)) (starts now (at + n) here false)
 
-pub closing_quiet : (now : ℕ) (e : ErrorState) → Goes Closing now e true (turn (Resting Receiver 0) None)
-closing_quiet now e text at before phase part events clock err in_last =
-    is_over (Intermission Receiver) quiet_end (λ later. in_rest {k = 0} (omega arith))
+pub last_bit_uneventful : (now : ℕ) (e : ErrorState) → Goes LastEofBit now e true (transition (InIntermission Receiver
+    0) None)
+last_bit_uneventful now e text at before phase part events clock err in_last =
+    is_over (Intermission Receiver) recessive_last_bit (λ later. in_intermission {k = 0} (omega arith))
 
-pub overload_begins : (role : Role) (later : ℕ) → Agrees (Flagging Overload role 0 14) (false ∷ []) later
+pub overload_begins : (role : Role) (later : ℕ) → Agrees (DominantFlag Overload role 0 14) (false ∷ []) later
     (OverloadFlag role) [] []
 overload_begins role later = in_overload [] refl (omega arith) refl (omega arith)
 
-pub closing_late : (now : ℕ) (e : ErrorState) → Goes Closing now e false (turn (Flagging Overload Receiver 0 14) None)
+pub closing_late : (now : ℕ) (e : ErrorState) → Goes LastEofBit now e false (transition (DominantFlag Overload Receiver
+    0 14) None)
 closing_late now e text at before phase part events clock err in_last =
     is_over (OverloadFlag Receiver) late_overload (overload_begins Receiver)
 
 pub rest_on : (role : Role) (k now : ℕ) (e : ErrorState) → k < 2 →
-    Goes (Resting role k) now e true (turn (Resting role (k + 1)) None)
-rest_on role k now e room text at before phase part events clock err (in_rest below) =
-    goes_on (rw (listening_more, replicate_more) (in_rest {k = k + 1} (omega arith))) refl
+    Goes (InIntermission role k) now e true (transition (InIntermission role (k + 1)) None)
+rest_on role k now e room text at before phase part events clock err (in_intermission below) =
+    goes_on (rw (listening_more, replicate_more) (in_intermission {k = k + 1} (omega arith))) refl
 
 pub rest_pressed : (role : Role) (k now : ℕ) (e : ErrorState) → k < 2 →
-    Goes (Resting role k) now e false (turn (Flagging Overload role 0 14) None)
-rest_pressed role k now e room text at before phase part events clock err (in_rest below) =
+    Goes (InIntermission role k) now e false (transition (DominantFlag Overload role 0 14) None)
+rest_pressed role k now e room text at before phase part events clock err (in_intermission below) =
     is_over (OverloadFlag role) (rw listening_more (pressed role k room)) (overload_begins role)
 
 -- the error state of an episode that has counted nothing is that before it
@@ -98,44 +103,46 @@ state_before : (role : Role) (e : ErrorState) (b : Bool) (state : List ErrorEven
 state_before role e b state before err h = ap (suspends role) (ap state (sym (append-nil before)) ∙ sym err) ∙ h
 
 pub rest_ends : (role : Role) (k now : ℕ) (e : ErrorState) → 2 ≤ k → suspends role e ≡ false →
-    Goes (Resting role k) now e true (turn Idling None)
-rest_ends role k now e full goes text at before phase part events clock err (in_rest below) =
+    Goes (InIntermission role k) now e true (transition BusIdle None)
+rest_ends role k now e full goes text at before phase part events clock err (in_intermission below) =
     let two : k ≡ 2 = omega arith in
     rw two (is_over Idle (rested role (state_before role e false state_after before err goes)) (λ later. in_idle 0))
 
-pub rest_waits : (role : Role) (k now : ℕ) (e : ErrorState) → 2 ≤ k → suspends role e ≡ true →
-    Goes (Resting role k) now e true (turn (Suspending 0) None)
-rest_waits role k now e full waits text at before phase part events clock err (in_rest below) =
+pub intermission_waits : (role : Role) (k now : ℕ) (e : ErrorState) → 2 ≤ k → suspends role e ≡ true →
+    Goes (InIntermission role k) now e true (transition (SuspendTransmission 0) None)
+intermission_waits role k now e full waits text at before phase part events clock err (in_intermission below) =
     let two : k ≡ 2 = omega arith in
     rw two (is_over Suspend (rested_sender role (state_before role e true state_after before err waits))
     (λ later. in_suspend {k = 0} (omega arith)))
 
 pub rest_hurried : (role : Role) (k now : ℕ) (e : ErrorState) → 2 ≤ k → (b : Bool) → suspends role e ≡ b →
-    Goes (Resting role k) now e false (turn (Taking now (not b) Region) None)
-rest_hurried role k now e full b is text at before phase part events clock err (in_rest below) =
+    Goes (InIntermission role k) now e false (transition (Receiving now (not b) Region) None)
+rest_hurried role k now e full b is text at before phase part events clock err (in_intermission below) =
     let two : k ≡ 2 = omega arith in
     let here : at + 2 ≡ now = omega (arith, clock, length-listening (recessive k), length-replicate k true) in
     let said = state_before role e b state_after before err is in
     rw two (is_over (Take (at + 2) (false ∷ []) (not b)) (rw said at (hurried {at = at} {before = before} role))
     (starts now (at + 2) here (not b)))
 
-pub suspend_on : (k now : ℕ) (e : ErrorState) → k < 7 → Goes (Suspending k) now e true (turn (Suspending (k + 1)) None)
+pub suspend_on : (k now : ℕ) (e : ErrorState) → k < 7 → Goes (SuspendTransmission k) now e true (transition
+    (SuspendTransmission (k + 1)) None)
 suspend_on k now e room text at before phase part events clock err (in_suspend below) =
     goes_on (rw (listening_more, replicate_more) (in_suspend {k = k + 1} (omega arith))) refl
 
-pub suspend_ends : (k now : ℕ) (e : ErrorState) → 7 ≤ k → Goes (Suspending k) now e true (turn Idling None)
+pub suspend_ends : (k now : ℕ) (e : ErrorState) → 7 ≤ k → Goes (SuspendTransmission k) now e true (transition BusIdle
+    None)
 suspend_ends k now e full text at before phase part events clock err (in_suspend below) =
     let seven : k ≡ 7 = omega arith in rw seven (is_over Idle waited (λ later. in_idle 0))
 
 pub suspend_overtaken : (k now : ℕ) (e : ErrorState) →
-    Goes (Suspending k) now e false (turn (Taking now false Region) None)
+    Goes (SuspendTransmission k) now e false (transition (Receiving now false Region) None)
 suspend_overtaken k now e text at before phase part events clock err (in_suspend below) =
     let here : at + k ≡ now =
     sym (clock ∙ ap (λ n. at + n) (length-listening (recessive k) ∙ length-replicate k true)) in
     is_over (Take (at + k) (false ∷ []) false) (rw listening_more (overtaken k below)) (starts now (at + k) here false)
 
 pub off_broken : (runs n now : ℕ) (e : ErrorState) →
-    Goes (Recovering runs n) now e false (turn (Recovering runs 0) None)
+    Goes (BusOffRecovery runs n) now e false (transition (BusOffRecovery runs 0) None)
 off_broken runs n now e text at before phase part events clock err (in_off rest broken below counted b short) =
     let is : ((rest ++ broken ++ recessive n) ++ false ∷ [])
     ≡ (rest ++ (broken ++ recessive n ++ false ∷ []) ++ recessive 0) =
@@ -145,7 +152,7 @@ off_broken runs n now e text at before phase part events clock err (in_off rest 
     (again b n short) (omega arith))) refl
 
 pub off_longer : (runs n now : ℕ) (e : ErrorState) → n < 10 →
-    Goes (Recovering runs n) now e true (turn (Recovering runs (n + 1)) None)
+    Goes (BusOffRecovery runs n) now e true (transition (BusOffRecovery runs (n + 1)) None)
 off_longer runs n now e room text at before phase part events clock err (in_off rest broken below counted b short) =
     goes_on (rw (listening_more, append_assoc, replicate_more)
     (in_off {n = n + 1} rest broken below counted b (omega arith))) refl
@@ -157,7 +164,7 @@ run_ends rest broken n full short = let ten : n ≡ 10 = omega arith in
     rw ten (append_assoc (rest ++ broken) (recessive 10) (true ∷ []))
 
 pub off_counts : (runs n now : ℕ) (e : ErrorState) → 10 ≤ n → runs < 127 →
-    Goes (Recovering runs n) now e true (turn (Recovering (runs + 1) 0) None)
+    Goes (BusOffRecovery runs n) now e true (transition (BusOffRecovery (runs + 1) 0) None)
 off_counts runs n now e full room text at before phase part events clock err
     (in_off rest broken below counted b short) =
     let is : ((rest ++ broken ++ recessive n) ++ true ∷ []) ≡ ((rest ++ broken ++ recessive 11) ++ [] ++ recessive 0) =
@@ -167,7 +174,7 @@ off_counts runs n now e full room text at before phase part events clock err
     (rw (← add-one) at (one_more counted b)) none (omega arith))) refl
 
 pub off_ends : (runs n now : ℕ) (e : ErrorState) → 10 ≤ n → 127 ≤ runs →
-    Goes (Recovering runs n) now e true (record { state = Idling; event = Some Recovered; outcome = CameBack })
+    Goes (BusOffRecovery runs n) now e true (record { state = BusIdle; event = Some Recovered; outcome = CameBack })
 off_ends runs n now e full last text at before phase part events clock err (in_off rest broken below counted b short) =
     let all : suc runs ≡ 128 = omega arith in
     let whole : Recoveries 128 (rest ++ broken ++ recessive 11) = rw all at (one_more counted b) in

@@ -8,9 +8,9 @@ use Rattle.can_node.specs.Flags.{flag_bits, owed_events}
 use Rattle.can_node.specs.Phases.{Phase}
 use Rattle.can_node.specs.Episodes.{Begun, Course}
 use Rattle.can_node.specs.Episodes.Begun.{syncing, idling, sending, taking, last_bit, active_flag, overload_flag}
-use Rattle.can_node.specs.Episodes.Begun.{passive_flag, delimiting, resting, suspended, recovering}
-use Rattle.can_node.specs.Episodes.Course.{synced, woken, completed, lost, stuff_lost, unacknowledged, bit_differs}
-use Rattle.can_node.specs.Episodes.Course.{took, spoiled, quiet_end, late_overload, flagged, overload_flagged}
+use Rattle.can_node.specs.Episodes.Begun.{passive_flag, delimiting, in_pause, suspended, recovering}
+use Rattle.can_node.specs.Episodes.Course.{synced, resumed, completed, lost, stuff_lost, unacknowledged, bit_differs}
+use Rattle.can_node.specs.Episodes.Course.{took, spoiled, recessive_last_bit, late_overload, flagged, overload_flagged}
 use Rattle.can_node.specs.Episodes.Course.{passive_flagged, delimited, cut_short, overloaded, rested, rested_sender}
 use Rattle.can_node.specs.Episodes.Course.{pressed, hurried, waited, overtaken, recovered}
 use Rattle.can_node.specs.Copies.{sampled_in}
@@ -49,7 +49,7 @@ grows r fit (delimiting kind role run n k few) (delimiting c q s m j below) e =
     ∙ append_assoc (dominant n) (recessive k) more in
     let up = no_more_dominant n m j (recessive k ++ more) levels in
     dominant_more kind role run n (m - n) m (omega (arith, up))
-grows r fit (resting role k few) (resting q j below) e = no_more []
+grows r fit (in_pause role k few) (in_pause q j below) e = no_more []
 grows r fit (suspended k few) (suspended j below) e = no_more []
 grows r fit (recovering runs text broken n few counted b short)
     (recovering others rest more m below all c shorter) e = no_more []
@@ -78,7 +78,7 @@ pub course_over : {at : ℕ} {before : List ErrorEvent} {phase next : Phase} {pa
 course_over r (synced broken b) (syncing others n c few) e =
     not_synced others broken (sampled_in r) n c few b
     (listening_front (broken ++ recessive 11) (others ++ recessive n) r e)
-course_over r (woken n) (idling m) e =
+course_over r (resumed n) (idling m) e =
     no_dominant n m (sampled_in r) (listening_front (recessive n ++ false ∷ []) (recessive m) r e
     ∙ append_assoc (recessive n) (false ∷ []) (sampled_in r))
 course_over r (completed start given frame driven sampled send) (sending s g f others samples drives expects bit) e =
@@ -108,7 +108,7 @@ course_over r (spoiled start given may_begin levels level pairs events kind read
     ∙ ap (λ t. t ++ sampled_in r) (sym (append_assoc given levels (level ∷ []))) in
     on.undecided.no_fault ((given ++ levels) ++ level ∷ []) (sampled_in r) whole
     (faulty kind (given ++ levels) level fault.fault_is)
-course_over r quiet_end last_bit e = absurd (cc e)
+course_over r recessive_last_bit last_bit e = absurd (cc e)
 course_over r late_overload last_bit e = absurd (cc e)
 course_over r (flagged role levels size) (active_flag q others few) e =
     omega (arith, size, few, ap length (dominating_front levels others r e), length-append levels (sampled_in r))
@@ -122,10 +122,10 @@ course_over {before = before} r (cut_short kind role run n j some below) (delimi
     delimiter_over {before = before} m k r (delimiter_end {at = 0} (cut_short kind role run n j some below)) few e
 course_over {before = before} r (overloaded kind role run n) (delimiting c q s m k few) e =
     delimiter_over {before = before} m k r (delimiter_end {at = 0} (overloaded kind role run n)) few e
-course_over r (rested role goes) (resting q k few) e = too_long 3 k r few e
-course_over r (rested_sender role waits) (resting q k few) e = too_long 3 k r few e
-course_over r (pressed role n below) (resting q k few) e = dominant_end n k r e
-course_over r (hurried role) (resting q k few) e = dominant_end 2 k r e
+course_over r (rested role goes) (in_pause q k few) e = too_long 3 k r few e
+course_over r (rested_sender role waits) (in_pause q k few) e = too_long 3 k r few e
+course_over r (pressed role n below) (in_pause q k few) e = dominant_end n k r e
+course_over r (hurried role) (in_pause q k few) e = dominant_end 2 k r e
 course_over r waited (suspended k few) e = too_long 8 k r few e
 course_over r (overtaken n below) (suspended k few) e = dominant_end n k r e
 course_over r (recovered whole all) (recovering runs text broken n few counted b short) e =

@@ -24,9 +24,9 @@ use Rattle.can_node.specs.Phases.Phase.{Sync, Idle, Send, Take, LastBit, ActiveF
 use Rattle.can_node.specs.Phases.Phase.{Delimiter, Intermission, Suspend, BusOff}
 use Rattle.can_node.specs.Episodes.{Begun, Course, AreOn, ack_events}
 use Rattle.can_node.specs.Episodes.Begun.{syncing, idling, sending, taking, last_bit, active_flag, overload_flag}
-use Rattle.can_node.specs.Episodes.Begun.{passive_flag, delimiting, resting, suspended, recovering}
-use Rattle.can_node.specs.Episodes.Course.{synced, woken, completed, lost, stuff_lost, unacknowledged, bit_differs}
-use Rattle.can_node.specs.Episodes.Course.{took, spoiled, quiet_end, late_overload, flagged, overload_flagged}
+use Rattle.can_node.specs.Episodes.Begun.{passive_flag, delimiting, in_pause, suspended, recovering}
+use Rattle.can_node.specs.Episodes.Course.{synced, resumed, completed, lost, stuff_lost, unacknowledged, bit_differs}
+use Rattle.can_node.specs.Episodes.Course.{took, spoiled, recessive_last_bit, late_overload, flagged, overload_flagged}
 use Rattle.can_node.specs.Episodes.Course.{passive_flagged, delimited, cut_short, overloaded, rested, rested_sender}
 use Rattle.can_node.specs.Episodes.Course.{pressed, hurried, waited, overtaken, recovered}
 use Rattle.can_node.specs.Histories.{IsOnOutside}
@@ -109,7 +109,7 @@ pub course_last : {at : ℕ} {before : List ErrorEvent} {phase next : Phase} {pa
 course_last fit (synced broken b) =
     subst (λ t. BeforeLast Sync (listening t) []) (append_assoc broken (recessive 10) (true ∷ []))
     (heard_last (broken ++ recessive 10) true (syncing broken 10 b (omega arith)) (no_more []))
-course_last fit (woken n) = heard_last (recessive n) false (idling n) (no_more [])
+course_last fit (resumed n) = heard_last (recessive n) false (idling n) (no_more [])
 course_last fit (completed start given frame driven sampled send) =
     let l = last_of_send frame given driven sampled fit send in
     behind (driving l.before l.seen) (record { driven = l.drives; sampled = l.expects }) [] l.is
@@ -138,7 +138,7 @@ course_last fit (spoiled start given may_begin levels level pairs events kind re
     behind r.before r.last r.counted r.is
     (taking start given may_begin levels r.before r.counted fault.read_on r.reads)
     (more_and_more r.more (one_event events ReceiverError (λ e. cc e)))
-course_last fit quiet_end = behind [] (record { driven = true; sampled = true }) [] refl last_bit (no_more [])
+course_last fit recessive_last_bit = behind [] (record { driven = true; sampled = true }) [] refl last_bit (no_more [])
 course_last fit late_overload = behind [] (record { driven = true; sampled = false }) [] refl last_bit (no_more [])
 course_last fit (flagged role levels size) =
     flag_last (ActiveFlag role) role levels size (λ before few. active_flag role before few)
@@ -155,11 +155,11 @@ course_last fit (cut_short kind role run n k some below) =
     (one_event _ _ (error_other role))
 course_last fit (overloaded kind role run n) =
     heard_last (dominant n ++ recessive 7) false (delimiting kind role run n 7 (omega arith)) (no_more _)
-course_last fit (rested role goes) = heard_last (recessive 2) true (resting role 2 (omega arith)) (no_more [])
-course_last fit (rested_sender role waits) = heard_last (recessive 2) true (resting role 2 (omega arith)) (no_more [])
+course_last fit (rested role goes) = heard_last (recessive 2) true (in_pause role 2 (omega arith)) (no_more [])
+course_last fit (rested_sender role waits) = heard_last (recessive 2) true (in_pause role 2 (omega arith)) (no_more [])
 course_last fit (pressed role k below) =
-    heard_last (recessive k) false (resting role k (omega (arith, below))) (no_more [])
-course_last fit (hurried role) = heard_last (recessive 2) false (resting role 2 (omega arith)) (no_more [])
+    heard_last (recessive k) false (in_pause role k (omega (arith, below))) (no_more [])
+course_last fit (hurried role) = heard_last (recessive 2) false (in_pause role 2 (omega arith)) (no_more [])
 course_last fit waited = heard_last (recessive 7) true (suspended 7 (omega arith)) (no_more [])
 course_last fit (overtaken k below) = heard_last (recessive k) false (suspended k below) (no_more [])
 course_last fit (recovered text whole) = recovered_last 128 text whole refl
@@ -174,7 +174,7 @@ idle_same : {at : ℕ} {before : List ErrorEvent}
     {pairs more : List Pair} {events counted : List ErrorEvent} {outcome told : Outcome} {next other : Phase} →
     Course at before Idle pairs events outcome next → Course at before Idle more counted told other → more ≡ pairs →
     SameEnd events counted outcome told next other
-idle_same {at = at} (woken n) (woken m) e =
+idle_same {at = at} (resumed n) (resumed m) e =
     let same : m ≡ n =
     run_is true false m n [] [] (λ h. cc h)
     (listening_same (recessive m ++ false ∷ []) (recessive n ++ false ∷ []) e) in
@@ -221,12 +221,12 @@ last_bit_same : {at : ℕ} {before : List ErrorEvent}
     Course at before LastBit pairs events outcome next →
     Course at before LastBit more counted told other → more ≡ pairs →
     SameEnd events counted outcome told next other
-last_bit_same quiet_end quiet_end e = same_end
-last_bit_same quiet_end late_overload e = absurd (not_equal (listening_same (false ∷ []) (true ∷ []) e))
+last_bit_same recessive_last_bit recessive_last_bit e = same_end
+last_bit_same recessive_last_bit late_overload e = absurd (not_equal (listening_same (false ∷ []) (true ∷ []) e))
   where
     not_equal : false ∷ [] ≡ true ∷ [] → ⊥
     not_equal h = cc h
-last_bit_same late_overload quiet_end e = absurd (not_equal (listening_same (true ∷ []) (false ∷ []) e))
+last_bit_same late_overload recessive_last_bit e = absurd (not_equal (listening_same (true ∷ []) (false ∷ []) e))
   where
     not_equal : true ∷ [] ≡ false ∷ [] → ⊥
     not_equal h = cc h

@@ -22,8 +22,8 @@ use Rattle.can_node.specs.Flags.{flag_bit, flag_bits, behind_flag, dominant_even
 use Rattle.can_node.specs.Phases.{Phase, flag_of}
 use Rattle.can_node.specs.Phases.Phase.{Send, Take, PassiveFlag}
 use Rattle.can_node.specs.Episodes.{Course, Episode, AreOn, AreOff, error_of}
-use Rattle.can_node.specs.Episodes.Course.{synced, woken, completed, lost, stuff_lost, unacknowledged, bit_differs}
-use Rattle.can_node.specs.Episodes.Course.{took, spoiled, quiet_end, late_overload, flagged, overload_flagged}
+use Rattle.can_node.specs.Episodes.Course.{synced, resumed, completed, lost, stuff_lost, unacknowledged, bit_differs}
+use Rattle.can_node.specs.Episodes.Course.{took, spoiled, recessive_last_bit, late_overload, flagged, overload_flagged}
 use Rattle.can_node.specs.Episodes.Course.{passive_flagged, delimited, cut_short, overloaded, rested, rested_sender}
 use Rattle.can_node.specs.Episodes.Course.{pressed, hurried, waited, overtaken, recovered}
 use Rattle.can_node.specs.Episodes.Episode.{begun, joined, ends, off_within, off_at_end}
@@ -162,7 +162,7 @@ course_fits : {at : ℕ} {before : List ErrorEvent} {phase next : Phase} {pairs 
     {outcome : Outcome} →
     Course at before phase pairs events outcome next → Fit next
 course_fits (synced broken b) = tt
-course_fits (woken n) = ([], refl)
+course_fits (resumed n) = ([], refl)
 course_fits (completed start given frame driven sampled send) = tt
 course_fits (lost start given frame driven seen bit place) = (given ++ seen, refl)
 course_fits (stuff_lost start given frame driven seen bit place) = flag_fits _ _ _ none_stay
@@ -171,7 +171,7 @@ course_fits (unacknowledged start given frame driven seen bit) =
 course_fits (bit_differs start given frame driven seen level bit no_loss no_stuff) = flag_fits _ _ _ none_stay
 course_fits (took start given may_begin levels pairs events frame reads front) = tt
 course_fits (spoiled start given may_begin levels level pairs events kind reads fault) = flag_fits _ _ _ none_stay
-course_fits quiet_end = tt
+course_fits recessive_last_bit = tt
 course_fits late_overload = tt
 course_fits (flagged role levels size) = tt
 course_fits (overload_flagged role levels size) = tt

@@ -10,14 +10,14 @@ use Rattle.can_confinement.specs.declared.confinement.ErrorEvent.{ErrorEvent}
 use Rattle.can_confinement.specs.declared.confinement.ErrorEvent.TheVariants.{SenderError}
 use Rattle.can_confinement.specs.declared.confinement.ErrorState.{ErrorState}
 use Rattle.can_node.specs.declared.flag.FlagKind.TheVariants.{PassiveError}
-use Rattle.can_node.specs.declared.state.State.TheVariants.{PassiveFlagging, Waiting}
+use Rattle.can_node.specs.declared.state.State.TheVariants.{PassiveErrorFlag, AwaitingDelimiter}
 use Rattle.can_node.specs.Flags.{dominant_end, dominant_events, owed_events, EndsInSix, IsWithoutSix}
 use Rattle.can_node.specs.Phases.Phase.{Delimiter}
 use Rattle.can_node.specs.Episodes.Course.{passive_flagged}
 use Rattle.can_node.specs.Machine.{Agrees, Goes, IsPassive}
 use Rattle.can_node.specs.Machine.Agrees.{in_passive, in_wait}
 use Rattle.can_node.specs.Machine.Lands.{goes_on, is_over}
-use Rattle.can_node.proofs.Moves.{turn, listening_more}
+use Rattle.can_node.proofs.Moves.{transition, listening_more}
 
 ones_more : (w : List Bool) → suffix_len (λ level. level) (w ++ true ∷ []) ≡ suffix_len (λ level. level) w + 1
 ones_more w = rw (reverse-append w (true ∷ [])) (omega arith)
@@ -116,7 +116,7 @@ still_nothing owed levels b h more =
     ap (owed_events owed) (append_assoc levels (b ∷ []) more) ∙ h (b ∷ more) ∙ sym (h (b ∷ []))
 
 pub passive_recessive : (role : Role) (owes : Bool) (ones lows now : ℕ) (e : ErrorState) → ones < 5 →
-    Goes (PassiveFlagging role owes ones lows) now e true (turn (PassiveFlagging role owes (ones + 1) 0) None)
+    Goes (PassiveErrorFlag role owes ones lows) now e true (transition (PassiveErrorFlag role owes (ones + 1) 0) None)
 passive_recessive role owes ones lows now e room text at before phase part events clock err (in_passive owed levels h) =
     goes_on (rw (listening_more, append-nil, ← recessive_owes owed levels)
     (in_passive owed (levels ++ true ∷ []) (record {
@@ -134,8 +134,8 @@ passive_recessive role owes ones lows now e room text at before phase part event
     }))) refl
 
 pub passive_paid : (role : Role) (ones lows now : ℕ) (e : ErrorState) → lows < 5 →
-    Goes (PassiveFlagging role true ones lows) now e false
-    (turn (PassiveFlagging role false 0 (lows + 1)) (Some SenderError))
+    Goes (PassiveErrorFlag role true ones lows) now e false
+    (transition (PassiveErrorFlag role false 0 (lows + 1)) (Some SenderError))
 passive_paid role ones lows now e room text at before phase part events clock err (in_passive owed levels h) =
     let owing : (owed ≡ SenderError ∷ []) × (list_any not levels ≡ false) = h.owes_error refl in
     let counts : owed_events owed levels ++ SenderError ∷ [] ≡ owed_events owed (levels ++ false ∷ []) =
@@ -152,7 +152,8 @@ passive_paid role ones lows now e room text at before phase part events clock er
     }))) refl
 
 pub passive_dominant : (role : Role) (ones lows now : ℕ) (e : ErrorState) → lows < 5 →
-    Goes (PassiveFlagging role false ones lows) now e false (turn (PassiveFlagging role false 0 (lows + 1)) None)
+    Goes (PassiveErrorFlag role false ones lows) now e false (transition (PassiveErrorFlag role false 0 (lows + 1))
+    None)
 passive_dominant role ones lows now e room text at before phase part events clock err (in_passive owed levels h) =
     goes_on (rw (listening_more, append-nil, ← h.owes_nothing refl (false ∷ []))
     (in_passive {owes = false} owed (levels ++ false ∷ []) (record {
@@ -166,14 +167,15 @@ passive_dominant role ones lows now e room text at before phase part events cloc
     }))) refl
 
 -- behind a passive error flag
-passive_waits : (role : Role) (later : ℕ) → Agrees (Waiting PassiveError role 8 true) (false ∷ []) later
+passive_waits : (role : Role) (later : ℕ) → Agrees (AwaitingDelimiter PassiveError role 8 true) (false ∷ []) later
     (Delimiter PassiveError role 0) [] []
 unfolding dominant_events
 passive_waits role later = in_wait 0 0 refl (λ none. omega arith)
     (record { eighths = 0; due = refl; some = omega arith; near = λ no. omega arith })
 
 pub passive_ends_recessive : (role : Role) (owes : Bool) (ones lows now : ℕ) (e : ErrorState) → 5 ≤ ones →
-    Goes (PassiveFlagging role owes ones lows) now e true (turn (Waiting PassiveError role 8 true) None)
+    Goes (PassiveErrorFlag role owes ones lows) now e true (transition (AwaitingDelimiter PassiveError role 8 true)
+    None)
 passive_ends_recessive role owes ones lows now e full text at before phase part events clock err
     (in_passive owed levels h) =
     let six : EndsInSix (levels ++ true ∷ []) = suffix_run (λ level. level) true is_true (levels ++ true ∷ [])
@@ -189,7 +191,8 @@ owes_no_more true ones lows owed levels h full = absurd (omega (arith, h.none_ye
 owes_no_more false ones lows owed levels h full = h.owes_nothing refl (false ∷ [])
 
 pub passive_ends_dominant : (role : Role) (owes : Bool) (ones lows now : ℕ) (e : ErrorState) → 5 ≤ lows →
-    Goes (PassiveFlagging role owes ones lows) now e false (turn (Waiting PassiveError role 8 true) None)
+    Goes (PassiveErrorFlag role owes ones lows) now e false (transition (AwaitingDelimiter PassiveError role 8 true)
+    None)
 passive_ends_dominant role owes ones lows now e full text at before phase part events clock err
     (in_passive owed levels h) =
     let six : EndsInSix (levels ++ false ∷ []) =

@@ -110,8 +110,9 @@ not_true true h = absurd (h refl)
 not_true false h = refl
 
 -- what cannot be behind the ACK slot of a right CRC leaves the node recessive
-pub quiet : (stage : Stage) (text : List Bool) → IsAt stage text → (IsBeforeSlot text → ⊥) → is_own_slot stage ≡ false
-quiet stage text h never = not_true (is_own_slot stage) (λ is. never (own_slot stage text h is))
+pub uneventful : (stage : Stage) (text : List Bool) → IsAt stage text → (IsBeforeSlot text → ⊥) → is_own_slot stage ≡
+    false
+uneventful stage text h never = not_true (is_own_slot stage) (λ is. never (own_slot stage text h is))
 
 -- behind the level in an ACK slot no region goes on
 pub part_no_slot : (text : List Bool) (level : Bool) → BeginsRegion (text ++ level ∷ []) → IsBeforeSlot text → ⊥

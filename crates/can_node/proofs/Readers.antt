@@ -21,7 +21,7 @@ use Rattle.can_node.specs.Phases.Phase.{Take}
 use Rattle.can_node.specs.Takes.{IsReadOn}
 use Rattle.can_node.specs.Machine.{Agrees, Lands, is_taking}
 use Rattle.can_node.specs.Machine.Agrees.{in_sync, in_idle, in_take, in_send, in_last, in_active, in_overload}
-use Rattle.can_node.specs.Machine.Agrees.{in_passive, in_wait, in_delimiter, in_rest, in_suspend, in_off}
+use Rattle.can_node.specs.Machine.Agrees.{in_passive, in_wait, in_delimiter, in_intermission, in_suspend, in_off}
 use Rattle.can_node.specs.Machine.Lands.{goes_on, is_over}
 
 no_end : (s : Step) (text : List Bool) → HasEnded s text → IsUndecided text → ⊥
@@ -54,7 +54,7 @@ agrees_read_on (in_overload levels size below runs few) takes = absurd (cc takes
 agrees_read_on (in_passive owed levels h) takes = absurd (cc takes)
 agrees_read_on (in_wait run n is far due) takes = absurd (cc takes)
 agrees_read_on (in_delimiter kind run n some below) takes = absurd (cc takes)
-agrees_read_on (in_rest below) takes = absurd (cc takes)
+agrees_read_on (in_intermission below) takes = absurd (cc takes)
 agrees_read_on (in_suspend below) takes = absurd (cc takes)
 agrees_read_on (in_off rest broken below counted b short) takes = absurd (cc takes)
 
@@ -83,7 +83,7 @@ take_phase (in_overload levels size below runs few) = refl
 take_phase (in_passive owed levels h) = refl
 take_phase (in_wait run n is far due) = refl
 take_phase (in_delimiter kind run n some below) = refl
-take_phase (in_rest below) = refl
+take_phase (in_intermission below) = refl
 take_phase (in_suspend below) = refl
 take_phase (in_off rest broken below counted b short) = refl
 

@@ -7,7 +7,7 @@ use Rattle.can_frame.specs.declared.reader.Reader.{Reader}
 use Rattle.can_frame.proofs.ReadingOn.{reads_all}
 use Rattle.can_node.specs.declared.node.Node.{Node}
 use Rattle.can_node.specs.declared.state.State.{State}
-use Rattle.can_node.specs.declared.state.State.TheVariants.{Sending, Taking}
+use Rattle.can_node.specs.declared.state.State.TheVariants.{Transmitting, Receiving}
 use Rattle.can_node.specs.declared.state.Stage.TheVariants.{Region}
 use Rattle.can_node.specs.Machine.{is_in_region, level_in}
 use Rattle.can_node.specs.PlainBits.{GoesOnBy, MayGoOnBy, stays_out}
@@ -18,10 +18,10 @@ use Rattle.can_node.proofs.PlainBits.{goes_reading}
 record Reads (state : State) : Type 0 where
   pub drives : (node : Node) → level_in state node.spelling ≡ true
   pub waits_none : (level : Bool) → stays_out level state ≡ false
-  pub sends_none : (start place : ℕ) → state ≡ Sending start place → ⊥
+  pub sends_none : (start place : ℕ) → state ≡ Transmitting start place → ⊥
 
 reads : (state : State) → is_in_region state ≡ true → Reads state
-reads (Taking start false Region) inside = record {
+reads (Receiving start false Region) inside = record {
   drives = λ node. refl;
   waits_none = λ level. refl;
   sends_none = λ start place is. absurd (cc is);

@@ -17,8 +17,8 @@ use Rattle.can_node.specs.declared.outcome.Outcome.{Outcome}
 use Rattle.can_node.specs.declared.outcome.Outcome.TheVariants.{Nothing, WentOff}
 use Rattle.can_node.specs.declared.state.State.{State}
 use Rattle.can_frame.specs.declared.spelling.Spelling.{Spelling}
-use Rattle.can_node.specs.declared.state.State.TheVariants.{Syncing, Recovering}
-use Rattle.can_node.specs.declared.state.Turn.{Turn}
+use Rattle.can_node.specs.declared.state.State.TheVariants.{Integrating, BusOffRecovery}
+use Rattle.can_node.specs.declared.state.Transition.{Transition}
 use Rattle.can_node.specs.declared.node.Node.{Node}
 use Rattle.can_confinement.specs.Confinement.{no_counts, is_off, after_event, counts_after, state_of, state_after}
 use Rattle.can_confinement.specs.declared.counters.Counters.{Counters}
@@ -33,15 +33,15 @@ use Rattle.can_node.specs.Episodes.Course.{recovered}
 use Rattle.can_node.specs.Episodes.Episode.{ends}
 use Rattle.can_node.specs.Histories.{Past, no_past, IsHistory, IsOnOutside}
 use Rattle.can_node.specs.Histories.Whole.{switched_on}
-use Rattle.can_node.specs.Machine.{Agrees, Lands, Advances, LeadsTo, Counts, InState, ReaderStands, listed, quiet}
+use Rattle.can_node.specs.Machine.{Agrees, Lands, Advances, LeadsTo, Counts, InState, ReaderStands, listed, uneventful}
 use Rattle.can_node.specs.Machine.{EndsIn, Steps, level_in, may_start, sof_of, with_bit}
 use Rattle.can_node.specs.Machine.Agrees.{in_sync, in_idle, in_take, in_send, in_last, in_active, in_overload}
-use Rattle.can_node.specs.Machine.Agrees.{in_passive, in_wait, in_delimiter, in_rest, in_suspend, in_off}
+use Rattle.can_node.specs.Machine.Agrees.{in_passive, in_wait, in_delimiter, in_intermission, in_suspend, in_off}
 use Rattle.can_node.specs.Machine.Lands.{goes_on, is_over}
 use Rattle.can_node.specs.Machine.LeadsTo.{no_event, stays_on, goes_off}
 use Rattle.can_node.specs.Node.{StandsAfter, IsSample, IsWanting, IsSending}
 use Rattle.can_node.proofs.Starts.{sof_inside}
-use Rattle.can_node.proofs.Bits.{agrees_begun, in_state_history, course_quiet, stands_on, stands_over, outside}
+use Rattle.can_node.proofs.Bits.{agrees_begun, in_state_history, course_uneventful, stands_on, stands_over, outside}
 use Rattle.can_node.proofs.Bits.{lands_on, lands_off}
 
 -- either the counts are not those of bus off, or the node is in bus off
@@ -70,23 +70,23 @@ agrees_off : {state : State} {text : List Bool} {at : ℕ} {pairs : List Pair} {
 agrees_off (in_off rest broken below counted b short) = refl
 
 -- a bit that counts nothing
-quiet_bit : (old new : State) (spelling : Spelling) (text after : List Bool) (past : Past) (pair : Pair)
+uneventful_bit : (old new : State) (spelling : Spelling) (text after : List Bool) (past : Past) (pair : Pair)
     (outcome : Outcome) (st : InState old spelling text past) →
     Lands new outcome after (st.done.first + length st.done.pairs) st.done.events st.phase (st.part ++ pair ∷ [])
     (st.counting ++ []) →
     InState new spelling after (with_bit past pair None outcome)
-quiet_bit old new spelling text after past pair outcome st (goes_on agrees nothing) =
+uneventful_bit old new spelling text after past pair outcome st (goes_on agrees nothing) =
     let same : st.done.events ++ st.counting ≡ st.done.events ++ (st.counting ++ []) =
     ap (λ es. st.done.events ++ es) (sym (append-nil st.counting)) in
     subst (λ o. InState new spelling after (with_bit past pair None o)) (sym nothing)
     (stands_on old new spelling text after past pair None st agrees (subst (IsOnOutside st.phase) same st.on))
-quiet_bit old new spelling text after past pair outcome st (is_over next course agrees) =
+uneventful_bit old new spelling text after past pair outcome st (is_over next course agrees) =
     elim (on_or_off st.phase (st.done.events ++ st.counting) st.on) [
       | inl on ↦
           let same : st.done.events ++ st.counting ≡ st.done.events ++ (st.counting ++ []) =
           ap (λ es. st.done.events ++ es) (sym (append-nil st.counting)) in
           let still : AreOn (st.done.events ++ (st.counting ++ [])) = subst AreOn same on in
-          stands_over old new spelling text after past pair None outcome next st (course_quiet course)
+          stands_over old new spelling text after past pair None outcome next st (course_uneventful course)
           (ends course still) agrees (outside next _ still)
       | inr off ↦
           let at = st.done.first + length st.done.pairs in
@@ -111,7 +111,7 @@ bit_on : (old new : State) (spelling : Spelling) (text after : List Bool) (past 
     (st.counting ++ listed event) →
     LeadsTo past.events event false → InState new spelling after (with_bit past pair event outcome)
 bit_on old new spelling text after past pair event outcome st lands no_event =
-    quiet_bit old new spelling text after past pair outcome st lands
+    uneventful_bit old new spelling text after past pair outcome st lands
 bit_on old new spelling text after past pair event outcome st lands (stays_on counted on) =
     lands_on old new spelling text after past pair (Some counted) outcome st lands
     (subst AreOn (so_far old spelling text past st counted ∙ append_assoc st.done.events st.counting (counted ∷ [])) on)
@@ -148,7 +148,7 @@ bit_off : (old new : State) (spelling : Spelling) (text after : List Bool) (past
     (event : Option ErrorEvent) (outcome : Outcome) (st : InState old spelling text past) →
     Lands new outcome after (st.done.first + length st.done.pairs) st.done.events st.phase (st.part ++ pair ∷ [])
     (st.counting ++ listed event) →
-    LeadsTo past.events event true → InState (Recovering 0 0) spelling after (with_bit past pair event WentOff)
+    LeadsTo past.events event true → InState (BusOffRecovery 0 0) spelling after (with_bit past pair event WentOff)
 bit_off old new spelling text after past pair event outcome st lands (goes_off counted off) =
     let counts : AreOff ((st.done.events ++ st.counting) ++ counted ∷ []) =
     subst AreOff (so_far old spelling text past st counted) off in
@@ -175,14 +175,14 @@ errors_here : (node : Node) (past : Past) (errors : ErrorState) (h : StandsAfter
     errors ≡ state_after (h.in_state.done.events ++ h.in_state.counting)
 errors_here node past errors h shows = shows past.events h.counted ∙ ap (λ p. state_after p.events) h.in_state.past_is
 
-pub samples_on : (old new : Node) (level : Bool) (turn : Turn) (errors : ErrorState) →
+pub samples_on : (old new : Node) (level : Bool) (transition : Transition) (errors : ErrorState) →
     ((events : List ErrorEvent) → CountersStandAfter old.counters events → errors ≡ state_after events) →
-    Advances old.state old.reader old.spelling old.clock errors level turn new.reader →
-    ((events : List ErrorEvent) → Counts old.counters new.counters turn.event false events) →
-    new.state ≡ turn.state → new.spelling ≡ old.spelling → new.clock ≡ old.clock + 1 →
-    IsSample old level turn.outcome new
-samples_on old new level turn errors shows advances counts state_is same clock_is = record {
-  event = turn.event;
+    Advances old.state old.reader old.spelling old.clock errors level transition new.reader →
+    ((events : List ErrorEvent) → Counts old.counters new.counters transition.event false events) →
+    new.state ≡ transition.state → new.spelling ≡ old.spelling → new.clock ≡ old.clock + 1 →
+    IsSample old level transition.outcome new
+samples_on old new level transition errors shows advances counts state_is same clock_is = record {
+  event = transition.event;
   stands = λ past h.
       let st = h.in_state in
       let pair : Pair = record { driven = level_in old.state old.spelling; sampled = level } in
@@ -191,9 +191,12 @@ samples_on old new level turn errors shows advances counts state_is same clock_i
       record {
         text = left.after;
         in_state =
-            subst (λ s. InState s new.spelling left.after (with_bit past pair turn.event turn.outcome)) (sym state_is)
-            (subst (λ s. InState turn.state s left.after (with_bit past pair turn.event turn.outcome)) (sym same)
-            (bit_on old.state turn.state old.spelling h.text left.after past pair turn.event turn.outcome st left.lands
+            subst (λ s. InState s new.spelling left.after (with_bit past pair transition.event transition.outcome)) (sym
+            state_is)
+            (subst (λ s. InState transition.state s left.after (with_bit past pair transition.event transition.outcome))
+            (sym same)
+            (bit_on old.state transition.state old.spelling h.text left.after past pair transition.event
+            transition.outcome st left.lands
             ((counts past.events).leads h.counted)));
         reads = subst (λ s. ReaderStands s new.reader left.after) (sym state_is) left.reads;
         clock_is = clock_is ∙ clock_next old past pair h;
@@ -201,14 +204,14 @@ samples_on old new level turn errors shows advances counts state_is same clock_i
       };
 }
 
-pub samples_off : (old new : Node) (level : Bool) (turn : Turn) (errors : ErrorState) →
+pub samples_off : (old new : Node) (level : Bool) (transition : Transition) (errors : ErrorState) →
     ((events : List ErrorEvent) → CountersStandAfter old.counters events → errors ≡ state_after events) →
-    Advances old.state old.reader old.spelling old.clock errors level turn new.reader →
-    ((events : List ErrorEvent) → Counts old.counters new.counters turn.event true events) →
-    new.state ≡ Recovering 0 0 → new.spelling ≡ old.spelling → new.clock ≡ old.clock + 1 →
+    Advances old.state old.reader old.spelling old.clock errors level transition new.reader →
+    ((events : List ErrorEvent) → Counts old.counters new.counters transition.event true events) →
+    new.state ≡ BusOffRecovery 0 0 → new.spelling ≡ old.spelling → new.clock ≡ old.clock + 1 →
     IsSample old level WentOff new
-samples_off old new level turn errors shows advances counts state_is same clock_is = record {
-  event = turn.event;
+samples_off old new level transition errors shows advances counts state_is same clock_is = record {
+  event = transition.event;
   stands = λ past h.
       let st = h.in_state in
       let pair : Pair = record { driven = level_in old.state old.spelling; sampled = level } in
@@ -216,9 +219,12 @@ samples_off old new level turn errors shows advances counts state_is same clock_
       (clock_here old past h) (errors_here old past errors h shows) st.agrees st.holds h.reads in
       record {
         text = left.after;
-        in_state = subst (λ s. InState s new.spelling left.after (with_bit past pair turn.event WentOff)) (sym state_is)
-            (subst (λ s. InState (Recovering 0 0) s left.after (with_bit past pair turn.event WentOff)) (sym same)
-            (bit_off old.state turn.state old.spelling h.text left.after past pair turn.event turn.outcome st left.lands
+        in_state = subst (λ s. InState s new.spelling left.after (with_bit past pair transition.event WentOff)) (sym
+            state_is)
+            (subst (λ s. InState (BusOffRecovery 0 0) s left.after (with_bit past pair transition.event WentOff)) (sym
+            same)
+            (bit_off old.state transition.state old.spelling h.text left.after past pair transition.event
+            transition.outcome st left.lands
             ((counts past.events).leads h.counted)));
         reads = subst (λ s. ReaderStands s new.reader left.after) (sym state_is)
             (record { stands = λ is. absurd (cc is); reading = λ is. absurd (cc is) });
@@ -227,23 +233,25 @@ samples_off old new level turn errors shows advances counts state_is same clock_
       };
 }
 
-samples_by : (off : Bool) (old new : Node) (level : Bool) (outcome : Outcome) (turn : Turn) (errors : ErrorState) →
+samples_by : (off : Bool) (old new : Node) (level : Bool) (outcome : Outcome) (transition : Transition) (errors :
+    ErrorState) →
     ((events : List ErrorEvent) → CountersStandAfter old.counters events → errors ≡ state_after events) →
-    Advances old.state old.reader old.spelling old.clock errors level turn new.reader →
-    ((events : List ErrorEvent) → Counts old.counters new.counters turn.event off events) →
-    EndsIn off turn new.state outcome → new.spelling ≡ old.spelling → new.clock ≡ old.clock + 1 →
+    Advances old.state old.reader old.spelling old.clock errors level transition new.reader →
+    ((events : List ErrorEvent) → Counts old.counters new.counters transition.event off events) →
+    EndsIn off transition new.state outcome → new.spelling ≡ old.spelling → new.clock ≡ old.clock + 1 →
     IsSample old level outcome new
-samples_by true old new level outcome turn errors shows advances counts leaves same clock_is =
+samples_by true old new level outcome transition errors shows advances counts leaves same clock_is =
     subst (λ o. IsSample old level o new) (sym leaves.1)
-    (samples_off old new level turn errors shows advances counts leaves.0 same clock_is)
-samples_by false old new level outcome turn errors shows advances counts leaves same clock_is =
+    (samples_off old new level transition errors shows advances counts leaves.0 same clock_is)
+samples_by false old new level outcome transition errors shows advances counts leaves same clock_is =
     subst (λ o. IsSample old level o new) (sym leaves.1)
-    (samples_on old new level turn errors shows advances counts leaves.0 same clock_is)
+    (samples_on old new level transition errors shows advances counts leaves.0 same clock_is)
 
 pub samples : (old new : Node) (level : Bool) (outcome : Outcome) →
     Steps old.state old.counters old.reader old.spelling old.clock level outcome new.state new.counters new.reader →
     new.spelling ≡ old.spelling → new.clock ≡ old.clock + 1 → IsSample old level outcome new
-samples old new level outcome h same clock_is = samples_by h.is_made.off old new level outcome h.turn h.errors h.shows
+samples old new level outcome h same clock_is = samples_by h.is_made.off old new level outcome h.transition h.errors
+    h.shows
     h.advances h.is_made.counts h.is_made.ends_in same clock_is
 
 -- a reader that was pushed SOF reads on
@@ -255,7 +263,7 @@ sof_reading old new step stands reading push =
     subst (λ s. Leaves s new) (one_answer step More [] false next.answer more) next.leaves
 
 -- a node that was switched on
-pub new_stands : (node : Node) → node.state ≡ Syncing 0 → CountersStandAfter node.counters [] →
+pub new_stands : (node : Node) → node.state ≡ Integrating 0 → CountersStandAfter node.counters [] →
     StandsAfter node (no_past node.clock)
 new_stands node state_is counted = record {
   text = [];
@@ -289,7 +297,7 @@ wants_by (in_overload levels size below runs few) = refl
 wants_by (in_passive owed levels h) = refl
 wants_by (in_wait run n is far due) = refl
 wants_by (in_delimiter kind run n some below) = refl
-wants_by (in_rest below) = refl
+wants_by (in_intermission below) = refl
 wants_by (in_suspend below) = refl
 wants_by (in_off rest broken below counted b short) = refl
 
@@ -321,24 +329,24 @@ counts_none counters event is events = subst (λ e. Counts counters counters e f
     (record { stands = λ h. h ∙ ap counts_after (sym (append-nil events)); leads = λ h. no_event })
 
 -- a bit that counts nothing and tells nothing
-pub quiet_steps_now : (state next : State) (counters : Counters) (old new : Reader) (spelling : Spelling) (now : ℕ)
+pub uneventful_steps_now : (state next : State) (counters : Counters) (old new : Reader) (spelling : Spelling) (now : ℕ)
     (level : Bool) →
-    Advances state old spelling now (state_of (counts_of counters)) level (quiet next) new →
+    Advances state old spelling now (state_of (counts_of counters)) level (uneventful next) new →
     Steps state counters old spelling now level Nothing next counters new
-quiet_steps_now state next counters old new spelling now level advances = record {
-  turn = quiet next;
+uneventful_steps_now state next counters old new spelling now level advances = record {
+  transition = uneventful next;
   errors = state_of (counts_of counters);
   shows = λ events h. ap state_of h;
   advances = advances;
   is_made = record { off = false; counts = counts_none counters None refl; ends_in = (refl, refl) };
 }
 
-pub quiet_steps : (state next : State) (counters : Counters) (old new : Reader) (spelling : Spelling) (now : ℕ)
+pub uneventful_steps : (state next : State) (counters : Counters) (old new : Reader) (spelling : Spelling) (now : ℕ)
     (level : Bool) →
-    ((errors : ErrorState) → Advances state old spelling now errors level (quiet next) new) →
+    ((errors : ErrorState) → Advances state old spelling now errors level (uneventful next) new) →
     Steps state counters old spelling now level Nothing next counters new
-quiet_steps state next counters old new spelling now level advances =
-    quiet_steps_now state next counters old new spelling now level (advances (state_of (counts_of counters)))
+uneventful_steps state next counters old new spelling now level advances =
+    uneventful_steps_now state next counters old new spelling now level (advances (state_of (counts_of counters)))
 
 leads_by : (events : List ErrorEvent) (event : ErrorEvent) (off b : Bool) → off ≡ b →
     is_off (counts_after (events ++ event ∷ [])) ≡ b → LeadsTo events (Some event) off
@@ -368,7 +376,7 @@ sof_by (in_overload levels size below runs few) = refl
 sof_by (in_passive owed levels h) = refl
 sof_by (in_wait run n is far due) = refl
 sof_by (in_delimiter kind run n some below) = refl
-sof_by (in_rest below) = refl
+sof_by (in_intermission below) = refl
 sof_by (in_suspend below) = refl
 sof_by (in_off rest broken below counted b short) = refl
 

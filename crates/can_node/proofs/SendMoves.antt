@@ -15,9 +15,9 @@ use Rattle.can_confinement.specs.declared.confinement.ErrorState.{ErrorState}
 use Rattle.can_node.specs.declared.outcome.ErrorKind.TheVariants.{Bit, Stuff, Ack}
 use Rattle.can_node.specs.declared.outcome.Outcome.TheVariants.{Completed, Lost, Errored}
 use Rattle.can_node.specs.declared.state.State.{State}
-use Rattle.can_node.specs.declared.state.State.TheVariants.{Taking, Resting, Sending}
+use Rattle.can_node.specs.declared.state.State.TheVariants.{Receiving, InIntermission, Transmitting}
 use Rattle.can_node.specs.declared.state.Stage.TheVariants.{Region}
-use Rattle.can_node.specs.declared.state.Turn.{Turn}
+use Rattle.can_node.specs.declared.state.Transition.{Transition}
 use Rattle.can_frame.specs.declared.spelling.Spelling.{Spelling}
 use Rattle.can_frame.specs.declared.spelling.SendBit.{SendBit}
 use Rattle.can_frame.specs.declared.spelling.SendBit.TheVariants.{Arbitration, ArbitrationStuffBit, Other}
@@ -30,9 +30,9 @@ use Rattle.can_node.specs.Phases.Phase.{Send, Take, Intermission}
 use Rattle.can_node.specs.Episodes.{Course, ack_events}
 use Rattle.can_node.specs.Episodes.Course.{completed, lost, stuff_lost, unacknowledged, bit_differs}
 use Rattle.can_node.specs.Machine.{Agrees, Holds, Lands, GoesSending, LosesAt, Signals, listed}
-use Rattle.can_node.specs.Machine.Agrees.{in_send, in_rest}
+use Rattle.can_node.specs.Machine.Agrees.{in_send, in_intermission}
 use Rattle.can_node.specs.Machine.Lands.{goes_on, is_over}
-use Rattle.can_node.proofs.Moves.{turn}
+use Rattle.can_node.proofs.Moves.{transition}
 use Rattle.can_node.proofs.Starts.{reads_from}
 use Rattle.can_node.proofs.SendPlaces.{here, front_here, next_bit, last_bit, rtr_few, lost_inside, arbitration_short}
 use Rattle.can_node.proofs.SendPlaces.{slot_levels, same_levels, same_text}
@@ -50,7 +50,7 @@ sends_on : (start place next : ℕ) (spelling : Spelling) (level : Bool) (text :
     (frame : FrameValue) (bef seen : List Bool) (driven expected : Bool) → text ≡ given ++ seen →
     IsSendBit frame given bef seen driven expected → place ≡ length given + length bef → IsSpelling frame spelling →
     expected ≡ level → (place + 1 ≡ length spelling.levels.items → ⊥) → next ≡ min (place + 1) 255 →
-    Agrees (Sending start next) (text ++ level ∷ []) at (Send start given frame)
+    Agrees (Transmitting start next) (text ++ level ∷ []) at (Send start given frame)
     (driving bef seen ++ record { driven = level_at spelling place; sampled = level } ∷ []) []
 sends_on start place next spelling level text at given frame bef seen driven expected is bit place_is holds level_is
     more next_is =
@@ -66,12 +66,12 @@ sends_on start place next spelling level text at given frame bef seen driven exp
     sym (driving_more bef seen driven expected bit.same_place)
     ∙ ap (λ d. driving bef seen ++ record { driven = d; sampled = expected } ∷ []) (sym h.level_is)
     ∙ ap (λ s. driving bef seen ++ record { driven = level_at spelling place; sampled = s } ∷ []) level_is in
-    subst (λ p. Agrees (Sending start next) (text ++ level ∷ []) at (Send start given frame) p []) pairs
+    subst (λ p. Agrees (Transmitting start next) (text ++ level ∷ []) at (Send start given frame) p []) pairs
     (in_send given frame (bef ++ driven ∷ []) (seen ++ expected ∷ []) n.driven n.expected read n.bit here_next)
 
 pub send_acknowledged : (start place next : ℕ) (spelling : Spelling) (e : ErrorState) →
     place + 9 ≡ length spelling.levels.items → next ≡ min (place + 1) 255 →
-    GoesSending start place spelling e false (turn (Sending start next) None)
+    GoesSending start place spelling e false (transition (Transmitting start next) None)
 send_acknowledged start place next spelling e slot next_is text at before phase part events err
     (in_send given frame bef seen driven expected is bit place_is) holds =
     let h = here spelling frame given bef seen driven expected place holds bit place_is in
@@ -79,7 +79,7 @@ send_acknowledged start place next spelling e slot next_is text at before phase 
     goes_on (sends_on start place next spelling false text at given frame bef seen driven expected is bit place_is holds
     levels.1 (λ last. omega (arith, slot, last)) next_is) refl
 
-pub send_unacknowledged : (start place : ℕ) (spelling : Spelling) (e : ErrorState) (t : Turn) →
+pub send_unacknowledged : (start place : ℕ) (spelling : Spelling) (e : ErrorState) (t : Transition) →
     place + 9 ≡ length spelling.levels.items →
     ((text : List Bool) (later : ℕ) → Agrees t.state text later (flag_of e (SenderError ∷ []) Sender) [] []) →
     listed t.event ≡ ack_events e → t.outcome ≡ Errored Ack → GoesSending start place spelling e true t
@@ -109,7 +109,7 @@ send_unacknowledged start place spelling e t slot flags event_is outcome_is text
 pub send_echoed : (start place next : ℕ) (spelling : Spelling) (e : ErrorState) (level : Bool) →
     (place + 9 ≡ length spelling.levels.items → ⊥) → level ≡ level_at spelling place →
     (place + 1 ≡ length spelling.levels.items → ⊥) → next ≡ min (place + 1) 255 →
-    GoesSending start place spelling e level (turn (Sending start next) None)
+    GoesSending start place spelling e level (transition (Transmitting start next) None)
 send_echoed start place next spelling e level elsewhere echo more next_is text at before phase part events err
     (in_send given frame bef seen driven expected is bit place_is) holds =
     let h = here spelling frame given bef seen driven expected place holds bit place_is in
@@ -121,7 +121,7 @@ pub send_completed : (start place : ℕ) (spelling : Spelling) (e : ErrorState) 
     (place + 9 ≡ length spelling.levels.items → ⊥) → level ≡ level_at spelling place →
     place + 1 ≡ length spelling.levels.items →
     GoesSending start place spelling e level
-    (record { state = Resting Sender 0; event = Some Sent; outcome = Completed })
+    (record { state = InIntermission Sender 0; event = Some Sent; outcome = Completed })
 send_completed start place spelling e level elsewhere echo last text at before phase part events err
     (in_send given frame bef seen driven expected is bit place_is) holds =
     let h = here spelling frame given bef seen driven expected place holds bit place_is in
@@ -136,7 +136,7 @@ send_completed start place spelling e level elsewhere echo last text at before p
     is_over (Intermission Sender)
     (subst (λ p. Course at before (Send start given frame) p (Sent ∷ []) Completed (Intermission Sender)) pairs
     (completed start given frame (bef ++ driven ∷ []) (seen ++ expected ∷ []) send))
-    (λ later. in_rest {k = 0} (omega arith))
+    (λ later. in_intermission {k = 0} (omega arith))
 
 -- what the code's `==` of two levels computes
 pub equal_levels : (a b : Bool) → beq a b ≡ true → a ≡ b
@@ -220,7 +220,7 @@ arbitrates spelling frame given bef seen driven expected place bit place_is hold
 -- so what it drove before is what its text is
 pub lost_text : {start place : ℕ} {text : List Bool} {at : ℕ} {phase : Phase} {part : List Pair}
     {events : List ErrorEvent} (spelling : Spelling) → LosesAt place spelling →
-    Agrees (Sending start place) text at phase part events →
+    Agrees (Transmitting start place) text at phase part events →
     Holds phase spelling → take place spelling.levels.items ≡ text
 lost_text {place = place} spelling loses (in_send given frame bef seen driven expected is bit place_is) holds =
     let h = arbitrates spelling frame given bef seen driven expected place bit place_is holds loses in
@@ -229,7 +229,7 @@ lost_text {place = place} spelling loses (in_send given frame bef seen driven ex
 pub send_lost : (start place : ℕ) (spelling : Spelling) (e : ErrorState) → IsBitAt Arbitration spelling place →
     level_at spelling place ≡ true → (place + 9 ≡ length spelling.levels.items → ⊥) →
     GoesSending start place spelling e false
-    (record { state = Taking start false Region; event = None; outcome = Lost })
+    (record { state = Receiving start false Region; event = None; outcome = Lost })
 send_lost start place spelling e bit_is drives elsewhere text at before phase part events err
     (in_send given frame bef seen driven expected is bit place_is) holds =
     let h = arbitrates spelling frame given bef seen driven expected place bit place_is holds
@@ -238,7 +238,7 @@ send_lost start place spelling e bit_is drives elsewhere text at before phase pa
     let a = given ++ bef in
     let inside = lost_inside frame a d.later true holds.is_frame d.spells h.arbitration in
     let read : a ++ false ∷ [] ≡ text ++ false ∷ [] = ap (λ t. t ++ false ∷ []) (h.same ∙ sym is) in
-    let begins : (later : ℕ) → Agrees (Taking start false Region) (text ++ false ∷ []) later
+    let begins : (later : ℕ) → Agrees (Receiving start false Region) (text ++ false ∷ []) later
     (Take start (text ++ false ∷ []) false) [] [] =
     λ later. reads_from (text ++ false ∷ []) _
     (subst (λ t. Inside t (reverse (false ∷ unstuffed (reverse a)))) read inside) start false
@@ -249,7 +249,8 @@ send_lost start place spelling e bit_is drives elsewhere text at before phase pa
     ++ record { driven = b; sampled = false } ∷ []) [] Lost (Take start (given ++ seen ++ false ∷ []) false))
     (sym drives)
     (lost start given frame bef seen d.bit h.arbitration))
-    (subst (λ g. (later : ℕ) → Agrees (Taking start false Region) (text ++ false ∷ []) later (Take start g false) [] [])
+    (subst (λ g. (later : ℕ) → Agrees (Receiving start false Region) (text ++ false ∷ []) later (Take start g false) []
+    [])
     given_is begins)
 
 pub send_stuff_lost : (start place : ℕ) (spelling : Spelling) (e : ErrorState) (flag : State) →
@@ -271,7 +272,7 @@ send_stuff_lost start place spelling e flag flags bit_is drives elsewhere text a
     (flags (text ++ false ∷ [])))
 
 -- the course of a bit error, with the turn that signals it
-bit_course : (start place : ℕ) (spelling : Spelling) (e : ErrorState) (t : Turn) (text : List Bool) (at : ℕ)
+bit_course : (start place : ℕ) (spelling : Spelling) (e : ErrorState) (t : Transition) (text : List Bool) (at : ℕ)
     (before : List ErrorEvent) (given : List Bool) (frame : FrameValue) (bef seen : List Bool) (level : Bool) →
     Signals t (flag_of e [] Sender) (Some SenderError) Bit → e ≡ state_after (before ++ []) →
     level_at spelling place ≡ level → IsSendBit frame given bef seen level level →
@@ -292,7 +293,7 @@ bit_course start place spelling e t text at before given frame bef seen level si
     (subst (λ s. (later : ℕ) → Agrees t.state (text ++ not level ∷ []) later (flag_of s [] Sender) [] []) state_is
     (signals.flags (text ++ not level ∷ [])))
 
-pub send_overruled : (start place : ℕ) (spelling : Spelling) (e : ErrorState) (t : Turn) →
+pub send_overruled : (start place : ℕ) (spelling : Spelling) (e : ErrorState) (t : Transition) →
     Signals t (flag_of e [] Sender) (Some SenderError) Bit → IsBitAt Other spelling place →
     level_at spelling place ≡ true →
     (place + 9 ≡ length spelling.levels.items → ⊥) → GoesSending start place spelling e false t
@@ -304,7 +305,7 @@ send_overruled start place spelling e t signals bit_is drives elsewhere text at 
     (λ high place_of. say.0 place_of.no_stuff_bit place_of.after_sof place_of.up_to_rtr)
     (λ high place_of. say.1 place_of.stuff_bit place_of.before_rtr)
 
-pub send_undriven : (start place : ℕ) (spelling : Spelling) (e : ErrorState) (t : Turn) →
+pub send_undriven : (start place : ℕ) (spelling : Spelling) (e : ErrorState) (t : Transition) →
     Signals t (flag_of e [] Sender) (Some SenderError) Bit → level_at spelling place ≡ false →
     (place + 9 ≡ length spelling.levels.items → ⊥) → GoesSending start place spelling e true t
 send_undriven start place spelling e t signals drives elsewhere text at before phase part events err

@@ -17,8 +17,8 @@ use Rattle.can_node.specs.Phases.Phase.{Delimiter, Intermission, Suspend, BusOff
 use Rattle.can_node.specs.Waits.{Recoveries}
 use Rattle.can_node.specs.Waits.Recoveries.{no_run, one_more}
 use Rattle.can_node.specs.Episodes.{Course, Episode}
-use Rattle.can_node.specs.Episodes.Course.{synced, woken, completed, lost, stuff_lost, unacknowledged, bit_differs}
-use Rattle.can_node.specs.Episodes.Course.{took, spoiled, quiet_end, late_overload, flagged, overload_flagged}
+use Rattle.can_node.specs.Episodes.Course.{synced, resumed, completed, lost, stuff_lost, unacknowledged, bit_differs}
+use Rattle.can_node.specs.Episodes.Course.{took, spoiled, recessive_last_bit, late_overload, flagged, overload_flagged}
 use Rattle.can_node.specs.Episodes.Course.{passive_flagged, delimited, cut_short, overloaded, rested, rested_sender}
 use Rattle.can_node.specs.Episodes.Course.{pressed, hurried, waited, overtaken, recovered}
 use Rattle.can_node.specs.Episodes.Episode.{begun, joined, ends, off_within, off_at_end}
@@ -110,7 +110,7 @@ course_sofs : (past : Past) {phase next : Phase} {pairs : List Pair} {events : L
     Course (past.first + length past.pairs) past.events phase pairs events outcome next →
     Sofs past.first (past.pairs ++ pairs) next
 course_sofs past (synced broken b) = run_of_eleven past.pairs broken
-course_sofs past (woken n) = λ e. may_not e
+course_sofs past (resumed n) = λ e. may_not e
 course_sofs past (completed start given frame driven sampled send) = tt
 course_sofs past (lost start given frame driven seen bit place) = λ e. may_not e
 course_sofs past {pairs = all} (stuff_lost start given frame driven seen bit place) =
@@ -122,7 +122,7 @@ course_sofs past {pairs = all} (bit_differs start given frame driven seen level 
 course_sofs past (took start given may_begin levels pairs events frame reads front) = tt
 course_sofs past {pairs = all} (spoiled start given may_begin levels level pairs events kind reads fault) =
     flag_sofs past.first (past.pairs ++ all) _ _ _
-course_sofs past quiet_end = tt
+course_sofs past recessive_last_bit = tt
 course_sofs past late_overload = tt
 course_sofs past (flagged role levels size) = tt
 course_sofs past (overload_flagged role levels size) = tt

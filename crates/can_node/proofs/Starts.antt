@@ -10,7 +10,7 @@ use Rattle.can_node.specs.Takes.Reads.{no_slot}
 use Rattle.can_node.specs.Phases.Phase.{Take}
 use Rattle.can_node.specs.Machine.{Agrees}
 use Rattle.can_node.specs.Machine.Agrees.{in_take}
-use Rattle.can_node.specs.declared.state.State.TheVariants.{Taking}
+use Rattle.can_node.specs.declared.state.State.TheVariants.{Receiving}
 use Rattle.can_node.specs.declared.state.Stage.TheVariants.{Region}
 
 -- SOF alone is within a stuffed region
@@ -24,7 +24,7 @@ no_split before more level e = omega (arith, ap length e, length-append before (
 
 -- a node that reads on behind such a text, which it has before the episode
 pub reads_from : (w u : List Bool) → Inside w u → (start : ℕ) (may : Bool) → (may ≡ true → w ≡ false ∷ []) →
-    (later : ℕ) → Agrees (Taking start may Region) w later (Take start w may) [] []
+    (later : ℕ) → Agrees (Receiving start may Region) w later (Take start w may) [] []
 reads_from w u h start may sof later =
     in_take w [] may [] [] (sym (append-nil w))
     (record { begins = part_rough w (completes w u h); undecided = region_undecided w u h })
@@ -32,7 +32,7 @@ reads_from w u h start may sof later =
 
 -- a node that has just read SOF
 pub starts : (now start : ℕ) → start ≡ now → (may : Bool) (later : ℕ) →
-    Agrees (Taking now may Region) (false ∷ []) later (Take start (false ∷ []) may) [] []
+    Agrees (Receiving now may Region) (false ∷ []) later (Take start (false ∷ []) may) [] []
 starts now start e may later =
-    subst (λ n. Agrees (Taking n may Region) (false ∷ []) later (Take start (false ∷ []) may) [] []) e
+    subst (λ n. Agrees (Receiving n may Region) (false ∷ []) later (Take start (false ∷ []) may) [] []) e
     (reads_from (false ∷ []) (false ∷ []) sof_inside start may (λ is. refl) later)

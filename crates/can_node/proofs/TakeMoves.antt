@@ -18,7 +18,7 @@ use Rattle.can_confinement.specs.declared.confinement.ErrorEvent.TheVariants.{Re
 use Rattle.can_confinement.specs.declared.confinement.ErrorState.{ErrorState}
 use Rattle.can_node.specs.declared.outcome.Outcome.TheVariants.{Took, Errored}
 use Rattle.can_node.specs.declared.state.State.{State}
-use Rattle.can_node.specs.declared.state.State.TheVariants.{Taking, Closing}
+use Rattle.can_node.specs.declared.state.State.TheVariants.{Receiving, LastEofBit}
 use Rattle.can_node.specs.declared.state.Stage.{Stage}
 use Rattle.can_node.specs.declared.state.Stage.TheVariants.{Region, AfterRegion, Slot, AfterSlot}
 use Rattle.can_confinement.specs.Confinement.{state_after}
@@ -31,8 +31,9 @@ use Rattle.can_node.specs.Machine.{Agrees, IsAt, is_own_slot, pair_of, GoesReadi
 use Rattle.can_node.specs.Machine.Agrees.{in_take, in_last}
 use Rattle.can_node.specs.Machine.Lands.{goes_on, is_over}
 use Rattle.can_node.proofs.Readers.{flag_reads_nothing}
-use Rattle.can_node.proofs.Moves.{turn}
-use Rattle.can_node.proofs.Places.{body_tail, elsewhere, own_slot, quiet, part_no_slot, body_no_slot, front_no_slot}
+use Rattle.can_node.proofs.Moves.{transition}
+use Rattle.can_node.proofs.Places.{body_tail, elsewhere, own_slot, uneventful, part_no_slot, body_no_slot}
+use Rattle.can_node.proofs.Places.{front_no_slot}
 use Rattle.can_node.proofs.Places.{slot_fault, reads_more, reads_slot, region_tail, delimiter_tail, slot_dominant}
 use Rattle.can_node.proofs.Places.{later_tail}
 
@@ -49,16 +50,17 @@ read_on reader text stands reading begins =
     record { begins = begins; undecided = reading_is_undecided reader text stands reading }
 
 -- the frame goes on with a level that is not that of an own ACK slot
-on_quiet : {start at : ℕ} {may : Bool} {stage next : Stage} {text : List Bool} {phase : Phase} {part : List Pair}
+on_uneventful : {start at : ℕ} {may : Bool} {stage next : Stage} {text : List Bool} {phase : Phase} {part : List Pair}
     {events : List ErrorEvent} (level : Bool) →
-    Agrees (Taking start may stage) text at phase part events → (IsBeforeSlot text → ⊥) →
+    Agrees (Receiving start may stage) text at phase part events → (IsBeforeSlot text → ⊥) →
     IsReadOn (text ++ level ∷ []) → IsAt next (text ++ level ∷ []) →
-    Agrees (Taking start false next) (text ++ level ∷ []) at phase (part ++ pair_of (Taking start may stage) level ∷ [])
+    Agrees (Receiving start false next) (text ++ level ∷ []) at phase (part ++ pair_of (Receiving start may stage) level
+    ∷ [])
     events
-on_quiet {start = start} {at = at} {stage = stage} {next = next} {text = text} level
+on_uneventful {start = start} {at = at} {stage = stage} {next = next} {text = text} level
     (in_take given levels may_begin pairs events is on reads may sof place) never new_on new_place =
-    subst (λ b. Agrees (Taking start false next) (text ++ level ∷ []) at (Take start given may_begin)
-    (pairs ++ record { driven = not b; sampled = level } ∷ []) events) (sym (quiet stage text place never))
+    subst (λ b. Agrees (Receiving start false next) (text ++ level ∷ []) at (Take start given may_begin)
+    (pairs ++ record { driven = not b; sampled = level } ∷ []) events) (sym (uneventful stage text place never))
     (in_take given (levels ++ level ∷ []) may_begin (pairs ++ record { driven = true; sampled = level } ∷ []) events
     (ap (λ t. t ++ level ∷ []) is ∙ append_assoc given levels (level ∷ [])) new_on
     (reads_more level reads (λ slot. never (subst IsBeforeSlot (sym is) slot)))
@@ -67,9 +69,9 @@ on_quiet {start = start} {at = at} {stage = stage} {next = next} {text = text} l
 -- it goes on with that of the own ACK slot
 on_slot : {start at : ℕ} {may : Bool} {next : Stage} {text : List Bool} {phase : Phase} {part : List Pair}
     {events : List ErrorEvent} (level : Bool) →
-    Agrees (Taking start may (Slot true)) text at phase part events → IsBeforeSlot text →
+    Agrees (Receiving start may (Slot true)) text at phase part events → IsBeforeSlot text →
     IsReadOn (text ++ level ∷ []) → IsAt next (text ++ level ∷ []) →
-    Agrees (Taking start false next) (text ++ level ∷ []) at phase (part
+    Agrees (Receiving start false next) (text ++ level ∷ []) at phase (part
     ++ record { driven = false; sampled = level } ∷ []) (events ++ acknowledged level)
 on_slot {start = start} level (in_take given levels may_begin pairs events is on reads may sof place) slot new_on
     new_place =
@@ -79,52 +81,55 @@ on_slot {start = start} level (in_take given levels may_begin pairs events is on
     (sym (no_start start given may_begin pairs (record { driven = false; sampled = level }))) sof new_place
 
 place_of : {start at : ℕ} {may : Bool} {stage : Stage} {text : List Bool} {phase : Phase} {part : List Pair}
-    {events : List ErrorEvent} → Agrees (Taking start may stage) text at phase part events → IsAt stage text
+    {events : List ErrorEvent} → Agrees (Receiving start may stage) text at phase part events → IsAt stage text
 place_of (in_take given levels may_begin pairs events is on reads may sof place) = place
 
 pub take_more : (start : ℕ) (may : Bool) (stage : Stage) (e : ErrorState) (level : Bool) →
-    GoesReading (Taking start may stage) e answer.More level (turn (Taking start false Region) None)
+    GoesReading (Receiving start may stage) e answer.More level (transition (Receiving start false Region) None)
 take_more start may stage e level reader text at before phase part events err agrees h = (
   goes_on
-      (rw append-nil (on_quiet level agrees (part_no_slot text level h.answer.0)
+      (rw append-nil (on_uneventful level agrees (part_no_slot text level h.answer.0)
       (read_on reader _ h.stands h.leaves (part_rough _ h.answer.0)) h.answer.0)) refl,
   λ is. h.leaves,
 )
 
 pub take_stuff : (start : ℕ) (may : Bool) (stage : Stage) (e : ErrorState) (level : Bool) →
-    GoesReading (Taking start may stage) e answer.StuffBit level (turn (Taking start false Region) None)
+    GoesReading (Receiving start may stage) e answer.StuffBit level (transition (Receiving start false Region) None)
 take_stuff start may stage e level reader text at before phase part events err agrees h = (
   goes_on
-      (rw append-nil (on_quiet level agrees (part_no_slot text level h.answer.0)
+      (rw append-nil (on_uneventful level agrees (part_no_slot text level h.answer.0)
       (read_on reader _ h.stands h.leaves (part_rough _ h.answer.0)) h.answer.0)) refl,
   λ is. h.leaves,
 )
 
 pub take_body : (start : ℕ) (may : Bool) (stage : Stage) (e : ErrorState) (level : Bool) (f : FrameValue)
     (right : Bool) →
-    GoesReading (Taking start may stage) e (answer.Body f right) level
-    (turn (Taking start false (AfterRegion right)) None)
+    GoesReading (Receiving start may stage) e (answer.Body f right) level
+    (transition (Receiving start false (AfterRegion right)) None)
 take_body start may stage e level f right reader text at before phase part events err agrees h =
     let tail : InTail f right 0 (text ++ level ∷ []) = body_tail f right (text ++ level ∷ []) h.answer in (
       goes_on
-          (rw append-nil (on_quiet {next = AfterRegion right} level agrees (body_no_slot f right text level h.answer)
+          (rw append-nil (on_uneventful {next = AfterRegion right} level agrees (body_no_slot f right text level
+          h.answer)
           (read_on reader _ h.stands h.leaves (begins_rough f right 0 _ tail)) (f, tail))) refl,
       λ is. h.leaves,
     )
 
 pub tail_delimiter : (start : ℕ) (may right : Bool) (e : ErrorState) (level : Bool) →
-    GoesReading (Taking start may (AfterRegion right)) e answer.Tail level (turn (Taking start false (Slot right)) None)
+    GoesReading (Receiving start may (AfterRegion right)) e answer.Tail level (transition (Receiving start false (Slot
+    right)) None)
 tail_delimiter start may right e level reader text at before phase part events err agrees h =
     let old = place_of agrees in (
       goes_on
-          (rw append-nil (on_quiet {next = Slot right} level agrees (elsewhere (AfterRegion right) text old refl)
+          (rw append-nil (on_uneventful {next = Slot right} level agrees (elsewhere (AfterRegion right) text old refl)
           (read_on reader _ h.stands h.leaves h.answer.begins)
           (old.0, delimiter_tail old.0 right text level old.1 h.answer))) refl,
       λ is. h.leaves,
     )
 
 pub tail_own_slot : (start : ℕ) (may : Bool) (e : ErrorState) (level : Bool) →
-    GoesReading (Taking start may (Slot true)) e answer.Tail level (turn (Taking start false AfterSlot) (Some Received))
+    GoesReading (Receiving start may (Slot true)) e answer.Tail level (transition (Receiving start false AfterSlot)
+    (Some Received))
 tail_own_slot start may e level reader text at before phase part events err agrees h =
     let old = place_of agrees in
     let low : level ≡ false = slot_dominant old.0 text level old.1 h.answer in
@@ -137,11 +142,12 @@ tail_own_slot start may e level reader text at before phase part events err agre
     )
 
 pub tail_slot_on : (start : ℕ) (may : Bool) (e : ErrorState) (level : Bool) →
-    GoesReading (Taking start may (Slot false)) e answer.Tail level (turn (Taking start false AfterSlot) None)
+    GoesReading (Receiving start may (Slot false)) e answer.Tail level (transition (Receiving start false AfterSlot)
+    None)
 tail_slot_on start may e level reader text at before phase part events err agrees h =
     let old = place_of agrees in (
       goes_on
-          (rw append-nil (on_quiet {next = AfterSlot} level agrees (elsewhere (Slot false) text old refl)
+          (rw append-nil (on_uneventful {next = AfterSlot} level agrees (elsewhere (Slot false) text old refl)
           (read_on reader _ h.stands h.leaves h.answer.begins)
           (old.0, false, 2, omega arith, next_slot old.0 false 1 text level old.1 refl (λ right. absurd (cc right)))))
           refl,
@@ -149,11 +155,11 @@ tail_slot_on start may e level reader text at before phase part events err agree
     )
 
 pub tail_later : (start : ℕ) (may : Bool) (e : ErrorState) (level : Bool) →
-    GoesReading (Taking start may AfterSlot) e answer.Tail level (turn (Taking start false AfterSlot) None)
+    GoesReading (Receiving start may AfterSlot) e answer.Tail level (transition (Receiving start false AfterSlot) None)
 tail_later start may e level reader text at before phase part events err agrees h =
     let old = place_of agrees in (
       goes_on
-          (rw append-nil (on_quiet {next = AfterSlot} level agrees (elsewhere AfterSlot text old refl)
+          (rw append-nil (on_uneventful {next = AfterSlot} level agrees (elsewhere AfterSlot text old refl)
           (read_on reader _ h.stands h.leaves h.answer.begins) (
             old.0,
             old.1,
@@ -165,19 +171,19 @@ tail_later start may e level reader text at before phase part events err agrees 
     )
 
 pub tail_never : (start : ℕ) (may : Bool) (e : ErrorState) (level : Bool) →
-    GoesReading (Taking start may Region) e answer.Tail level (turn (Taking start false AfterSlot) None)
+    GoesReading (Receiving start may Region) e answer.Tail level (transition (Receiving start false AfterSlot) None)
 tail_never start may e level reader text at before phase part events err agrees h =
     absurd (region_tail text level (place_of agrees) h.answer)
 
 pub take_taken : (start : ℕ) (may : Bool) (stage : Stage) (e : ErrorState) (level : Bool) (f : FrameValue) →
-    GoesReading (Taking start may stage) e (answer.Taken f) level
-    (record { state = Closing; event = None; outcome = Took start f })
+    GoesReading (Receiving start may stage) e (answer.Taken f) level
+    (record { state = LastEofBit; event = None; outcome = Took start f })
 take_taken start may stage e level f reader text at before phase part events err
     (in_take given levels may_begin pairs counted is on reads wants sof place) h =
     let never = front_no_slot f text level h.answer in
     let whole : text ++ level ∷ [] ≡ given ++ (levels ++ level ∷ []) =
     ap (λ t. t ++ level ∷ []) is ∙ append_assoc given levels (level ∷ []) in (
-      is_over LastBit (rw (append-nil, quiet stage text place never)
+      is_over LastBit (rw (append-nil, uneventful stage text place never)
           (took start given may_begin (levels ++ level ∷ []) (pairs ++ record { driven = true; sampled = level } ∷ [])
           counted f
           (reads_more level reads (λ slot. never (subst IsBeforeSlot (sym is) slot)))
@@ -202,12 +208,12 @@ fault_reads kind given levels text pairs events stage level true is e reads plac
 pub take_fault : (start : ℕ) (may : Bool) (stage : Stage) (e : ErrorState) (level : Bool) (kind : FaultKind)
     (flag : State) →
     ((text : List Bool) (later : ℕ) → Agrees flag text later (flag_of e [] Receiver) [] []) →
-    GoesReading (Taking start may stage) e (answer.Fault kind) level
+    GoesReading (Receiving start may stage) e (answer.Fault kind) level
     (record { state = flag; event = Some ReceiverError; outcome = Errored (name_of kind) })
 take_fault start may stage e level kind flag begins reader text at before phase part events err
     (in_take given levels may_begin pairs counted is on reads wants sof place) h = (
       is_over (flag_of (state_after (before ++ counted)) [] Receiver)
-          (spoiled start given may_begin levels level (pairs ++ pair_of (Taking start may stage) level ∷ []) counted
+          (spoiled start given may_begin levels level (pairs ++ pair_of (Receiving start may stage) level ∷ []) counted
           kind
           (fault_reads kind given levels text pairs counted stage level (is_own_slot stage) refl is reads place
           (slot_fault kind text level h.answer))

@@ -17,8 +17,8 @@ use Rattle.can_node.specs.Takes.Reads.{no_slot, with_slot}
 use Rattle.can_node.specs.Phases.{Phase, flag_of}
 use Rattle.can_node.specs.Phases.Phase.{Send, Take}
 use Rattle.can_node.specs.Episodes.{Course, Episode}
-use Rattle.can_node.specs.Episodes.Course.{synced, woken, completed, lost, stuff_lost, unacknowledged, bit_differs}
-use Rattle.can_node.specs.Episodes.Course.{took, spoiled, quiet_end, late_overload, flagged, overload_flagged}
+use Rattle.can_node.specs.Episodes.Course.{synced, resumed, completed, lost, stuff_lost, unacknowledged, bit_differs}
+use Rattle.can_node.specs.Episodes.Course.{took, spoiled, recessive_last_bit, late_overload, flagged, overload_flagged}
 use Rattle.can_node.specs.Episodes.Course.{passive_flagged, delimited, cut_short, overloaded, rested, rested_sender}
 use Rattle.can_node.specs.Episodes.Course.{pressed, hurried, waited, overtaken, recovered}
 use Rattle.can_node.specs.Episodes.Episode.{begun, joined, ends, off_within, off_at_end}
@@ -129,7 +129,7 @@ course_starts : (past : Past) {phase next : Phase} {pairs : List Pair} {events :
     Course (past.first + length past.pairs) past.events phase pairs events outcome next →
     Starts (with_episode past phase pairs events outcome) next
 course_starts past h (synced broken b) = tt
-course_starts past h (woken n) = sof_behind past n _ refl refl
+course_starts past h (resumed n) = sof_behind past n _ refl refl
 course_starts past h (completed start given frame driven sampled send) = tt
 course_starts past h (lost start given frame driven seen bit place) =
     subst (From (with_episode past (Send start given frame)
@@ -143,7 +143,7 @@ course_starts past h (unacknowledged start given frame driven seen bit) = flag_s
 course_starts past h (bit_differs start given frame driven seen level bit no_loss no_stuff) = flag_starts _ _ _ _
 course_starts past h (took start given may_begin levels pairs events frame reads front) = tt
 course_starts past h (spoiled start given may_begin levels level pairs events kind reads fault) = flag_starts _ _ _ _
-course_starts past h quiet_end = tt
+course_starts past h recessive_last_bit = tt
 course_starts past h late_overload = tt
 course_starts past h (flagged role levels size) = tt
 course_starts past h (overload_flagged role levels size) = tt

@@ -67,7 +67,7 @@ pub data Begun : Phase → List Pair → List ErrorEvent → Type 0 where
   -- any number of dominant levels, and fewer than eight recessive ones
   delimiting : (kind : FlagKind) (role : Role) (run n k : ℕ) → k < 8 →
       Begun (Delimiter kind role run) (listening (dominant n ++ recessive k)) (dominant_events kind role run n)
-  resting : (role : Role) (k : ℕ) → k < 3 →
+  in_pause : (role : Role) (k : ℕ) → k < 3 →
       Begun (Intermission role) (listening (recessive k)) []
   suspended : (k : ℕ) → k < 8 →
       Begun Suspend (listening (recessive k)) []
@@ -84,7 +84,7 @@ pub data Course : (at : ℕ) (before : List ErrorEvent) → Phase → List Pair 
   synced : {at : ℕ} {before : List ErrorEvent} (broken : List Bool) → Broken broken →
       Course at before Sync (listening (broken ++ recessive 11)) [] Nothing Idle
   -- idle: a dominant level is the SOF of a frame that is read
-  woken : {at : ℕ} {before : List ErrorEvent} (n : ℕ) →
+  resumed : {at : ℕ} {before : List ErrorEvent} (n : ℕ) →
       Course at before Idle (listening (recessive n ++ false ∷ [])) [] Nothing (Take (at + n) (false ∷ []) false)
   -- sending: the whole spelling, acknowledged; it is valid for the sender at the last bit of EOF
   completed : {at : ℕ} {before : List ErrorEvent} (start : ℕ) (given : List Bool) (frame : FrameValue)
@@ -135,7 +135,7 @@ pub data Course : (at : ℕ) (before : List ErrorEvent) → Phase → List Pair 
       Course at before (Take start given may_begin) pairs (events ++ ReceiverError ∷ [])
       (Errored (name_of kind)) (flag_of (state_after (before ++ events)) [] Receiver)
   -- the last bit of EOF: recessive, or dominant, which asks for an overload frame and is no error
-  quiet_end : {at : ℕ} {before : List ErrorEvent} →
+  recessive_last_bit : {at : ℕ} {before : List ErrorEvent} →
       Course at before LastBit (listening (true ∷ [])) [] Nothing (Intermission Receiver)
   late_overload : {at : ℕ} {before : List ErrorEvent} →
       Course at before LastBit (listening (false ∷ [])) [] Nothing (OverloadFlag Receiver)

@@ -8,7 +8,7 @@ pub mod Episodes
 pub mod Histories
 pub mod Machine
 pub mod Node
-pub mod Listener
+pub mod SharedReceiver
 pub mod Cuts
 pub mod Copies
 pub mod Attempts

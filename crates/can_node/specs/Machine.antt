@@ -20,12 +20,13 @@ use Rattle.can_node.specs.declared.outcome.Outcome.{Outcome}
 use Rattle.can_node.specs.declared.outcome.ErrorKind.{ErrorKind}
 use Rattle.can_node.specs.declared.outcome.Outcome.TheVariants.{Nothing, Errored, WentOff}
 use Rattle.can_node.specs.declared.state.State.{State}
-use Rattle.can_node.specs.declared.state.State.TheVariants.{Syncing, Idling, Taking, Closing, Flagging}
-use Rattle.can_node.specs.declared.state.State.TheVariants.{PassiveFlagging, Waiting, Delimiting, Resting}
-use Rattle.can_node.specs.declared.state.State.TheVariants.{Suspending, Recovering, Sending}
+use Rattle.can_node.specs.declared.state.State.TheVariants.{Integrating, BusIdle, Receiving, LastEofBit, DominantFlag}
+use Rattle.can_node.specs.declared.state.State.TheVariants.{PassiveErrorFlag, AwaitingDelimiter, InDelimiter}
+use Rattle.can_node.specs.declared.state.State.TheVariants.{InIntermission}
+use Rattle.can_node.specs.declared.state.State.TheVariants.{SuspendTransmission, BusOffRecovery, Transmitting}
 use Rattle.can_node.specs.declared.state.Stage.{Stage}
 use Rattle.can_node.specs.declared.state.Stage.TheVariants.{Region, AfterRegion, Slot, AfterSlot}
-use Rattle.can_node.specs.declared.state.Turn.{Turn}
+use Rattle.can_node.specs.declared.state.Transition.{Transition}
 use Rattle.can_frame.specs.declared.spelling.Spelling.{Spelling}
 use Rattle.can_confinement.specs.declared.counters.Counters.{Counters}
 use Rattle.can_confinement.specs.Counters.{StandsAfter}
@@ -82,86 +83,87 @@ is_own_slot AfterSlot = false
 -- this phase that began at this bit, and they brought these events.
 pub data Agrees : State → (text : List Bool) → (at : ℕ) → Phase → List Pair → List ErrorEvent → Type 0 where
   in_sync : {text : List Bool} {at n : ℕ} (broken : List Bool) → Broken broken → n < 11 →
-      Agrees (Syncing n) text at Sync (listening (broken ++ recessive n)) []
+      Agrees (Integrating n) text at Sync (listening (broken ++ recessive n)) []
   in_idle : {text : List Bool} {at : ℕ} (n : ℕ) →
-      Agrees Idling text at Idle (listening (recessive n)) []
+      Agrees BusIdle text at Idle (listening (recessive n)) []
   in_take : {text : List Bool} {at start : ℕ} {may_start : Bool} {stage : Stage} (given levels : List Bool)
       (may_begin : Bool) (pairs : List Pair) (events : List ErrorEvent) →
       text ≡ given ++ levels → IsReadOn text → Reads given levels pairs events →
       may_start ≡ wants_start (Take start given may_begin) pairs →
       (may_begin ≡ true → given ≡ false ∷ []) →
       IsAt stage text →
-      Agrees (Taking start may_start stage) text at (Take start given may_begin) pairs events
+      Agrees (Receiving start may_start stage) text at (Take start given may_begin) pairs events
   in_send : {text : List Bool} {at start place : ℕ} (given : List Bool) (frame : FrameValue) (before seen : List Bool)
       (driven expected : Bool) →
       text ≡ given ++ seen → IsSendBit frame given before seen driven expected →
       place ≡ length given + length before →
-      Agrees (Sending start place) text at (Send start given frame) (driving before seen) []
+      Agrees (Transmitting start place) text at (Send start given frame) (driving before seen) []
   in_last : {text : List Bool} {at : ℕ} →
-      Agrees Closing text at LastBit [] []
+      Agrees LastEofBit text at LastBit [] []
   in_active : {text : List Bool} {at sent until : ℕ} {role : Role} (levels : List Bool) →
       length levels ≡ sent → sent < 6 → dominant_end levels + until ≡ 14 → dominant_end levels ≤ sent →
-      Agrees (Flagging ActiveError role sent until) text at (ActiveFlag role) (dominating levels)
+      Agrees (DominantFlag ActiveError role sent until) text at (ActiveFlag role) (dominating levels)
       (flag_bits role levels)
   in_overload : {text : List Bool} {at sent until : ℕ} {role : Role} (levels : List Bool) →
       length levels ≡ sent → sent < 6 → dominant_end levels + until ≡ 14 → dominant_end levels ≤ sent →
-      Agrees (Flagging Overload role sent until) text at (OverloadFlag role) (dominating levels) (flag_bits role levels)
+      Agrees (DominantFlag Overload role sent until) text at (OverloadFlag role) (dominating levels) (flag_bits role
+      levels)
   in_passive : {text : List Bool} {at ones zeros : ℕ} {owes : Bool} {role : Role} (owed : List ErrorEvent)
       (levels : List Bool) →
       IsPassive owes ones zeros owed levels →
-      Agrees (PassiveFlagging role owes ones zeros) text at (PassiveFlag owed role) (listening levels)
+      Agrees (PassiveErrorFlag role owes ones zeros) text at (PassiveFlag owed role) (listening levels)
       (owed_events owed levels)
   in_wait : {text : List Bool} {at until : ℕ} {first : Bool} {kind : FlagKind} {role : Role} (run n : ℕ) →
       first ≡ (n == 0) → (n ≡ 0 → 8 ≤ until) → IsDue kind run n until →
-      Agrees (Waiting kind role until first) text at (Delimiter kind role run) (listening (dominant n))
+      Agrees (AwaitingDelimiter kind role until first) text at (Delimiter kind role run) (listening (dominant n))
       (dominant_events kind role run n)
   in_delimiter : {text : List Bool} {at k : ℕ} {role : Role} (kind : FlagKind) (run n : ℕ) → 0 < k → k < 8 →
-      Agrees (Delimiting role k) text at (Delimiter kind role run) (listening (dominant n ++ recessive k))
+      Agrees (InDelimiter role k) text at (Delimiter kind role run) (listening (dominant n ++ recessive k))
       (dominant_events kind role run n)
-  in_rest : {text : List Bool} {at k : ℕ} {role : Role} → k < 3 →
-      Agrees (Resting role k) text at (Intermission role) (listening (recessive k)) []
+  in_intermission : {text : List Bool} {at k : ℕ} {role : Role} → k < 3 →
+      Agrees (InIntermission role k) text at (Intermission role) (listening (recessive k)) []
   in_suspend : {text : List Bool} {at k : ℕ} → k < 8 →
-      Agrees (Suspending k) text at Suspend (listening (recessive k)) []
+      Agrees (SuspendTransmission k) text at Suspend (listening (recessive k)) []
   in_off : {text : List Bool} {at runs n : ℕ} (rest broken : List Bool) → runs < 128 → Recoveries runs rest →
       Broken broken → n < 11 →
-      Agrees (Recovering runs n) text at BusOff (listening (rest ++ broken ++ recessive n)) []
+      Agrees (BusOffRecovery runs n) text at BusOff (listening (rest ++ broken ++ recessive n)) []
 
 -- the level that a node in this state drives, if it sends no frame
 abbrev pub level_of : State → Bool
-level_of (Flagging kind role sent until) = false
-level_of (Taking start may_start stage) = not (is_own_slot stage)
+level_of (DominantFlag kind role sent until) = false
+level_of (Receiving start may_start stage) = not (is_own_slot stage)
 level_of state = true
 
 -- the level that it drives, if it holds this spelling
 abbrev pub level_in : State → Spelling → Bool
-level_in (Sending start place) spelling = level_at spelling place
+level_in (Transmitting start place) spelling = level_at spelling place
 level_in state spelling = level_of state
 
 -- a node in this state reads a frame
 abbrev pub is_taking : State → Bool
-is_taking (Taking start may_start stage) = true
+is_taking (Receiving start may_start stage) = true
 is_taking state = false
 
 -- a node in this state sends a frame
 abbrev pub is_sending : State → Bool
-is_sending (Sending start place) = true
+is_sending (Transmitting start place) = true
 is_sending state = false
 
 -- a node in this state may begin to send a frame at the next bit
 abbrev pub may_start : State → Bool
-may_start Idling = true
-may_start (Taking start may_begin stage) = may_begin
+may_start BusIdle = true
+may_start (Receiving start may_begin stage) = may_begin
 may_start state = false
 
 -- a node in this state reads on in the stuffed region of a frame, and may not begin to send instead
 abbrev pub is_in_region : State → Bool
-is_in_region (Taking start false Region) = true
+is_in_region (Receiving start false Region) = true
 is_in_region state = false
 
 -- where it stands behind a level of the end of a frame with which the frame goes on, but that of the ACK slot
 abbrev pub behind_end : State → Option State
-behind_end (Taking start false (AfterRegion right)) = Some (Taking start false (Slot right))
-behind_end (Taking start false AfterSlot) = Some (Taking start false AfterSlot)
+behind_end (Receiving start false (AfterRegion right)) = Some (Receiving start false (Slot right))
+behind_end (Receiving start false AfterSlot) = Some (Receiving start false AfterSlot)
 behind_end state = None
 
 -- a receiver
@@ -172,28 +174,28 @@ is_receiver Sender = false
 -- a node in this state listens to the line as others may: it sends no frame, and has nothing left to do of one that
 -- it sent
 abbrev pub listens : State → Bool
-listens (Sending start place) = false
-listens (Suspending ones) = false
-listens (Recovering runs ones) = false
-listens (Flagging kind role sent until) = is_receiver role
-listens (PassiveFlagging role owes ones zeros) = is_receiver role
-listens (Waiting kind role until first) = is_receiver role
-listens (Delimiting role ones) = is_receiver role
-listens (Resting role ones) = is_receiver role
+listens (Transmitting start place) = false
+listens (SuspendTransmission ones) = false
+listens (BusOffRecovery runs ones) = false
+listens (DominantFlag kind role sent until) = is_receiver role
+listens (PassiveErrorFlag role owes ones zeros) = is_receiver role
+listens (AwaitingDelimiter kind role until first) = is_receiver role
+listens (InDelimiter role ones) = is_receiver role
+listens (InIntermission role ones) = is_receiver role
 listens state = true
 
 -- A node in this state neither reads nor sends a frame, and what it makes of this level is the same in each error
 -- state: where no error may be signalled, nor suspend transmission begin.
-abbrev pub turns_alike : Bool → State → Bool
-turns_alike level (Taking start may_start stage) = false
-turns_alike level (Sending start place) = false
-turns_alike level (Delimiting role ones) = level
-turns_alike level (Resting role ones) = is_receiver role
-turns_alike level state = true
+abbrev pub steps_alike : Bool → State → Bool
+steps_alike level (Receiving start may_start stage) = false
+steps_alike level (Transmitting start place) = false
+steps_alike level (InDelimiter role ones) = level
+steps_alike level (InIntermission role ones) = is_receiver role
+steps_alike level state = true
 
 -- the number of the SOF of the frame that a node in this state sends
 abbrev pub sof_of : State → Option ℕ
-sof_of (Sending start place) = Some start
+sof_of (Transmitting start place) = Some start
 sof_of state = None
 
 -- if a node in this state reads a frame, its reader has read this text of it, and reads on
@@ -222,74 +224,75 @@ pub data Lands (new : State) (outcome : Outcome) (after : List Bool) (at : ℕ) 
 
 -- A node in this state, at this bit and with this error state, that samples this level makes this turn,
 -- whatever its episode was so far. It reads no frame yet; a reader that begins then has read SOF.
-abbrev pub Goes : State → ℕ → ErrorState → Bool → Turn → Type 0
-Goes state now errors level turn =
+abbrev pub Goes : State → ℕ → ErrorState → Bool → Transition → Type 0
+Goes state now errors level transition =
     (text : List Bool) (at : ℕ) (before : List ErrorEvent) (phase : Phase) (part : List Pair)
     (events : List ErrorEvent) →
     now ≡ at + length part → errors ≡ state_after (before ++ events) → Agrees state text at phase part events →
-    Lands turn.state turn.outcome (false ∷ []) at before phase (part ++ pair_of state level ∷ [])
-    (events ++ listed turn.event)
+    Lands transition.state transition.outcome (false ∷ []) at before phase (part ++ pair_of state level ∷ [])
+    (events ++ listed transition.event)
 
 -- The same of a node that reads a frame, where its reader gives this answer to the level. If it reads on, so
 -- does its reader.
-abbrev pub GoesReading : State → ErrorState → Step → Bool → Turn → Type 0
-GoesReading state errors step level turn =
+abbrev pub GoesReading : State → ErrorState → Step → Bool → Transition → Type 0
+GoesReading state errors step level transition =
     (reader : Reader) (text : List Bool) (at : ℕ) (before : List ErrorEvent) (phase : Phase) (part : List Pair)
     (events : List ErrorEvent) →
     errors ≡ state_after (before ++ events) → Agrees state text at phase part events → Next step reader text level →
-    Lands turn.state turn.outcome (text ++ level ∷ []) at before phase (part ++ pair_of state level ∷ [])
-    (events ++ listed turn.event)
-    × (is_taking turn.state ≡ true → IsReading reader)
+    Lands transition.state transition.outcome (text ++ level ∷ []) at before phase (part ++ pair_of state level ∷ [])
+    (events ++ listed transition.event)
+    × (is_taking transition.state ≡ true → IsReading reader)
 
 -- a turn that signals an error with this flag, which is that of the state before it
-pub record Signals (turn : Turn) (flag : Phase) (event : Option ErrorEvent) (kind : ErrorKind) : Type 0 where
-  pub flags : (text : List Bool) (later : ℕ) → Agrees turn.state text later flag [] []
-  pub event_is : turn.event ≡ event
-  pub outcome_is : turn.outcome ≡ Errored kind
+pub record Signals (transition : Transition) (flag : Phase) (event : Option ErrorEvent) (kind : ErrorKind) : Type 0
+  where
+    pub flags : (text : List Bool) (later : ℕ) → Agrees transition.state text later flag [] []
+    pub event_is : transition.event ≡ event
+    pub outcome_is : transition.outcome ≡ Errored kind
 
 -- A node that sends a frame, with this spelling and this error state, makes this turn of a bit at which it
 -- samples this level.
-abbrev pub GoesSending : ℕ → ℕ → Spelling → ErrorState → Bool → Turn → Type 0
-GoesSending start place spelling errors level turn =
+abbrev pub GoesSending : ℕ → ℕ → Spelling → ErrorState → Bool → Transition → Type 0
+GoesSending start place spelling errors level transition =
     (text : List Bool) (at : ℕ) (before : List ErrorEvent) (phase : Phase) (part : List Pair)
     (events : List ErrorEvent) →
-    errors ≡ state_after (before ++ events) → Agrees (Sending start place) text at phase part events →
+    errors ≡ state_after (before ++ events) → Agrees (Transmitting start place) text at phase part events →
     Holds phase spelling →
-    Lands turn.state turn.outcome (text ++ level ∷ []) at before phase
-    (part ++ record { driven = level_at spelling place; sampled = level } ∷ []) (events ++ listed turn.event)
+    Lands transition.state transition.outcome (text ++ level ∷ []) at before phase
+    (part ++ record { driven = level_at spelling place; sampled = level } ∷ []) (events ++ listed transition.event)
 
 -- where a bit leaves the state and the reader
-pub record LandsWith (turn : Turn) (reader : Reader) (at : ℕ) (before : List ErrorEvent) (phase : Phase)
+pub record LandsWith (transition : Transition) (reader : Reader) (at : ℕ) (before : List ErrorEvent) (phase : Phase)
     (pairs : List Pair) (events : List ErrorEvent) : Type 0 where
   pub after : List Bool
-  pub lands : Lands turn.state turn.outcome after at before phase pairs events
-  pub reads : ReaderStands turn.state reader after
+  pub lands : Lands transition.state transition.outcome after at before phase pairs events
+  pub reads : ReaderStands transition.state reader after
 
 -- A node in this state, with this reader and this spelling, at this bit and with this error state, that samples this
 -- level makes this turn, and has this reader then.
-abbrev pub Advances : State → Reader → Spelling → ℕ → ErrorState → Bool → Turn → Reader → Type 0
-Advances state old spelling now errors level turn new =
+abbrev pub Advances : State → Reader → Spelling → ℕ → ErrorState → Bool → Transition → Reader → Type 0
+Advances state old spelling now errors level transition new =
     (text : List Bool) (at : ℕ) (before : List ErrorEvent) (phase : Phase) (part : List Pair)
     (events : List ErrorEvent) →
     now ≡ at + length part → errors ≡ state_after (before ++ events) → Agrees state text at phase part events →
     Holds phase spelling → ReaderStands state old text →
-    LandsWith turn new at before phase (part ++ record { driven = level_in state spelling; sampled = level } ∷ [])
-    (events ++ listed turn.event)
+    LandsWith transition new at before phase (part ++ record { driven = level_in state spelling; sampled = level } ∷ [])
+    (events ++ listed transition.event)
 
 -- the turn that leads to this state, counts nothing and tells nothing
-abbrev pub quiet : State → Turn
-quiet state = record { state = state; event = None; outcome = Nothing }
+abbrev pub uneventful : State → Transition
+uneventful state = record { state = state; event = None; outcome = Nothing }
 
 -- a receiver that need not choose between reading and sending any more goes on in the stuffed region
-pub record IsSteady (may_begin : Bool) (stage : Stage) (step : Step) : Type 0 where
+pub record StaysInRegion (may_begin : Bool) (stage : Stage) (step : Step) : Type 0 where
   pub reads : may_begin ≡ false
   pub inside : stage ≡ Region
   pub goes_on : (step ≡ More) ⊎ (step ≡ StuffBit)
 
 -- A node in this state begins to send at this bit. If it has read SOF it goes on behind it.
 abbrev pub Begins : State → ℕ → State → Type 0
-Begins (Taking start may_begin stage) now next = next ≡ Sending start 1
-Begins state now next = next ≡ Sending now 0
+Begins (Receiving start may_begin stage) now next = next ≡ Transmitting start 1
+Begins state now next = next ≡ Transmitting now 0
 
 -- In this place of a spelling arbitration may be lost: a recessive bit of it stands there, and no stuff bit.
 pub record LosesAt (place : ℕ) (spelling : Spelling) : Type 0 where
@@ -310,26 +313,26 @@ pub record Counts (old new : Counters) (event : Option ErrorEvent) (off : Bool)
   pub leads : StandsAfter old events → LeadsTo events event off
 
 -- where a turn leaves a node, by whether its event leads to bus off: the state, and what is told
-abbrev pub EndsIn : Bool → Turn → State → Outcome → Type 0
-EndsIn true turn state outcome = (state ≡ Recovering 0 0) × (outcome ≡ WentOff)
-EndsIn false turn state outcome = (state ≡ turn.state) × (outcome ≡ turn.outcome)
+abbrev pub EndsIn : Bool → Transition → State → Outcome → Type 0
+EndsIn true transition state outcome = (state ≡ BusOffRecovery 0 0) × (outcome ≡ WentOff)
+EndsIn false transition state outcome = (state ≡ transition.state) × (outcome ≡ transition.outcome)
 
 -- the turn was made: the counters have counted its event, and the node is where that leaves it
-pub record IsMade (turn : Turn) (old new : Counters) (state : State) (outcome : Outcome) : Type 0 where
+pub record IsMade (transition : Transition) (old new : Counters) (state : State) (outcome : Outcome) : Type 0 where
   pub off : Bool
-  pub counts : (events : List ErrorEvent) → Counts old new turn.event off events
-  pub ends_in : EndsIn off turn state outcome
+  pub counts : (events : List ErrorEvent) → Counts old new transition.event off events
+  pub ends_in : EndsIn off transition state outcome
 
 -- What a bit at which a node samples this level makes of its state, its counters and its reader, and what it
 -- tells.
 pub record Steps (state : State) (counters : Counters) (reader : Reader) (spelling : Spelling) (now : ℕ)
     (level : Bool) (outcome : Outcome) (new_state : State) (new_counters : Counters)
     (new_reader : Reader) : Type 0 where
-  pub turn : Turn
+  pub transition : Transition
   pub errors : ErrorState
   pub shows : (events : List ErrorEvent) → StandsAfter counters events → errors ≡ state_after events
-  pub advances : Advances state reader spelling now errors level turn new_reader
-  pub is_made : IsMade turn counters new_counters new_state outcome
+  pub advances : Advances state reader spelling now errors level transition new_reader
+  pub is_made : IsMade transition counters new_counters new_state outcome
 
 -- a past and one more bit
 abbrev pub with_bit : Past → Pair → Option ErrorEvent → Outcome → Past

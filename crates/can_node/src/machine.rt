@@ -7,7 +7,7 @@ ghost use Rattle.can_node.specs.Machine.{
   Begins,
   Counts,
   IsMade,
-  IsSteady,
+  StaysInRegion,
   Steps,
   behind_end,
   is_in_region,
@@ -19,18 +19,18 @@ ghost use Rattle.can_node.specs.Machine.{
   listens,
   may_start,
   sof_of,
-  turns_alike,
+  steps_alike,
 };
-ghost use Rattle.can_node.specs.PlainBits.{IsPlain, turns_plainly};
+ghost use Rattle.can_node.specs.PlainBits.{IsPlain, steps_plainly};
 
 use crate::outcome::Outcome;
 use crate::plain_bits::count_on;
 use crate::sends::after_sending;
-use crate::state::{Stage, State, Turn};
+use crate::state::{Stage, State, Transition};
 use crate::takes::after_taking;
-use crate::turns::{
-    after_closing, after_delimiting, after_flag, after_idle, after_passive_flag, after_recovering,
-    after_resting, after_suspending, after_sync, after_waiting, plain,
+use crate::transitions::{
+    after_awaiting, after_bus_off, after_delimiting, after_flag, after_idle, after_intermission,
+    after_last_bit, after_passive_flag, after_suspending, after_sync, plain,
 };
 use can_confinement::{Counters, ErrorEvent, ErrorState, Role};
 use can_frame::{Reader, Spelling, Step};
@@ -40,8 +40,8 @@ pub(crate) fn level_of(state: State) -> bool
     ensures { result ≡ level_of state }
 {
     match state {
-        State::Flagging(_, _, _, _) => false,
-        State::Taking(_, _, stage) => !stage.is_own_slot(),
+        State::DominantFlag(_, _, _, _) => false,
+        State::Receiving(_, _, stage) => !stage.is_own_slot(),
         _ => true,
     }
 }
@@ -51,7 +51,7 @@ pub(crate) fn level_in(state: State, spelling: &Spelling) -> bool
     ensures { result ≡ level_in state spelling.now }
 {
     match state {
-        State::Sending(_, place) => spelling.level(place),
+        State::Transmitting(_, place) => spelling.level(place),
         _ => level_of(state),
     }
 }
@@ -61,8 +61,8 @@ pub(crate) fn may_start(state: State) -> bool
     ensures { result ≡ may_start state }
 {
     match state {
-        State::Idling => true,
-        State::Taking(_, may_begin, _) => may_begin,
+        State::BusIdle => true,
+        State::Receiving(_, may_begin, _) => may_begin,
         _ => false,
     }
 }
@@ -72,7 +72,7 @@ pub(crate) fn sof_of(state: State) -> Option<u64>
     ensures { result ≡ sof_of state }
 {
     match state {
-        State::Sending(start, _) => Some(start),
+        State::Transmitting(start, _) => Some(start),
         _ => None,
     }
 }
@@ -83,14 +83,14 @@ pub(crate) fn listens(state: State) -> bool
     ensures { result ≡ listens state }
 {
     match state {
-        State::Sending(_, _) => false,
-        State::Suspending(_) => false,
-        State::Recovering(_, _) => false,
-        State::Flagging(_, role, _, _) => is_receiver(role),
-        State::PassiveFlagging(role, _, _, _) => is_receiver(role),
-        State::Waiting(_, role, _, _) => is_receiver(role),
-        State::Delimiting(role, _) => is_receiver(role),
-        State::Resting(role, _) => is_receiver(role),
+        State::Transmitting(_, _) => false,
+        State::SuspendTransmission(_) => false,
+        State::BusOffRecovery(_, _) => false,
+        State::DominantFlag(_, role, _, _) => is_receiver(role),
+        State::PassiveErrorFlag(role, _, _, _) => is_receiver(role),
+        State::AwaitingDelimiter(_, role, _, _) => is_receiver(role),
+        State::InDelimiter(role, _) => is_receiver(role),
+        State::InIntermission(role, _) => is_receiver(role),
         _ => true,
     }
 }
@@ -110,7 +110,7 @@ pub(crate) fn is_in_region(state: State) -> bool
     ensures { result ≡ is_in_region state }
 {
     match state {
-        State::Taking(_, may_begin, stage) => !may_begin && stage == Stage::Region,
+        State::Receiving(_, may_begin, stage) => !may_begin && stage == Stage::Region,
         _ => false,
     }
 }
@@ -121,10 +121,10 @@ pub(crate) fn behind_end(state: State) -> Option<State>
     ensures { result ≡ behind_end state }
 {
     match state {
-        State::Taking(start, false, Stage::AfterRegion(right)) => {
-            Some(State::Taking(start, false, Stage::Slot(right)))
+        State::Receiving(start, false, Stage::AfterRegion(right)) => {
+            Some(State::Receiving(start, false, Stage::Slot(right)))
         }
-        State::Taking(_, false, Stage::AfterSlot) => Some(state),
+        State::Receiving(_, false, Stage::AfterSlot) => Some(state),
         _ => None,
     }
 }
@@ -133,46 +133,48 @@ pub(crate) fn behind_end(state: State) -> Option<State>
 pub(crate) fn is_taking(state: State) -> bool
     ensures { result ≡ is_taking state }
 {
-    matches!(state, State::Taking(_, _, _))
+    matches!(state, State::Receiving(_, _, _))
 }
 
 /// Whether what a level makes of a state that neither reads nor sends a frame is the same in each error state. It says
 /// no of a dominant level in any delimiter, and of the intermission behind an own frame.
-pub(crate) fn turns_alike(state: State, level: bool) -> bool
-    ensures { result ≡ turns_alike level state }
+pub(crate) fn steps_alike(state: State, level: bool) -> bool
+    ensures { result ≡ steps_alike level state }
 {
     match state {
-        State::Taking(_, _, _) => false,
-        State::Sending(_, _) => false,
-        State::Delimiting(_, _) => level,
-        State::Resting(role, _) => is_receiver(role),
+        State::Receiving(_, _, _) => false,
+        State::Transmitting(_, _) => false,
+        State::InDelimiter(_, _) => level,
+        State::InIntermission(role, _) => is_receiver(role),
         _ => true,
     }
 }
 
 /// What a level makes of a state that neither reads nor sends a frame.
-pub(crate) fn turn_of(state: State, now: u64, errors: ErrorState, level: bool) -> Turn
+pub(crate) fn transition_of(state: State, now: u64, errors: ErrorState, level: bool) -> Transition
     ensures goes { is_taking state ≡ false → is_sending state ≡ false
         → Goes state now errors level result }
-    ensures alike { turns_alike level state ≡ true → (other : ErrorState) → Goes state now other level result }
-    ensures plain { turns_plainly level state ≡ true → IsPlain result }
+    ensures alike { steps_alike level state ≡ true → (other : ErrorState) → Goes state now other level result }
+    ensures plain { steps_plainly level state ≡ true → IsPlain result }
 {
     match state {
-        State::Syncing(ones) => after_sync(ones, level),
-        State::Idling => after_idle(now, level),
+        State::Integrating(ones) => after_sync(ones, level),
+        State::BusIdle => after_idle(now, level),
         // for its reader to say, and for its spelling
-        State::Taking(_, _, _) => plain(state),
-        State::Sending(_, _) => plain(state),
-        State::Closing => after_closing(level),
-        State::Flagging(kind, role, sent, until) => after_flag(kind, role, sent, until, level),
-        State::PassiveFlagging(role, owes, ones, zeros) => {
+        State::Receiving(_, _, _) => plain(state),
+        State::Transmitting(_, _) => plain(state),
+        State::LastEofBit => after_last_bit(level),
+        State::DominantFlag(kind, role, sent, until) => after_flag(kind, role, sent, until, level),
+        State::PassiveErrorFlag(role, owes, ones, zeros) => {
             after_passive_flag(role, owes, ones, zeros, level)
         }
-        State::Waiting(kind, role, until, first) => after_waiting(kind, role, until, first, level),
-        State::Delimiting(role, ones) => after_delimiting(role, ones, errors, level),
-        State::Resting(role, ones) => after_resting(role, ones, now, errors, level),
-        State::Suspending(ones) => after_suspending(ones, now, level),
-        State::Recovering(runs, ones) => after_recovering(runs, ones, level),
+        State::AwaitingDelimiter(kind, role, until, first) => after_awaiting(
+            kind, role, until, first, level,
+        ),
+        State::InDelimiter(role, ones) => after_delimiting(role, ones, errors, level),
+        State::InIntermission(role, ones) => after_intermission(role, ones, now, errors, level),
+        State::SuspendTransmission(ones) => after_suspending(ones, now, level),
+        State::BusOffRecovery(runs, ones) => after_bus_off(runs, ones, level),
     }
 }
 
@@ -197,8 +199,8 @@ fn read_behind(reader: &mut Reader, text: &[bool], level: bool)
 }
 
 /// Whether a receiver goes on in the stuffed region as before, which is what most bits of a bus are.
-fn is_steady(may_begin: bool, stage: Stage, step: &Step) -> bool
-    ensures { result ≡ true → IsSteady may_begin stage step.now }
+fn stays_in_region(may_begin: bool, stage: Stage, step: &Step) -> bool
+    ensures { result ≡ true → StaysInRegion may_begin stage step.now }
 {
     if may_begin {
         return false;
@@ -227,21 +229,21 @@ fn count(counters: &mut Counters, event: Option<ErrorEvent>) -> bool
 }
 
 /// Makes a turn, and tells its outcome: bus off, if its event leads there.
-pub(crate) fn make(turn: &Turn, state: &mut State, counters: &mut Counters) -> Outcome
-    ensures { IsMade turn.now counters.old counters.new state.new result }
+pub(crate) fn make(transition: &Transition, state: &mut State, counters: &mut Counters) -> Outcome
+    ensures { IsMade transition.now counters.old counters.new state.new result }
 {
-    let went_off = count(counters, turn.event);
+    let went_off = count(counters, transition.event);
     if went_off {
-        *state = State::Recovering(0, 0);
+        *state = State::BusOffRecovery(0, 0);
         return Outcome::WentOff;
     }
-    *state = turn.state;
-    turn.outcome
+    *state = transition.state;
+    transition.outcome
 }
 
 /// A turn of a node that reads a frame, by what its reader says of the level.
 #[inline(never)]
-fn turn_taking(
+fn transition_receiving(
     state: &mut State,
     counters: &mut Counters,
     start: u64,
@@ -250,17 +252,17 @@ fn turn_taking(
     level: bool,
 ) -> Outcome
     ensures { (may_begin : Bool) (old new : Reader) (spelling : Spelling) (now : ℕ) → IsPush old level step new
-        → Steps (State.Taking start may_begin stage) counters.old old spelling now level
+        → Steps (State.Receiving start may_begin stage) counters.old old spelling now level
         result state.new counters.new new }
 {
     let errors = counters.state();
-    let turn = after_taking(start, stage, errors, &step, level);
-    make(&turn, state, counters)
+    let transition = after_taking(start, stage, errors, &step, level);
+    make(&transition, state, counters)
 }
 
 /// A turn of a node that sends a frame. If it loses arbitration it reads on: what it drove so far is what it has read.
 #[inline(never)]
-fn turn_sending(
+fn transition_sending(
     state: &mut State,
     counters: &mut Counters,
     reader: &mut Reader,
@@ -269,22 +271,22 @@ fn turn_sending(
     place: u8,
     level: bool,
 ) -> Outcome
-    ensures { (now : ℕ) → Steps (State.Sending start place) counters.old reader.old spelling.now now level
+    ensures { (now : ℕ) → Steps (State.Transmitting start place) counters.old reader.old spelling.now now level
         result state.new counters.new reader.new }
 {
     let errors = counters.state();
-    let turn = after_sending(start, place, spelling, errors, level);
-    if is_taking(turn.state) {
+    let transition = after_sending(start, place, spelling, errors, level);
+    if is_taking(transition.state) {
         read_behind(reader, spelling.before(place), level);
-        return make(&turn, state, counters);
+        return make(&transition, state, counters);
     }
-    make(&turn, state, counters)
+    make(&transition, state, counters)
 }
 
 /// A turn of a node that neither reads nor sends a frame. Most only count on in a flag, a delimiter or the
 /// intermission.
 #[inline(never)]
-fn turn_outside(
+fn transition_outside(
     state: &mut State,
     counters: &mut Counters,
     reader: &mut Reader,
@@ -298,19 +300,19 @@ fn turn_outside(
         return Outcome::Nothing;
     }
     let errors = counters.state();
-    let turn = turn_of(*state, now, errors, level);
-    if is_taking(turn.state) {
+    let transition = transition_of(*state, now, errors, level);
+    if is_taking(transition.state) {
         *reader = reader_after_sof();
-        return make(&turn, state, counters);
+        return make(&transition, state, counters);
     }
-    make(&turn, state, counters)
+    make(&transition, state, counters)
 }
 
 /// One bit of a node, at which it samples this level: what it brings to an end. If a frame is read, its reader is
 /// pushed that level. A sender reads only once it has lost arbitration: up to there it samples what it drives.
 ///
 /// Most bits of a bus make no turn. They end here, and the calls for the others stay calls, so that these bits
-/// pay for no `Turn`.
+/// pay for no `Transition`.
 #[inline(always)]
 pub(crate) fn advance(
     state: &mut State,
@@ -323,30 +325,30 @@ pub(crate) fn advance(
     ensures { Steps state.old counters.old reader.old spelling.now now level result state.new counters.new reader.new }
 {
     match *state {
-        State::Taking(start, may_begin, stage) => {
+        State::Receiving(start, may_begin, stage) => {
             let step = reader.push(level);
-            if is_steady(may_begin, stage, &step) {
+            if stays_in_region(may_begin, stage, &step) {
                 return Outcome::Nothing;
             }
-            turn_taking(state, counters, start, stage, step, level)
+            transition_receiving(state, counters, start, stage, step, level)
         }
-        State::Sending(start, place) => {
+        State::Transmitting(start, place) => {
             if spelling.is_echo(place, level) {
-                *state = State::Sending(start, place.saturating_add(1));
+                *state = State::Transmitting(start, place.saturating_add(1));
                 return Outcome::Nothing;
             }
-            turn_sending(state, counters, reader, spelling, start, place, level)
+            transition_sending(state, counters, reader, spelling, start, place, level)
         }
-        State::Idling if level => Outcome::Nothing,
-        State::Recovering(runs, _) if !level => {
-            *state = State::Recovering(runs, 0);
+        State::BusIdle if level => Outcome::Nothing,
+        State::BusOffRecovery(runs, _) if !level => {
+            *state = State::BusOffRecovery(runs, 0);
             Outcome::Nothing
         }
-        State::Recovering(runs, ones) if ones < 10 => {
-            *state = State::Recovering(runs, ones + 1);
+        State::BusOffRecovery(runs, ones) if ones < 10 => {
+            *state = State::BusOffRecovery(runs, ones + 1);
             Outcome::Nothing
         }
-        _ => turn_outside(state, counters, reader, now, level),
+        _ => transition_outside(state, counters, reader, now, level),
     }
 }
 
@@ -355,8 +357,8 @@ pub(crate) fn advance(
 pub(crate) fn begin(state: State, now: u64) -> State
     ensures { Begins state now result }
 {
-    if let State::Taking(start, _, _) = state {
-        return State::Sending(start, 1);
+    if let State::Receiving(start, _, _) = state {
+        return State::Transmitting(start, 1);
     }
-    State::Sending(now, 0)
+    State::Transmitting(now, 0)
 }

@@ -4,23 +4,23 @@ ghost use Rattle.std.specs.Prelude.{◌≡◌, ℕ, ◌+◌, ◌<◌, ◌≤◌,
 ghost use Rattle.std.specs.Prelude.{length, min, take};
 ghost use Rattle.can_confinement.specs.Counters.{StandsAfter as CountersStandAfter, counts_of};
 ghost use Rattle.can_node.specs.Histories.{Past, no_past, IsHistory};
-ghost use Rattle.can_node.specs.Listener.{AllHear, Receives, StandsWith};
+ghost use Rattle.can_node.specs.SharedReceiver.{AllHear, Receives, Matches};
 ghost use Rattle.can_node.specs.Machine.{IsMade, is_taking};
-ghost use Rattle.can_node.specs.Listener.{caught_up, listener_of, listens_in, taken_up};
-ghost use Rattle.can_node.specs.declared.listener.Listener.{Listener as ListenerValue};
+ghost use Rattle.can_node.specs.SharedReceiver.{materialized, shared_receiver_of, listens_in, taken_up};
+ghost use Rattle.can_node.specs.declared.shared_receiver.SharedReceiver.{SharedReceiver as SharedReceiverValue};
 ghost use Rattle.can_confinement.specs.KnownCounts.{Knows, known_of};
 ghost use Rattle.can_node.specs.PlainBits.{EndsOut, GoesOn, GoesOnBy, MayGoOn, MayGoOnBy, count_ahead};
 ghost use Rattle.can_node.specs.Node.{StandsAfter, IsSample, IsWanting, IsSending, bit_of, counters_in};
 ghost use Rattle.can_node.specs.Node.{driven_by, may_begin, sends_from, with_begin};
 
-use crate::listener::Listener;
 use crate::machine::{
     advance, begin, is_in_region, is_taking, level_in, listens, make, may_start, sof_of,
 };
 use crate::outcome::Outcome;
 use crate::plain_bits::{go_plainly, is_plain};
+use crate::shared_receiver::SharedReceiver;
 use crate::shared_sample::HeardLevel;
-use crate::state::{State, Turn};
+use crate::state::{State, Transition};
 use crate::stays::{count_out, go_out};
 use can_confinement::{Counters, ErrorEvent, KnownCounts};
 use can_frame::{Frame, Reader, Spelled};
@@ -33,7 +33,7 @@ use can_frame::{Frame, Reader, Spelled};
 #[derive(Drop)]
 pub struct Node {
     state: State,
-    // of the frame that is read; without use else
+    // of the frame that is being received; otherwise it means nothing
     reader: Reader,
     // of the frame that is sent; else that of the last, which may be begun again
     spelling: Spelled,
@@ -49,7 +49,7 @@ impl Node {
         ensures bit { bit_of result ≡ from_bit }
     {
         Node {
-            state: State::Syncing(0),
+            state: State::Integrating(0),
             reader: Reader::new(),
             spelling: Spelled::empty(),
             counters: Counters::new(),
@@ -98,80 +98,80 @@ impl Node {
     }
 
     /// One that has come as far as this node, and may follow the line for it and others.
-    pub fn listener(&self) -> Listener
-        ensures { result ≡ listener_of self.now }
+    pub fn shared_receiver(&self) -> SharedReceiver
+        ensures { result ≡ shared_receiver_of self.now }
     {
-        Listener {
+        SharedReceiver {
             state: self.state,
             reader: self.reader.copy(),
         }
     }
 
     /// That listener comes as far as this node, and may follow the line for it and others.
-    pub fn lead(&self, listener: &mut Listener)
-        ensures { listener.new ≡ listener_of self.now }
+    pub fn copy_to(&self, shared_receiver: &mut SharedReceiver)
+        ensures { shared_receiver.new ≡ shared_receiver_of self.now }
     {
-        listener.state = self.state;
-        listener.reader.copy_from(&self.reader);
+        shared_receiver.state = self.state;
+        shared_receiver.reader.copy_from(&self.reader);
     }
 
     /// Whether the node has come as far as this listener, so that it may stand for it. It tells so of none that sends
     /// a frame.
-    pub fn stands_with(&self, listener: &Listener) -> bool
-        ensures { result ≡ true → StandsWith self.now listener.now }
+    pub fn matches(&self, shared_receiver: &SharedReceiver) -> bool
+        ensures { result ≡ true → Matches self.now shared_receiver.now }
     {
-        if self.state != listener.state {
+        if self.state != shared_receiver.state {
             return false;
         }
         match self.state {
-            State::Sending(_, _) => false,
-            State::Taking(_, _, _) => self.reader.reads_as(&listener.reader),
+            State::Transmitting(_, _) => false,
+            State::Receiving(_, _, _) => self.reader.reads_as(&shared_receiver.reader),
             _ => true,
         }
     }
 
     /// The node, for which this listener stood, catches up with it: its next bit is that of this number.
-    pub fn catch_up(&mut self, listener: &Listener, bit: u64)
-        ensures { self.new ≡ caught_up self.old listener.now bit }
+    pub fn materialize(&mut self, shared_receiver: &SharedReceiver, bit: u64)
+        ensures { self.new ≡ materialized self.old shared_receiver.now bit }
     {
-        self.state = listener.state;
-        self.reader.copy_from(&listener.reader);
+        self.state = shared_receiver.state;
+        self.reader.copy_from(&shared_receiver.reader);
         self.clock = bit;
     }
 
-    /// The node, for which a listener stood, has taken a frame at this bit (`Listener::takes`): its next one is the
-    /// last bit of EOF.
+    /// The node, for which a listener stood, has taken a frame at this bit (`SharedReceiver::takes`): its next one is
+    /// the last bit of EOF.
     pub fn take_up(&mut self, bit: u64)
         requires { bit < u64.MAX }
         ensures { self.new ≡ taken_up self.old bit }
     {
-        self.state = State::Closing;
+        self.state = State::LastEofBit;
         self.clock = bit + 1;
     }
 
     /// The node, for which a listener stood up to this bit, samples this level of a frame that it reads as each does
-    /// for which that stands (`Listener::hears`): what `catch_up` and `sample` do, in one step. It tells what this bit
-    /// brings to an end.
+    /// for which that stands (`SharedReceiver::hears`): what `materialize` and `sample` do, in one step. It tells what
+    /// this bit brings to an end.
     pub fn hear(&mut self, heard: &HeardLevel, bit: u64, level: bool) -> Outcome
         requires { bit < u64.MAX }
         ensures bit { bit_of self.new ≡ bit + 1 }
-        ensures samples { (listener : ListenerValue) → AllHear listener level heard.now
-            → IsSample (caught_up self.old listener bit) level result self.new }
+        ensures samples { (shared_receiver : SharedReceiverValue) → AllHear shared_receiver level heard.now
+            → IsSample (materialized self.old shared_receiver bit) level result self.new }
         ensures history { (past : Past) → StandsAfter self.new past → IsHistory past }
     {
         self.clock = bit + 1;
         // by reference: a turn that is put together anew is waited for where it is read next
-        match &heard.turn {
-            Some(turn) => self.take_turn(turn, &heard.reader),
+        match &heard.transition {
+            Some(transition) => self.apply_transition(transition, &heard.reader),
             None => {
-                let turn = heard.turn_in(self.counters.state(), level);
-                self.take_turn(&turn, &heard.reader)
+                let transition = heard.transition_in(self.counters.state(), level);
+                self.apply_transition(&transition, &heard.reader)
             }
         }
     }
 
     /// The node counts that it received a frame, and all else of it is as it was: so does each for which a listener
-    /// stood at the ACK slot (`Listener::acknowledge`; Bosch CAN Specification 2.0, part B, 8 FAULT CONFINEMENT).
+    /// stood at the ACK slot (`SharedReceiver::acknowledge`; Bosch CAN Specification 2.0, part B, 8 FAULT CONFINEMENT).
     #[inline(always)]
     pub fn receive(&mut self)
         ensures { Receives self.old self.new }
@@ -180,17 +180,17 @@ impl Node {
     }
 
     /// Makes this turn of a node that reads a frame, the reader of which is the same as that one then.
-    fn take_turn(&mut self, turn: &Turn, reader: &Reader) -> Outcome
-        ensures made { IsMade turn.now self.old.counters self.new.counters self.new.state result }
-        ensures reader { is_taking turn.now.state ≡ true → self.new.reader ≡ reader.now }
+    fn apply_transition(&mut self, transition: &Transition, reader: &Reader) -> Outcome
+        ensures made { IsMade transition.now self.old.counters self.new.counters self.new.state result }
+        ensures reader { is_taking transition.now.state ≡ true → self.new.reader ≡ reader.now }
         ensures spelling { self.new.spelling ≡ self.old.spelling }
         ensures clock { self.new.clock ≡ self.old.clock }
     {
         // else it has done its work
-        if is_taking(turn.state) {
+        if is_taking(transition.state) {
             self.reader.copy_from(reader);
         }
-        make(turn, &mut self.state, &mut self.counters)
+        make(transition, &mut self.state, &mut self.counters)
     }
 
     /// The node begins to send this frame at the next bit: with its SOF where the bus is idle, and with its
@@ -255,7 +255,7 @@ impl Node {
         ensures all { (past : Past) → StandsAfter self.now past → MayGoOn level self.now → result ≡ true }
     {
         match self.state {
-            State::Sending(_, place) => self.spelling.spelling().goes_on(place, level),
+            State::Transmitting(_, place) => self.spelling.spelling().goes_on(place, level),
             state if is_in_region(state) => self.reader.would_read_on(level),
             state => is_plain(state, level),
         }
@@ -270,7 +270,7 @@ impl Node {
     {
         let bit = self.clock;
         self.clock = bit + 1;
-        if let State::Sending(_start, sent) = &mut self.state {
+        if let State::Transmitting(_start, sent) = &mut self.state {
             *sent = sent.saturating_add(1);
             return;
         }
@@ -289,7 +289,7 @@ impl Node {
         ensures all { length result.now ≡ min most (count_ahead self.now) }
     {
         match self.state {
-            State::Sending(_, place) => self.spelling.spelling().ahead(place, most),
+            State::Transmitting(_, place) => self.spelling.spelling().ahead(place, most),
             _ => &[],
         }
     }
@@ -320,7 +320,7 @@ impl Node {
             → GoesOnBy is_sender self.old levels.now self.new }
     {
         self.clock += levels.len() as u64;
-        if let State::Sending(_start, place) = &mut self.state {
+        if let State::Transmitting(_start, place) = &mut self.state {
             *place = place.saturating_add(levels.len() as u8);
             return;
         }

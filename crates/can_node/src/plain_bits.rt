@@ -1,5 +1,4 @@
-//! Bits at which a node goes on that neither reads nor sends a frame: nothing begins, nothing is told and nothing
-//! counted.
+//! Uneventful bits of a node that neither receives nor sends a frame: nothing begins, nothing is reported, nothing counted.
 
 ghost use Rattle.std.specs.Prelude.{◌≡◌, ℕ, Bool, true, false};
 ghost use Rattle.can_confinement.specs.declared.confinement.Role.{Role as RoleValue};
@@ -7,13 +6,13 @@ ghost use Rattle.can_confinement.specs.declared.counters.Counters.{Counters as C
 ghost use Rattle.can_node.specs.PlainBits.{LeavesPlainly, is_plain, out_behind, overlooks, stays_out};
 ghost use Rattle.can_node.specs.Machine.{is_sending};
 
-use crate::machine::{is_receiver, turn_of};
+use crate::machine::{is_receiver, transition_of};
 use crate::state::State;
-use crate::turns::behind_passive_flag;
+use crate::transitions::behind_passive_flag;
 use can_confinement::{Counters, Role};
 
-/// Whether a dominant sample behind a flag counts nothing: it is not the first behind a receiver's, nor the last of so
-/// many that are counted together.
+/// Returns whether a dominant sample behind a flag counts nothing: it is not the first one behind a receiver's flag,
+/// nor the last of a run that is counted.
 #[inline(always)]
 fn overlooks(role: Role, until: u8, first: bool) -> bool
     ensures { result ≡ overlooks role until first }
@@ -21,32 +20,33 @@ fn overlooks(role: Role, until: u8, first: bool) -> bool
     until >= 2 && !(first && is_receiver(role))
 }
 
-/// Whether nothing begins, is told or counted with this level in this state, in which no frame is read or sent.
+/// Returns whether nothing begins, is reported or is counted with this level in this state, in which no frame is
+/// received or sent.
 #[inline(always)]
 pub(crate) fn is_plain(state: State, level: bool) -> bool
     ensures { result ≡ is_plain level state }
 {
     match state {
-        State::Recovering(runs, ones) => ones <= 9 || !level || runs <= 126,
-        State::PassiveFlagging(_, owes, _, _) => level || !owes,
-        State::Flagging(_, _, _, _) => !level,
-        State::Waiting(_, role, until, first) => level || overlooks(role, until, first),
-        State::Delimiting(_, _) => level,
-        State::Resting(_, _) => level,
-        State::Suspending(_) => level,
+        State::BusOffRecovery(runs, ones) => ones <= 9 || !level || runs <= 126,
+        State::PassiveErrorFlag(_, owes, _, _) => level || !owes,
+        State::DominantFlag(_, _, _, _) => !level,
+        State::AwaitingDelimiter(_, role, until, first) => level || overlooks(role, until, first),
+        State::InDelimiter(_, _) => level,
+        State::InIntermission(_, _) => level,
+        State::SuspendTransmission(_) => level,
         _ => false,
     }
 }
 
-/// Counts a dominant level of a flag that drives dominant, or one behind it that counts no error and is not the first,
-/// and tells whether it did. Where the flag ends with this bit, and elsewhere, nothing is changed.
+/// Counts a dominant level of an active error flag or overload flag, or one behind it that counts no error and is not
+/// the first. Returns whether it did; where the flag ends with this bit, and elsewhere, nothing is changed.
 fn flag_on(state: &mut State) -> bool
     ensures counted { result ≡ true → (counters : CountersValue) (now : ℕ)
         → LeavesPlainly state.old counters now false state.new }
     ensures sends_none { result ≡ true → is_sending state.new ≡ false }
     ensures other { result ≡ false → state.new ≡ state.old }
 {
-    if let State::Flagging(_kind, _role, sent, until) = state {
+    if let State::DominantFlag(_kind, _role, sent, until) = state {
         if *sent < 5 {
             *sent += 1;
             *until = until.saturating_sub(1);
@@ -55,7 +55,7 @@ fn flag_on(state: &mut State) -> bool
         return false;
     }
     // where it waits for the flags of others to end
-    if let State::Waiting(_kind, _role, until, first) = state {
+    if let State::AwaitingDelimiter(_kind, _role, until, first) = state {
         if !*first && *until >= 2 {
             *until -= 1;
             return true;
@@ -64,29 +64,29 @@ fn flag_on(state: &mut State) -> bool
     false
 }
 
-/// Whether a node in this state stays in it with a recessive level, or goes on to what it waits for next (`stay_on`).
+/// Returns whether a node in this state continues to wait with a recessive level (`stay_on`).
 #[inline(always)]
 pub(crate) fn waits_on(state: State) -> bool
     ensures { result ≡ stays_out true state }
 {
     match state {
-        State::Recovering(runs, ones) => ones <= 9 || runs <= 126,
-        State::PassiveFlagging(_, _, ones, _) => ones <= 4,
-        State::Waiting(_, _, _, _) => true,
-        State::Delimiting(_, _) => true,
-        State::Resting(role, ones) => ones <= 1 || is_receiver(role),
-        State::Suspending(_) => true,
+        State::BusOffRecovery(runs, ones) => ones <= 9 || runs <= 126,
+        State::PassiveErrorFlag(_, _, ones, _) => ones <= 4,
+        State::AwaitingDelimiter(_, _, _, _) => true,
+        State::InDelimiter(_, _) => true,
+        State::InIntermission(role, ones) => ones <= 1 || is_receiver(role),
+        State::SuspendTransmission(_) => true,
         _ => false,
     }
 }
 
-/// Counts this level in bus off, and tells whether it did: not where that ends the last of 128 runs of eleven recessive
+/// Counts this level in bus off. Returns whether it did: not where it ends the last of 128 runs of eleven recessive
 /// levels.
 #[inline(always)]
 fn stay_off(runs: &mut u8, ones: &mut u8, level: bool) -> bool
-    ensures stays { result ≡ true → (stays_out level (State.Recovering runs.old ones.old) ≡ true)
-        × (State.Recovering runs.new ones.new ≡ out_behind (State.Recovering runs.old ones.old) level) }
-    ensures ends { result ≡ false → stays_out level (State.Recovering runs.old ones.old) ≡ false }
+    ensures stays { result ≡ true → (stays_out level (State.BusOffRecovery runs.old ones.old) ≡ true)
+        × (State.BusOffRecovery runs.new ones.new ≡ out_behind (State.BusOffRecovery runs.old ones.old) level) }
+    ensures ends { result ≡ false → stays_out level (State.BusOffRecovery runs.old ones.old) ≡ false }
     ensures other { result ≡ false → (runs.new ≡ runs.old) × (ones.new ≡ ones.old) }
 {
     if !level {
@@ -105,63 +105,63 @@ fn stay_off(runs: &mut u8, ones: &mut u8, level: bool) -> bool
     false
 }
 
-/// Goes on with a recessive level where it waits for the end of the flags of others, in a delimiter, in the
-/// intermission or in suspend transmission (`out_behind`), in place: whether it does. Elsewhere nothing is changed.
+/// Continues in place with a recessive level, behind a flag, in a delimiter, in the intermission or in suspend
+/// transmission (`out_behind`). Returns whether it did; elsewhere nothing is changed.
 #[inline(always)]
 fn wait_on(state: &mut State) -> bool
-    requires not_off { (runs ones : ℕ) → state.old ≡ State.Recovering runs ones → ⊥ }
+    requires not_off { (runs ones : ℕ) → state.old ≡ State.BusOffRecovery runs ones → ⊥ }
     requires no_flag { (role : RoleValue) (owes : Bool) (ones zeros : ℕ)
-        → state.old ≡ State.PassiveFlagging role owes ones zeros → ⊥ }
+        → state.old ≡ State.PassiveErrorFlag role owes ones zeros → ⊥ }
     ensures stays { result ≡ true → (stays_out true state.old ≡ true) × (state.new ≡ out_behind state.old true) }
     ensures ends { result ≡ false → stays_out true state.old ≡ false }
     ensures other { result ≡ false → state.new ≡ state.old }
 {
-    if let State::Delimiting(role, ones) = state {
+    if let State::InDelimiter(role, ones) = state {
         if *ones <= 6 {
             *ones += 1;
             return true;
         }
-        *state = State::Resting(*role, 0);
+        *state = State::InIntermission(*role, 0);
         return true;
     }
-    if let State::Resting(role, ones) = state {
+    if let State::InIntermission(role, ones) = state {
         if *ones <= 1 {
             *ones += 1;
             return true;
         }
         if is_receiver(*role) {
-            *state = State::Idling;
+            *state = State::BusIdle;
             return true;
         }
         return false;
     }
-    if let State::Waiting(_kind, role, _until, _first) = state {
-        *state = State::Delimiting(*role, 1);
+    if let State::AwaitingDelimiter(_kind, role, _until, _first) = state {
+        *state = State::InDelimiter(*role, 1);
         return true;
     }
-    if let State::Suspending(ones) = state {
+    if let State::SuspendTransmission(ones) = state {
         if *ones <= 6 {
             *ones += 1;
             return true;
         }
-        *state = State::Idling;
+        *state = State::BusIdle;
         return true;
     }
     false
 }
 
-/// Goes on with this level in such a state, or in bus off or a passive error flag (`out_behind`), in place: whether it
-/// does. Elsewhere nothing is changed.
+/// Continues in place with this level in such a state, or in bus off or a passive error flag (`out_behind`). Returns
+/// whether it did; elsewhere nothing is changed.
 #[inline(always)]
 pub(crate) fn stay_on(state: &mut State, level: bool) -> bool
     ensures stays { result ≡ true → (stays_out level state.old ≡ true) × (state.new ≡ out_behind state.old level) }
     ensures ends { result ≡ false → stays_out level state.old ≡ false }
     ensures other { result ≡ false → state.new ≡ state.old }
 {
-    if let State::Recovering(runs, ones) = state {
+    if let State::BusOffRecovery(runs, ones) = state {
         return stay_off(runs, ones, level);
     }
-    if let State::PassiveFlagging(_role, owes, ones, zeros) = state {
+    if let State::PassiveErrorFlag(_role, owes, ones, zeros) = state {
         if level && *ones <= 4 {
             *ones += 1;
             *zeros = 0;
@@ -180,8 +180,9 @@ pub(crate) fn stay_on(state: &mut State, level: bool) -> bool
     wait_on(state)
 }
 
-/// Goes on with this level in bus off, in a passive error flag or in what it waits for (`stay_on`), or counts a
-/// dominant one of a flag that drives dominant or behind it, and tells whether it did. Elsewhere nothing is changed.
+/// Continues with this level in bus off, in a passive error flag or in what the node waits for (`stay_on`), or counts a
+/// dominant level of an active error flag or overload flag or behind it. Returns whether it did; elsewhere nothing is
+/// changed.
 pub(crate) fn count_on(state: &mut State, level: bool) -> bool
     ensures counted { result ≡ true → (counters : CountersValue) (now : ℕ)
         → LeavesPlainly state.old counters now level state.new }
@@ -198,7 +199,7 @@ pub(crate) fn count_on(state: &mut State, level: bool) -> bool
     flag_on(state)
 }
 
-/// One bit of a node in such a state, at which it samples this level.
+/// Simulates one uneventful bit of a node in such a state, at which it samples this level.
 #[inline(always)]
 pub(crate) fn go_plainly(state: &mut State, counters: &Counters, now: u64, level: bool)
     ensures { is_plain level state.old ≡ true → LeavesPlainly state.old counters.now now level state.new }
@@ -207,9 +208,9 @@ pub(crate) fn go_plainly(state: &mut State, counters: &Counters, now: u64, level
         return;
     }
     *state = match *state {
-        State::PassiveFlagging(role, owes, ones, zeros) => {
+        State::PassiveErrorFlag(role, owes, ones, zeros) => {
             behind_passive_flag(role, owes, ones, zeros, level)
         }
-        other => turn_of(other, now, counters.state(), level).state,
+        other => transition_of(other, now, counters.state(), level).state,
     };
 }

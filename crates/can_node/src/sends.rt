@@ -11,14 +11,14 @@ ghost use Rattle.can_frame.specs.declared.spelling.Spelling.{Spelling};
 
 use crate::flag::FlagKind;
 use crate::outcome::{ErrorKind, Outcome};
-use crate::state::{Stage, State, Turn};
-use crate::turns::{error_flag, plain};
+use crate::state::{Stage, State, Transition};
+use crate::transitions::{error_flag, plain};
 use can_confinement::{ErrorEvent, ErrorState, Role};
 use can_frame::{SendBit, Spelling};
 
 /// Nobody acknowledged the frame. A node that is error passive owes the error until it samples a dominant
 /// level in its flag.
-fn unacknowledged(errors: ErrorState) -> Turn
+fn unacknowledged(errors: ErrorState) -> Transition
     ensures flags { (text : List Bool) (later : ℕ)
         → Agrees result.state text later (flag_of errors (SenderError ∷ []) Sender) [] [] }
     ensures event { listed result.event ≡ ack_events errors }
@@ -28,18 +28,18 @@ fn unacknowledged(errors: ErrorState) -> Turn
     let outcome = Outcome::Errored(ErrorKind::Ack);
     let owed = None;
     match errors {
-        ErrorState::Active => Turn {
-            state: State::Flagging(FlagKind::ActiveError, Role::Sender, 0, 14),
+        ErrorState::Active => Transition {
+            state: State::DominantFlag(FlagKind::ActiveError, Role::Sender, 0, 14),
             event: Some(ErrorEvent::SenderError),
             outcome,
         },
-        ErrorState::Passive => Turn {
-            state: State::PassiveFlagging(Role::Sender, true, 0, 0),
+        ErrorState::Passive => Transition {
+            state: State::PassiveErrorFlag(Role::Sender, true, 0, 0),
             event: owed,
             outcome,
         },
-        ErrorState::Off => Turn {
-            state: State::Recovering(0, 0),
+        ErrorState::Off => Transition {
+            state: State::BusOffRecovery(0, 0),
             event: None,
             outcome,
         },
@@ -47,10 +47,10 @@ fn unacknowledged(errors: ErrorState) -> Turn
 }
 
 /// The bit differs from the bus, and neither arbitration nor stuffing explains it.
-fn bit_error(errors: ErrorState) -> Turn
+fn bit_error(errors: ErrorState) -> Transition
     ensures { Signals result (flag_of errors [] Sender) (Some SenderError) ErrorKind.Bit }
 {
-    Turn {
+    Transition {
         state: error_flag(Role::Sender, errors),
         event: Some(ErrorEvent::SenderError),
         outcome: Outcome::Errored(ErrorKind::Bit),
@@ -58,18 +58,18 @@ fn bit_error(errors: ErrorState) -> Turn
 }
 
 /// A recessive bit is dominant on the bus.
-fn overruled(start: u64, bit: SendBit, errors: ErrorState) -> Turn
+fn overruled(start: u64, bit: SendBit, errors: ErrorState) -> Transition
     ensures goes { (place : ℕ) (spelling : Spelling) → IsBitAt bit spelling place → level_at spelling place ≡ true
         → (place + 9 ≡ length spelling.levels.items → ⊥) → GoesSending start place spelling errors false result }
     ensures lost { is_taking result.state ≡ true → bit ≡ SendBit.Arbitration }
 {
     match bit {
-        SendBit::Arbitration => Turn {
-            state: State::Taking(start, false, Stage::Region),
+        SendBit::Arbitration => Transition {
+            state: State::Receiving(start, false, Stage::Region),
             event: None,
             outcome: Outcome::Lost,
         },
-        SendBit::ArbitrationStuffBit => Turn {
+        SendBit::ArbitrationStuffBit => Transition {
             state: error_flag(Role::Sender, errors),
             event: None,
             outcome: Outcome::Errored(ErrorKind::Stuff),
@@ -86,7 +86,7 @@ pub(crate) fn after_sending(
     spelling: &Spelling,
     errors: ErrorState,
     level: bool,
-) -> Turn
+) -> Transition
     ensures goes { GoesSending start place spelling.now errors level result }
     ensures lost { is_taking result.state ≡ true → LosesAt place spelling.now }
 {
@@ -94,18 +94,18 @@ pub(crate) fn after_sending(
         if level {
             return unacknowledged(errors);
         }
-        return plain(State::Sending(start, place.saturating_add(1)));
+        return plain(State::Transmitting(start, place.saturating_add(1)));
     }
     let driven = spelling.level(place);
     if level == driven {
         if spelling.is_last(place) {
-            return Turn {
-                state: State::Resting(Role::Sender, 0),
+            return Transition {
+                state: State::InIntermission(Role::Sender, 0),
                 event: Some(ErrorEvent::Sent),
                 outcome: Outcome::Completed,
             };
         }
-        return plain(State::Sending(start, place.saturating_add(1)));
+        return plain(State::Transmitting(start, place.saturating_add(1)));
     }
     if driven {
         return overruled(start, spelling.bit(place), errors);

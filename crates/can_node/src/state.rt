@@ -1,4 +1,4 @@
-//! What a node keeps from one bit to the next, and what a bit makes of it.
+//! The state of a node's bit machine, and its transitions.
 
 ghost use Rattle.std.specs.Prelude.{◌≡◌};
 ghost use Rattle.can_node.specs.Machine.{is_own_slot};
@@ -7,12 +7,12 @@ use crate::flag::FlagKind;
 use crate::outcome::Outcome;
 use can_confinement::{ErrorEvent, Role};
 
-/// Where the next level stands in a frame that is read.
+/// Where the next level stands in a frame that is received.
 #[derive(Clone, Copy, PartialEq, Eq)]
 pub(crate) enum Stage {
     /// In the stuffed region.
     Region,
-    /// Right behind the region: whether its CRC is right.
+    /// Behind the stuffed region, in the CRC delimiter: whether the CRC is right.
     AfterRegion(bool),
     /// In the ACK slot: whether the CRC is right.
     Slot(bool),
@@ -21,7 +21,8 @@ pub(crate) enum Stage {
 }
 
 impl Stage {
-    /// Whether the next level is that of the ACK slot of a frame whose CRC is right.
+    /// Returns whether the next level is that of the ACK slot of a frame whose CRC is right, which a receiver drives
+    /// dominant.
     pub(crate) fn is_own_slot(self) -> bool
         ensures { result ≡ is_own_slot self }
     {
@@ -32,42 +33,42 @@ impl Stage {
     }
 }
 
-/// How far a node has come in its episode.
+/// How far a node has come in the current episode of its history.
 #[derive(Clone, Copy, PartialEq, Eq)]
 pub(crate) enum State {
-    /// Switched on, with so many recessive levels in a row, fewer than eleven.
-    Syncing(u8),
-    /// The bus is free.
-    Idling,
-    /// Reading a frame: the number of its SOF, whether the node may begin to send instead, and where the next
+    /// Switched on, and waiting for eleven recessive levels in a row: how many it has sampled, fewer than eleven.
+    Integrating(u8),
+    /// The bus is idle.
+    BusIdle,
+    /// Receiving a frame: the number of its SOF bit, whether the node may begin to send instead, and where the next
     /// level stands.
-    Taking(u64, bool, Stage),
-    /// Sending a frame: the number of its SOF, and the place of the next level in its spelling.
-    Sending(u64, u8),
-    /// At the last bit of EOF of a frame that was taken.
-    Closing,
-    /// In a flag that drives dominant: how many of its bits were sent, fewer than six, and how many more
-    /// dominant samples in a row count.
-    Flagging(FlagKind, Role, u8, u8),
-    /// In a passive error flag: whether its first dominant sample counts an error, and how many recessive and
-    /// how many dominant samples stand at its end in a row.
-    PassiveFlagging(Role, bool, u8, u8),
-    /// Behind a flag, before the first recessive sample: how many more dominant ones count, and whether
-    /// none came yet.
-    Waiting(FlagKind, Role, u8, bool),
-    /// In a delimiter, with so many recessive samples, one to seven.
-    Delimiting(Role, u8),
-    /// In the intermission, with so many recessive samples, fewer than three.
-    Resting(Role, u8),
-    /// In an error-passive sender's wait, with so many recessive samples, fewer than eight.
-    Suspending(u8),
-    /// In bus off, with so many whole runs of eleven recessive samples and so many samples of the next.
-    Recovering(u8, u8),
+    Receiving(u64, bool, Stage),
+    /// Transmitting a frame: the number of its SOF bit, and the index of the next level in its wire image.
+    Transmitting(u64, u8),
+    /// At the last bit of EOF of a frame that was received.
+    LastEofBit,
+    /// In an active error flag or an overload flag: how many of its bits were sent, fewer than six, and after how many
+    /// more dominant samples in a row an error is counted.
+    DominantFlag(FlagKind, Role, u8, u8),
+    /// In a passive error flag: whether its first dominant sample counts an error, and how many recessive and how many
+    /// dominant samples in a row came last.
+    PassiveErrorFlag(Role, bool, u8, u8),
+    /// Behind a flag, before the first recessive sample: after how many more dominant samples an error is counted, and
+    /// whether none came yet.
+    AwaitingDelimiter(FlagKind, Role, u8, bool),
+    /// In an error delimiter or an overload delimiter, after one to seven recessive samples.
+    InDelimiter(Role, u8),
+    /// In the intermission, after fewer than three recessive samples.
+    InIntermission(Role, u8),
+    /// In suspend transmission, after fewer than eight recessive samples.
+    SuspendTransmission(u8),
+    /// In bus off: how many whole runs of eleven recessive samples it has seen, and how many samples of the next run.
+    BusOffRecovery(u8, u8),
 }
 
-/// What one sampled level makes of a node, unless what it counts leads to bus off.
+/// What one sampled level makes of a node, unless the event leads to bus off.
 #[derive(Clone, Copy)]
-pub(crate) struct Turn {
+pub(crate) struct Transition {
     pub(crate) state: State,
     pub(crate) event: Option<ErrorEvent>,
     pub(crate) outcome: Outcome,

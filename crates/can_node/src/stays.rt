@@ -1,4 +1,4 @@
-//! With how many levels, one after another, a node stays out of frames, and where it is behind them.
+//! Many levels at once for a node that neither receives nor sends: how many it continues with, and its state after them.
 
 ghost use Rattle.std.specs.Prelude.{◌≡◌, ◌<◌, ◌≤◌, ◌+◌, ◌*◌, ℕ, true, false, length, not, take, if◌then◌else◌};
 ghost use Rattle.can_confinement.specs.declared.confinement.Role.{Role as RoleValue};
@@ -23,7 +23,7 @@ struct Runs {
     ones: u8,
 }
 
-/// A count of equal levels behind one more, which is such a one or not.
+/// Returns a count of equal levels after one more level: one more if `is_such`, else 0.
 #[inline(always)]
 fn counted(count: u8, is_such: bool) -> u8
     requires { is_such ≡ true → count < 255 }
@@ -32,8 +32,8 @@ fn counted(count: u8, is_such: bool) -> u8
     if is_such { count + 1 } else { 0 }
 }
 
-/// Whether a node in bus off surely stays there with so many levels, whatever they are: the last of 128 runs of eleven
-/// recessive ones is farther away.
+/// Returns true only if a node in bus off stays there with this many levels, whatever they are: the last of 128 runs of
+/// eleven recessive levels is farther away.
 #[inline(always)]
 fn is_far(runs: u8, ones: u8, levels: usize) -> bool
     ensures { result ≡ true → 11 * runs + ones + levels ≤ 1407 }
@@ -41,11 +41,12 @@ fn is_far(runs: u8, ones: u8, levels: usize) -> bool
     levels <= 1407 && 11 * usize::from(runs) + usize::from(ones) + levels <= 1407
 }
 
-/// Where a node is then behind these levels that is in bus off, with so many whole runs of eleven recessive levels and
-/// so many levels of the next.
+/// Returns the state after these levels of a node in bus off that has seen this many whole runs, and this many levels
+/// of the next.
 fn off_behind_all(runs: u8, ones: u8, levels: &[bool]) -> Runs
     requires { 11 * runs + ones + length levels.now ≤ 1407 }
-    ensures { State.Recovering result.whole result.ones ≡ out_behind_all (State.Recovering runs ones) levels.now }
+    ensures { State.BusOffRecovery result.whole result.ones
+        ≡ out_behind_all (State.BusOffRecovery runs ones) levels.now }
 {
     let mut whole = runs;
     let mut run = ones;
@@ -61,24 +62,24 @@ fn off_behind_all(runs: u8, ones: u8, levels: &[bool]) -> Runs
     Runs { whole, ones: run }
 }
 
-/// Whether this level ends a passive error flag that samples it, or is counted.
+/// Returns whether this level ends a passive error flag, or is counted.
 #[inline(always)]
 fn ends_flag(owes: bool, ones: u8, zeros: u8, level: bool) -> bool
     ensures stays { (role : RoleValue)
-        → result ≡ not (stays_out level (State.PassiveFlagging role owes ones zeros)) }
+        → result ≡ not (stays_out level (State.PassiveErrorFlag role owes ones zeros)) }
     ensures ones { result ≡ false → level ≡ true → ones ≤ 4 }
     ensures zeros { result ≡ false → level ≡ false → zeros ≤ 4 }
 {
-    // no branch on the level, which would be foretold wrongly
+    // no branch on the level, which would be mispredicted
     (level & (ones > 4)) | (!level & (owes | (zeros > 4)))
 }
 
-/// With how many of these levels a passive error flag goes on.
+/// Returns with how many of these levels a passive error flag continues, and how it ends then.
 fn stay_flagging(owes: bool, ones: u8, zeros: u8, levels: &[bool]) -> FlagStay
-    ensures by { (role : RoleValue) → StaysBy (State.PassiveFlagging role owes ones zeros) levels.now result.count
-        (State.PassiveFlagging role owes result.ones result.zeros) }
+    ensures by { (role : RoleValue) → StaysBy (State.PassiveErrorFlag role owes ones zeros) levels.now result.count
+        (State.PassiveErrorFlag role owes result.ones result.zeros) }
     ensures ends { (role : RoleValue)
-        → StaysNoLonger (State.PassiveFlagging role owes ones zeros) levels.now result.count }
+        → StaysNoLonger (State.PassiveErrorFlag role owes ones zeros) levels.now result.count }
 {
     let mut recessive = ones;
     let mut dominant = zeros;
@@ -100,7 +101,7 @@ fn stay_flagging(owes: bool, ones: u8, zeros: u8, levels: &[bool]) -> FlagStay
     }
 }
 
-/// With how many of these levels a node in this state stays so, bit by bit; it is where it is behind them.
+/// Continues with the first of these levels, bit by bit, and updates the state. Returns how many.
 fn stay_waiting(state: &mut State, levels: &[bool]) -> usize
     ensures by { StaysBy state.old levels.now result state.new }
     ensures ends { StaysNoLonger state.old levels.now result }
@@ -113,13 +114,14 @@ fn stay_waiting(state: &mut State, levels: &[bool]) -> usize
     levels.len()
 }
 
-/// So where passive error flags, which last long, have a loop of their own.
+/// Continues with the first of these levels and updates the state; passive error flags, which last long, have a loop of
+/// their own. Returns how many.
 pub(crate) fn stay_by(state: &mut State, levels: &[bool]) -> usize
     ensures by { StaysBy state.old levels.now result state.new }
     ensures ends { StaysNoLonger state.old levels.now result }
 {
-    // in place: a state that is put together anew is waited for where it is read next
-    if let State::PassiveFlagging(_role, owes, ones, zeros) = state {
+    // in place: a state that is written field by field and read back whole stalls on store forwarding
+    if let State::PassiveErrorFlag(_role, owes, ones, zeros) = state {
         let stay = stay_flagging(*owes, *ones, *zeros, levels);
         *ones = stay.ones;
         *zeros = stay.zeros;
@@ -128,15 +130,16 @@ pub(crate) fn stay_by(state: &mut State, levels: &[bool]) -> usize
     stay_waiting(state, levels)
 }
 
-/// How many of these levels those are. Bus off lasts long, and mostly it is seen at once that it goes on.
+/// Returns with how many of these levels a node in this state continues. Bus off lasts long, and mostly it is seen at
+/// once that it continues with all.
 pub(crate) fn count_out(state: &State, levels: &[bool]) -> usize
     ensures few { result ≤ length levels.now }
     ensures stays { StaysOut state.now (take result levels.now) }
     ensures ends { StaysNoLonger state.now levels.now result }
 {
     match *state {
-        State::Recovering(runs, ones) if is_far(runs, ones, levels.len()) => levels.len(),
-        State::PassiveFlagging(_, owes, ones, zeros) => {
+        State::BusOffRecovery(runs, ones) if is_far(runs, ones, levels.len()) => levels.len(),
+        State::PassiveErrorFlag(_, owes, ones, zeros) => {
             stay_flagging(owes, ones, zeros, levels).count
         }
         state => {
@@ -146,11 +149,11 @@ pub(crate) fn count_out(state: &State, levels: &[bool]) -> usize
     }
 }
 
-/// Goes on with these levels, with all of which it stays so.
+/// Continues with all of these levels, and updates the state.
 pub(crate) fn go_out(state: &mut State, levels: &[bool])
     ensures { StaysOut state.old levels.now → state.new ≡ out_behind_all state.old levels.now }
 {
-    if let State::Recovering(runs, ones) = state {
+    if let State::BusOffRecovery(runs, ones) = state {
         if is_far(*runs, *ones, levels.len()) {
             let behind = off_behind_all(*runs, *ones, levels);
             *runs = behind.whole;

@@ -1,8 +1,8 @@
-//! A frame that a node took.
+//! A frame that a node received.
 
 use can_frame::Frame;
 
-/// A frame that a node took.
+/// A frame that a node received.
 #[derive(Clone, Copy)]
 pub struct TakenFrame {
     /// The number of its SOF bit.

@@ -6,8 +6,8 @@ ghost use Rattle.can_node.specs.Machine.{GoesReading};
 ghost use Rattle.can_node.specs.Takes.{name_of};
 
 use crate::outcome::{ErrorKind, Outcome};
-use crate::state::{Stage, State, Turn};
-use crate::turns::{counted, error_flag, plain};
+use crate::state::{Stage, State, Transition};
+use crate::transitions::{counted, error_flag, plain};
 use can_confinement::{ErrorEvent, ErrorState, Role};
 use can_frame::{FaultKind, Step};
 
@@ -25,22 +25,22 @@ fn error_kind(kind: FaultKind) -> ErrorKind
 }
 
 /// A level behind the stuffed region with which the frame goes on.
-fn after_tail(start: u64, stage: Stage, level: bool) -> Turn
+fn after_tail(start: u64, stage: Stage, level: bool) -> Transition
     ensures { (errors : ErrorState) (may_start : Bool)
-        → GoesReading (State.Taking start may_start stage) errors Tail level result }
+        → GoesReading (State.Receiving start may_start stage) errors Tail level result }
 {
     match stage {
-        Stage::AfterRegion(right) => plain(State::Taking(start, false, Stage::Slot(right))),
+        Stage::AfterRegion(right) => plain(State::Receiving(start, false, Stage::Slot(right))),
         Stage::Slot(right) => {
-            let behind = State::Taking(start, false, Stage::AfterSlot);
+            let behind = State::Receiving(start, false, Stage::AfterSlot);
             if right {
                 return counted(behind, ErrorEvent::Received);
             }
             plain(behind)
         }
-        Stage::AfterSlot => plain(State::Taking(start, false, Stage::AfterSlot)),
+        Stage::AfterSlot => plain(State::Receiving(start, false, Stage::AfterSlot)),
         // the reader answers otherwise within the region
-        Stage::Region => plain(State::Taking(start, false, Stage::AfterSlot)),
+        Stage::Region => plain(State::Receiving(start, false, Stage::AfterSlot)),
     }
 }
 
@@ -51,22 +51,23 @@ pub(crate) fn after_taking(
     errors: ErrorState,
     step: &Step,
     level: bool,
-) -> Turn
-    ensures goes { (may_start : Bool) → GoesReading (State.Taking start may_start stage) errors step.now level result }
+) -> Transition
+    ensures goes { (may_start : Bool)
+        → GoesReading (State.Receiving start may_start stage) errors step.now level result }
     ensures alike { result.outcome ≡ Outcome.Nothing → (other : ErrorState) (may_start : Bool)
-        → GoesReading (State.Taking start may_start stage) other step.now level result }
+        → GoesReading (State.Receiving start may_start stage) other step.now level result }
 {
     match *step {
-        Step::More => plain(State::Taking(start, false, Stage::Region)),
-        Step::StuffBit => plain(State::Taking(start, false, Stage::Region)),
-        Step::Body(_, right) => plain(State::Taking(start, false, Stage::AfterRegion(right))),
+        Step::More => plain(State::Receiving(start, false, Stage::Region)),
+        Step::StuffBit => plain(State::Receiving(start, false, Stage::Region)),
+        Step::Body(_, right) => plain(State::Receiving(start, false, Stage::AfterRegion(right))),
         Step::Tail => after_tail(start, stage, level),
-        Step::Taken(frame) => Turn {
-            state: State::Closing,
+        Step::Taken(frame) => Transition {
+            state: State::LastEofBit,
             event: None,
             outcome: Outcome::Took { start, frame },
         },
-        Step::Fault(kind) => Turn {
+        Step::Fault(kind) => Transition {
             state: error_flag(Role::Receiver, errors),
             event: Some(ErrorEvent::ReceiverError),
             outcome: Outcome::Errored(error_kind(kind)),

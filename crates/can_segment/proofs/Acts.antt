@@ -11,18 +11,18 @@ use Rattle.can_station.specs.Lines.{told_start, told_outcome, told_reaped}
 use Rattle.can_segment.specs.Tells.{starts_of, rest_of}
 use Rattle.can_segment.specs.Runs.{IsAct, IsTalking, IsControlling, drives}
 use Rattle.can_station.specs.Members.{drives_at, StartsTalking, Samples, StartsRequest, SamplesAndSettles}
-use Rattle.can_station.specs.Deeds.{no_deed, begun_by}
+use Rattle.can_station.specs.Actions.{no_action, begun_by}
 use Rattle.can_segment.specs.Kept.{StandsBehind}
-use Rattle.can_segment.proofs.Deeds.{Done, stays_off}
+use Rattle.can_segment.proofs.Actions.{Done, stays_off}
 use Rattle.can_segment.proofs.Talks.{talked}
 use Rattle.can_segment.proofs.Controls.{controlled}
 
 -- what a node did at a bit is this act, and is told as such
 pub record Acted (Rules : Act → Type 0) (on k : ℕ) (trace : List Bit) (level : Bool) (mid after : Member)
     (act : Option Act) : Type 0 where
-  pub starts : starts_of act ≡ told_start (begun_by after.deed)
-  pub rest : rest_of (sending_of k trace) act ≡ told_outcome after.deed.sent after.deed.outcome
-      ++ told_reaped after.deed.reaped
+  pub starts : starts_of act ≡ told_start (begun_by after.action)
+  pub deferred : rest_of (sending_of k trace) act ≡ told_outcome after.action.sent after.action.outcome
+      ++ told_reaped after.action.reaped
   pub drives_is : drives act ≡ drives_at (length trace) mid
   pub stands : (bit : Bit) → act_of k bit ≡ act → StandsBehind on k (trace ++ bit ∷ []) after
   pub before : length trace < on → act ≡ None
@@ -39,10 +39,10 @@ pub acted_off : (Rules : Act → Type 0) (on k : ℕ) (trace : List Bit) (level 
     StandsBehind on k trace old → length trace < on → mid ≡ old → after ≡ old →
     Acted Rules on k trace level mid after None
 acted_off Rules on k trace level old mid after h early same_mid same_after =
-    let quiet : after.deed ≡ no_deed = ap (λ m. m.deed) same_after ∙ h.quiet (omega (arith, early)) in
+    let uneventful : after.action ≡ no_action = ap (λ m. m.action) same_after ∙ h.uneventful (omega (arith, early)) in
     record {
-      starts = ap (λ d. told_start (begun_by d)) (sym quiet);
-      rest = ap (λ d. told_outcome d.sent d.outcome ++ told_reaped d.reaped) (sym quiet);
+      starts = ap (λ d. told_start (begun_by d)) (sym uneventful);
+      deferred = ap (λ d. told_outcome d.sent d.outcome ++ told_reaped d.reaped) (sym uneventful);
       drives_is = sym (ap (λ b. cond b (driven_by mid.station.node) true)
           (is_off_now mid.on (length trace) (omega (arith, early, h.on_is, ap (λ m. m.on) same_mid))));
       stands = λ bit is. subst (StandsBehind on k (trace ++ bit ∷ [])) (sym same_after)
@@ -55,17 +55,17 @@ acted_off Rules on k trace level old mid after h early same_mid same_after =
 acted_on : (Rules : Act → Type 0) (on k : ℕ) (trace : List Bit) (level : Bool) (mid after : Member) →
     on ≤ length trace → mid.on ≡ on → (d : Done on k trace level mid after) →
     let act : Act = record {
-      begun = begun_by after.deed;
+      begun = begun_by after.action;
       driven = driven_by mid.station.node;
       sampled = level;
       event = d.event;
-      outcome = after.deed.outcome;
-      reaped = after.deed.reaped;
+      outcome = after.action.outcome;
+      reaped = after.action.reaped;
     } in
     IsAct (past_of on k trace) level act → Rules act → Acted Rules on k trace level mid after (Some act)
 acted_on Rules on k trace level mid after late on_is d is_act rules = record {
   starts = refl;
-  rest = ap (λ ts. ts ++ told_reaped after.deed.reaped) d.told;
+  deferred = ap (λ ts. ts ++ told_reaped after.action.reaped) d.told;
   drives_is = sym (ap (λ b. cond b (driven_by mid.station.node) true)
       (is_on_now mid.on (length trace) (omega (arith, late, on_is))));
   stands = d.stands;

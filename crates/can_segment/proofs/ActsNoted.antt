@@ -161,16 +161,16 @@ grows_along node past (bit ∷ trace) =
 split_at : {X : Type 0} (xs : List X) (k : ℕ) → (more : List X) × (xs ≡ take k xs ++ more)
 split_at xs zero = (xs, refl)
 split_at [] (suc k) = ([], refl)
-split_at (x ∷ xs) (suc k) = let rest = split_at xs k in (rest.0, ap (λ t. x ∷ t) rest.1)
+split_at (x ∷ xs) (suc k) = let more = split_at xs k in (more.0, ap (λ t. x ∷ t) more.1)
 
 pub prefix_grows : (on node : ℕ) (trace : List Bit) (k : ℕ) →
     GrowsTo (past_of on node (take k trace)) (past_of on node trace)
 prefix_grows on node trace k =
-    let rest = split_at trace k in
+    let deferred = split_at trace k in
     subst (GrowsTo (past_of on node (take k trace)))
-    (sym (ap (past_of on node) rest.1
-    ∙ fold-append (λ p bit. with_act p (act_of node bit)) (no_past on) (take k trace) rest.0))
-    (grows_along node (past_of on node (take k trace)) rest.0)
+    (sym (ap (past_of on node) deferred.1
+    ∙ fold-append (λ p bit. with_act p (act_of node bit)) (no_past on) (take k trace) deferred.0))
+    (grows_along node (past_of on node (take k trace)) deferred.0)
 
 -- what a node does at a bit of a trace
 pub record Does (plan : SegmentPlan) (node on : ℕ) (trace : List Bit) (b : ℕ) (act : Act) : Type 0 where

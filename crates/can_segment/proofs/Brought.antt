@@ -12,7 +12,7 @@ use Rattle.bx_core.specs.TxBus.{Item, BusPast, BusCall, IsUndone}
 use Rattle.can_station.specs.declared.event.Label.{Label}
 use Rattle.can_station.specs.declared.event.Told.{Told}
 use Rattle.can_station.specs.declared.event.Told.TheVariants as told
-use Rattle.can_station.specs.declared.member.Deed.{Deed}
+use Rattle.can_station.specs.declared.member.Action.{Action}
 use Rattle.can_station.specs.declared.member.Member.{Member}
 use Rattle.can_station.specs.declared.transmission.Transmission.{Transmission}
 use Rattle.can_station.specs.Lines.{told_start, told_outcome, told_reaped}
@@ -20,7 +20,7 @@ use Rattle.can_station.specs.Tellings.{start_of, rest_by}
 use Rattle.can_station.specs.Outcomes.{is_failure}
 use Rattle.can_station.specs.Ports.{item_of, item_with, Undone, started, completed, failed, settled, taken_by, Reaps}
 use Rattle.can_segment.specs.Brought.{StartsUndone, start_in, sent_in, reaped_in, taken_in, all_in, grown, IsBrought}
-use Rattle.can_station.specs.Deeds.{no_deed, begun_by}
+use Rattle.can_station.specs.Actions.{no_action, begun_by}
 use Rattle.can_station.specs.Members.{is_on, settled_at, taken_at}
 use Rattle.can_segment.specs.Moves.{PortMoves}
 use Rattle.std.proofs.lemmas.Bool.Decides.{leb_tells}
@@ -160,13 +160,13 @@ grown_settled past sending outcome None h =
 grown_settled past sending outcome (Some label) h = settles_reaped past sending outcome label h
 
 -- what a deed brings to the bus side is what is told of it
-pub brings : (past : BusPast) (begun : Option Transmission) (deed : Deed) →
-    IfSome deed.reaped (λ label. Reaps deed.sent deed.outcome label) →
-    grown past (told_start begun ++ rest_by deed) ≡ settled (started past (item_of begun))
-    (item_of deed.sent) deed.outcome deed.reaped
-brings past begun deed h =
-    grown-append past (told_start begun) (rest_by deed) ∙ ap (λ p. grown p (rest_by deed)) (grown_start past begun)
-    ∙ grown_settled (started past (item_of begun)) deed.sent deed.outcome deed.reaped h
+pub brings : (past : BusPast) (begun : Option Transmission) (action : Action) →
+    IfSome action.reaped (λ label. Reaps action.sent action.outcome label) →
+    grown past (told_start begun ++ rest_by action) ≡ settled (started past (item_of begun))
+    (item_of action.sent) action.outcome action.reaped
+brings past begun action h =
+    grown-append past (told_start begun) (rest_by action) ∙ ap (λ p. grown p (rest_by action)) (grown_start past begun)
+    ∙ grown_settled (started past (item_of begun)) action.sent action.outcome action.reaped h
 
 taken_start : (begun : Option Transmission) → all_in taken_in (told_start begun) ≡ []
 taken_start None = refl
@@ -189,14 +189,15 @@ taken_outcome sending WentOff = refl
 taken_outcome sending CameBack = refl
 
 -- and so it is with the sink
-pub takes : (begun : Option Transmission) (deed : Deed) → all_in taken_in (told_start begun ++ rest_by deed)
-    ≡ taken_by deed.outcome
-takes begun deed =
-    all-append taken_in (told_start begun) (rest_by deed)
-    ∙ ap (λ xs. xs ++ all_in taken_in (rest_by deed)) (taken_start begun)
-    ∙ all-append taken_in (told_outcome deed.sent deed.outcome) (told_reaped deed.reaped)
-    ∙ ap (λ xs. all_in taken_in (told_outcome deed.sent deed.outcome) ++ xs) (taken_reaped deed.reaped) ∙ append-nil _
-    ∙ taken_outcome deed.sent deed.outcome
+pub takes : (begun : Option Transmission) (action : Action) → all_in taken_in (told_start begun ++ rest_by action)
+    ≡ taken_by action.outcome
+takes begun action =
+    all-append taken_in (told_start begun) (rest_by action)
+    ∙ ap (λ xs. xs ++ all_in taken_in (rest_by action)) (taken_start begun)
+    ∙ all-append taken_in (told_outcome action.sent action.outcome) (told_reaped action.reaped)
+    ∙ ap (λ xs. all_in taken_in (told_outcome action.sent action.outcome) ++ xs) (taken_reaped action.reaped) ∙
+    append-nil _
+    ∙ taken_outcome action.sent action.outcome
 
 one_taken : (outcome : Outcome) → length (taken_by outcome) ≤ 1
 one_taken Nothing = omega arith
@@ -228,14 +229,14 @@ start_reaped None = refl
 start_reaped (Some label) = refl
 
 -- the line of a start names what began
-starts_told : (begun : Option Transmission) (deed : Deed) → all_in start_in (told_start begun ++ rest_by deed)
+starts_told : (begun : Option Transmission) (action : Action) → all_in start_in (told_start begun ++ rest_by action)
     ≡ option_to_list (item_of begun)
-starts_told begun deed =
-    all-append start_in (told_start begun) (rest_by deed)
+starts_told begun action =
+    all-append start_in (told_start begun) (rest_by action)
     ∙ ap (λ xs. all_in start_in (told_start begun) ++ xs)
-    (all-append start_in (told_outcome deed.sent deed.outcome) (told_reaped deed.reaped)
-    ∙ ap (λ xs. xs ++ all_in start_in (told_reaped deed.reaped)) (start_outcome deed.sent deed.outcome)
-    ∙ start_reaped deed.reaped)
+    (all-append start_in (told_outcome action.sent action.outcome) (told_reaped action.reaped)
+    ∙ ap (λ xs. xs ++ all_in start_in (told_reaped action.reaped)) (start_outcome action.sent action.outcome)
+    ∙ start_reaped action.reaped)
     ∙ append-nil _ ∙ start_started begun
 
 -- the only lines that name a start are those of what begins
@@ -273,13 +274,13 @@ one_started : (past : BusPast) (begun : Option Transmission) → Undone past (it
 one_started past None h = tt
 one_started past (Some sent) h = (each_undone past (item_with sent.frame sent.label) h, tt)
 
-undone_told : (past : BusPast) (begun : Option Transmission) (deed : Deed) → Undone past (item_of begun) →
-    StartsUndone past (told_start begun ++ rest_by deed)
-undone_told past begun deed h =
-    starts_undone-append past (told_start begun) (rest_by deed) (one_started past begun h)
-    (starts_undone-append (grown past (told_start begun)) (told_outcome deed.sent deed.outcome)
-    (told_reaped deed.reaped) (none_started (grown past (told_start begun)) deed.sent deed.outcome)
-    (none_reaped (grown (grown past (told_start begun)) (told_outcome deed.sent deed.outcome)) deed.reaped))
+undone_told : (past : BusPast) (begun : Option Transmission) (action : Action) → Undone past (item_of begun) →
+    StartsUndone past (told_start begun ++ rest_by action)
+undone_told past begun action h =
+    starts_undone-append past (told_start begun) (rest_by action) (one_started past begun h)
+    (starts_undone-append (grown past (told_start begun)) (told_outcome action.sent action.outcome)
+    (told_reaped action.reaped) (none_started (grown past (told_start begun)) action.sent action.outcome)
+    (none_reaped (grown (grown past (told_start begun)) (told_outcome action.sent action.outcome)) action.reaped))
 
 -- a node that is not on yet
 early : (on bit : ℕ) → nat_le on bit ≡ false → bit < on
@@ -287,48 +288,50 @@ early on bit e = elim (leb_tells on bit) [ inl is ↦ absurd (cc (e, is.0)) | in
 
 pub port_brought : {P : Type 0} (after : P → BusPast → Type 0) (asked : P → List BusCall → Type 0)
     (transmitting : P → Option Item) (sink : P → List FrameValue → Type 0) (stays : P → P → Type 0)
-    (bit : ℕ) (wants : Bool) (tells : List Told) (m : Member) (p q : P) → tells ≡ start_of m.deed ++ rest_by m.deed →
-    (bit < m.on → m.deed ≡ no_deed) →
+    (bit : ℕ) (wants : Bool) (tells : List Told) (m : Member) (p q : P) → tells ≡ start_of m.action ++ rest_by m.action
+    →
+    (bit < m.on → m.action ≡ no_action) →
     PortMoves after asked transmitting sink stays bit wants m p q →
     IsBrought after asked transmitting sink stays tells wants (item_of m.station.sending) p q
-port_brought after asked transmitting sink stays bit wants tells m p q told quiet moves = record {
+port_brought after asked transmitting sink stays bit wants tells m p q told uneventful moves = record {
   bus = λ past h. subst (λ ts. after q (grown past ts)) (sym told) (bus_by past (is_on bit m) refl (moves.bus past h));
   undone = λ past h. subst (StartsUndone past) (sym told) (undone_by past (is_on bit m) refl (moves.undone past h));
-  begins = item_of (cond (is_on bit m) (begun_by m.deed) None);
+  begins = item_of (cond (is_on bit m) (begun_by m.action) None);
   begins_is = ap (all_in start_in) told ∙ begins_by (is_on bit m) refl;
   asks = moves.asks;
   transmits = moves.transmits;
   offers = λ past h. subst (λ ts. sink q (past ++ all_in taken_in ts)) (sym told)
       (sink_by past (is_on bit m) refl (moves.offers past h));
   one_at_most = subst (λ ts. length (all_in taken_in ts) ≤ 1) (sym told)
-      (subst (λ fs. length fs ≤ 1) (sym (takes (begun_by m.deed) m.deed)) (one_taken m.deed.outcome));
+      (subst (λ fs. length fs ≤ 1) (sym (takes (begun_by m.action) m.action)) (one_taken m.action.outcome));
   stays_on = moves.stays_on;
 }
   where
-    begins_by : (on : Bool) → is_on bit m ≡ on → all_in start_in (start_of m.deed ++ rest_by m.deed)
-        ≡ option_to_list (item_of (cond on (begun_by m.deed) None))
-    begins_by true e = starts_told (begun_by m.deed) m.deed
-    begins_by false e = ap (λ d. all_in start_in (start_of d ++ rest_by d)) (quiet (early m.on bit e))
+    begins_by : (on : Bool) → is_on bit m ≡ on → all_in start_in (start_of m.action ++ rest_by m.action)
+        ≡ option_to_list (item_of (cond on (begun_by m.action) None))
+    begins_by true e = starts_told (begun_by m.action) m.action
+    begins_by false e = ap (λ d. all_in start_in (start_of d ++ rest_by d)) (uneventful (early m.on bit e))
 
     bus_by : (past : BusPast) (on : Bool) → is_on bit m ≡ on →
-        after q (settled_at on (started past (item_of (cond on (begun_by m.deed) None))) m.deed) →
-        after q (grown past (start_of m.deed ++ rest_by m.deed))
-    bus_by past true e h = subst (after q) (sym (brings past (begun_by m.deed) m.deed (moves.reaps e))) h
+        after q (settled_at on (started past (item_of (cond on (begun_by m.action) None))) m.action) →
+        after q (grown past (start_of m.action ++ rest_by m.action))
+    bus_by past true e h = subst (after q) (sym (brings past (begun_by m.action) m.action (moves.reaps e))) h
     bus_by past false e h =
-        let idle : m.deed ≡ no_deed = quiet (early m.on bit e) in
+        let idle : m.action ≡ no_action = uneventful (early m.on bit e) in
         subst (λ d. after q (grown past (start_of d ++ rest_by d))) (sym idle)
         (subst (after q) (sym (grown-nil past)) h)
 
-    sink_by : (past : List FrameValue) (on : Bool) → is_on bit m ≡ on → sink q (past ++ taken_at on m.deed) →
-        sink q (past ++ all_in taken_in (start_of m.deed ++ rest_by m.deed))
-    sink_by past true e h = subst (λ fs. sink q (past ++ fs)) (sym (takes (begun_by m.deed) m.deed)) h
+    sink_by : (past : List FrameValue) (on : Bool) → is_on bit m ≡ on → sink q (past ++ taken_at on m.action) →
+        sink q (past ++ all_in taken_in (start_of m.action ++ rest_by m.action))
+    sink_by past true e h = subst (λ fs. sink q (past ++ fs)) (sym (takes (begun_by m.action) m.action)) h
     sink_by past false e h =
-        let idle : m.deed ≡ no_deed = quiet (early m.on bit e) in
+        let idle : m.action ≡ no_action = uneventful (early m.on bit e) in
         subst (λ d. sink q (past ++ all_in taken_in (start_of d ++ rest_by d))) (sym idle) h
 
     undone_by : (past : BusPast) (on : Bool) → is_on bit m ≡ on →
-        Undone past (item_of (cond on (begun_by m.deed) None)) → StartsUndone past (start_of m.deed ++ rest_by m.deed)
-    undone_by past true e h = undone_told past (begun_by m.deed) m.deed h
+        Undone past (item_of (cond on (begun_by m.action) None)) → StartsUndone past (start_of m.action ++ rest_by
+        m.action)
+    undone_by past true e h = undone_told past (begun_by m.action) m.action h
     undone_by past false e h =
-        let idle : m.deed ≡ no_deed = quiet (early m.on bit e) in
+        let idle : m.action ≡ no_action = uneventful (early m.on bit e) in
         subst (λ d. StartsUndone past (start_of d ++ rest_by d)) (sym idle) tt

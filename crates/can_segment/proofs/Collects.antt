@@ -3,7 +3,7 @@ use Rattle.std.proofs.Common.{◌≡◌, ℕ, zero, suc, ◌+◌, Bool, ◌&&◌
 use Rattle.std.proofs.Common.{refl, sym, ap, subst, arith, ◌∙◌, append_assoc}
 use Rattle.std.specs.List.{list_all}
 use Rattle.can_station.specs.declared.event.Told.{Told}
-use Rattle.can_station.specs.declared.member.Deed.{Deed}
+use Rattle.can_station.specs.declared.member.Action.{Action}
 use Rattle.can_station.specs.declared.member.Member.{Member}
 use Rattle.can_segment.specs.Traces.{Act}
 use Rattle.can_station.specs.Lines.{lines}
@@ -32,16 +32,16 @@ collect A k (x ∷ xs) [] afters em ea h = absurd (omega (arith, em))
 collect A k (x ∷ xs) (m ∷ mids) [] em ea h = absurd (omega (arith, ea))
 collect {X = X} A k (x ∷ xs) (m ∷ mids) (a ∷ afters) em ea h =
     let first = h zero x m a refl refl refl in
-    let rest = collect A (k + 1) xs mids afters (omega (arith, em)) (omega (arith, ea))
+    let more = collect A (k + 1) xs mids afters (omega (arith, em)) (omega (arith, ea))
     (λ i y mid after p q r. let next = h (suc i) y mid after p q r in
     (next.0, subst (λ n. A y n mid after next.0) (omega arith) next.1)) in
-    record { acts = first.0 ∷ rest.acts; size = omega (arith, rest.size); at = at_of first rest }
+    record { acts = first.0 ∷ more.acts; size = omega (arith, more.size); at = at_of first more }
   where
-    at_of : (first : (act : Option Act) × A x (k + 0) m a act) (rest : Collected A (k + 1) xs mids afters) (i : ℕ)
+    at_of : (first : (act : Option Act) × A x (k + 0) m a act) (more : Collected A (k + 1) xs mids afters) (i : ℕ)
         (y : X) (mid after : Member) → slice_get (x ∷ xs) i ≡ Some y →
         slice_get (m ∷ mids) i ≡ Some mid → slice_get (a ∷ afters) i ≡ Some after → (act : Option Act)
-        × (slice_get (first.0 ∷ rest.acts) i ≡ Some act) × A y (k + i) mid after act
-    at_of first rest zero y mid after p q r =
+        × (slice_get (first.0 ∷ more.acts) i ≡ Some act) × A y (k + i) mid after act
+    at_of first more zero y mid after p q r =
         let ex : x ≡ y = first_of x y p in
         let eq : m ≡ mid = first_of m mid q in
         let er : a ≡ after = first_of a after r in (
@@ -50,8 +50,8 @@ collect {X = X} A k (x ∷ xs) (m ∷ mids) (a ∷ afters) em ea h =
           subst (λ z. A y (k + 0) mid z first.0) er
               (subst (λ z. A y (k + 0) z a first.0) eq (subst (λ z. A z (k + 0) m a first.0) ex first.1)),
         )
-    at_of first rest (suc i) y mid after p q r =
-        let next = rest.at i y mid after p q r in
+    at_of first more (suc i) y mid after p q r =
+        let next = more.at i y mid after p q r in
         (next.0, next.1, subst (λ n. A y n mid after next.0) (omega arith) next.2)
 
 pub get_left : {X : Type 0} (xs ys : List X) (i : ℕ) (x : X) → slice_get xs i ≡ Some x → slice_get (xs ++ ys) i ≡ Some x
@@ -78,15 +78,15 @@ same_all p q (x ∷ xs) (y ∷ ys) e h =
     ∙ ap (λ b. q y && b) (same_all p q xs ys (omega (arith, e)) (λ i a b ea eb. h (suc i) a b ea eb))
 
 -- what is told of nodes by their places, and by their deeds
-pub lines_told : (tells : ℕ → List Told) (by : Deed → List Told) (bit node : ℕ) (members : List Member) →
-    ((i : ℕ) (m : Member) → slice_get members i ≡ Some m → tells (node + i) ≡ by m.deed) →
+pub lines_told : (tells : ℕ → List Told) (by : Action → List Told) (bit node : ℕ) (members : List Member) →
+    ((i : ℕ) (m : Member) → slice_get members i ≡ Some m → tells (node + i) ≡ by m.action) →
     lines_from tells bit node (length members) ≡ told_by by bit node members
 unfolding told_by
 lines_told tells by bit node [] h = refl
 lines_told tells by bit node (m ∷ members) h =
     ap (λ t. lines bit node t ++ lines_from tells bit (suc node) (length members))
     (ap tells (omega arith) ∙ h zero m refl)
-    ∙ ap (λ es. lines bit node (by m.deed) ++ es) (ap (λ n. lines_from tells bit n (length members)) (omega arith)
+    ∙ ap (λ es. lines bit node (by m.action) ++ es) (ap (λ n. lines_from tells bit n (length members)) (omega arith)
     ∙ lines_told tells by bit (node + 1) members (λ i x e. ap tells (omega arith) ∙ h (suc i) x e))
 
 pub lines_split : (tells : ℕ → List Told) (bit node n m : ℕ) →

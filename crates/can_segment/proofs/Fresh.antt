@@ -11,7 +11,7 @@ use Rattle.bx_core.specs.TxBus.{Item}
 use Rattle.bx_core.proofs.Words.{pushed}
 use Rattle.can_station.specs.Ports.{item_of}
 use Rattle.can_segment.specs.Segments.{sending_of_all}
-use Rattle.can_station.specs.RestingNodes.{NoneRests}
+use Rattle.can_station.specs.DeferredNodes.{NoneDeferred}
 use Rattle.can_station.proofs.Places.{some_there, same_some}
 use Rattle.can_segment.proofs.Shown.{map_at}
 
@@ -48,7 +48,7 @@ behind_nothing on k m f = record {
   sending_is = f.idle;
   completed_is = f.none_sent;
   bit_is = omega (arith, f.bit_is);
-  quiet = λ early. f.quiet;
+  uneventful = λ early. f.uneventful;
 }
 
 pub kept_fresh : (plan : SegmentPlan) (talkers controllers : List Member) →
@@ -76,9 +76,9 @@ idle_fresh on xs members fresh k sends e =
     sym m.2 ∙ ap item_of (fresh.at k x.0 m.0 x.1 m.1).idle
 
 -- none of them rests
-pub fresh_awake : {X : Type 0} (on : X → ℕ) (xs : List X) (members : List Member) → AreFresh on xs members →
-    NoneRests members
-fresh_awake on xs members fresh k m e =
+pub fresh_active : {X : Type 0} (on : X → ℕ) (xs : List X) (members : List Member) → AreFresh on xs members →
+    NoneDeferred members
+fresh_active on xs members fresh k m e =
     let within = slice_get_within members k m e in
     let x = some_there xs k (omega (arith, within, fresh.size)) in
-    (fresh.at k x.0 m x.1 e).awake
+    (fresh.at k x.0 m x.1 e).active

@@ -43,8 +43,8 @@ completed_from : (k : ℕ) (trace : List Bit) (n : ℕ) → fold (λ m bit. m + 
     + length trace
 completed_from k [] n = omega arith
 completed_from k (bit ∷ trace) n =
-    let rest = completed_from k trace (n + completed_in (act_of k bit)) in
-    omega (arith, rest, one_in (act_of k bit))
+    let deferred = completed_from k trace (n + completed_in (act_of k bit)) in
+    omega (arith, deferred, one_in (act_of k bit))
 
 -- the clocks of nodes that are on
 pub clocks : (on k bit limit : ℕ) (trace : List Bit) (member : Member) → StandsBehind on k trace member →

@@ -4,7 +4,7 @@ use Rattle.std.proofs.Common.{length, slice_get, refl, ap, arith, ◌∙◌, eq-
 use Rattle.std.proofs.lemmas.List.{append-nil}
 use Rattle.can_station.specs.declared.event.Event.{Event}
 use Rattle.can_station.specs.declared.event.Told.{Told}
-use Rattle.can_station.specs.declared.member.Deed.{Deed}
+use Rattle.can_station.specs.declared.member.Action.{Action}
 use Rattle.can_station.specs.declared.member.Member.{Member}
 use Rattle.can_station.specs.Lines.{lines}
 use Rattle.can_station.specs.Tellings.{start_of, rest_by, told_by, bit_lines}
@@ -33,55 +33,55 @@ of-other node bit n (t ∷ ts) ne =
     ∙ of-other node bit n ts ne
 
 -- nodes behind this one tell nothing of it
-of-behind : (tells : Deed → List Told) (bit first node : ℕ) (members : List Member) → node < first →
+of-behind : (tells : Action → List Told) (bit first node : ℕ) (members : List Member) → node < first →
     told_of node (told_by tells bit first members) ≡ []
 unfolding told_by
 of-behind tells bit first node [] less = refl
 of-behind tells bit first node (m ∷ ms) less =
-    of-append node (lines bit first (tells m.deed)) (told_by tells bit (first + 1) ms)
+    of-append node (lines bit first (tells m.action)) (told_by tells bit (first + 1) ms)
     ∙ ap (λ xs. xs ++ told_of node (told_by tells bit (first + 1) ms))
-    (of-other node bit first (tells m.deed) (λ e. omega (arith, e, less)))
+    (of-other node bit first (tells m.action) (λ e. omega (arith, e, less)))
     ∙ of-behind tells bit (first + 1) node ms (omega (arith, less))
 
 -- nor do nodes in front of it
-of-front : (tells : Deed → List Told) (bit first node : ℕ) (members : List Member) → first + length members ≤ node →
+of-front : (tells : Action → List Told) (bit first node : ℕ) (members : List Member) → first + length members ≤ node →
     told_of node (told_by tells bit first members) ≡ []
 unfolding told_by
 of-front tells bit first node [] more = refl
 of-front tells bit first node (m ∷ ms) more =
-    of-append node (lines bit first (tells m.deed)) (told_by tells bit (first + 1) ms)
+    of-append node (lines bit first (tells m.action)) (told_by tells bit (first + 1) ms)
     ∙ ap (λ xs. xs ++ told_of node (told_by tells bit (first + 1) ms))
-    (of-other node bit first (tells m.deed) (λ e. omega (arith, e, more)))
+    (of-other node bit first (tells m.action) (λ e. omega (arith, e, more)))
     ∙ of-front tells bit (first + 1) node ms (omega (arith, more))
 
 -- and each node tells its own
-of-its_own : (tells : Deed → List Told) (bit first k : ℕ) (members : List Member) (m : Member) →
-    slice_get members k ≡ Some m → told_of (first + k) (told_by tells bit first members) ≡ tells m.deed
+of-its_own : (tells : Action → List Told) (bit first k : ℕ) (members : List Member) (m : Member) →
+    slice_get members k ≡ Some m → told_of (first + k) (told_by tells bit first members) ≡ tells m.action
 unfolding told_by
 of-its_own tells bit first k [] m e = absurd (cc e)
 of-its_own tells bit first zero (x ∷ ms) m e =
     let here : first + 0 ≡ first = omega arith in
     let same : x ≡ m = cc e in
-    ap (λ n. told_of n (lines bit first (tells x.deed) ++ told_by tells bit (first + 1) ms)) here
-    ∙ of-append first (lines bit first (tells x.deed)) (told_by tells bit (first + 1) ms)
-    ∙ ap (λ xs. xs ++ told_of first (told_by tells bit (first + 1) ms)) (of-same first bit (tells x.deed))
-    ∙ ap (λ xs. tells x.deed ++ xs) (of-behind tells bit (first + 1) first ms (omega arith))
-    ∙ append-nil (tells x.deed) ∙ ap (λ y. tells y.deed) same
+    ap (λ n. told_of n (lines bit first (tells x.action) ++ told_by tells bit (first + 1) ms)) here
+    ∙ of-append first (lines bit first (tells x.action)) (told_by tells bit (first + 1) ms)
+    ∙ ap (λ xs. xs ++ told_of first (told_by tells bit (first + 1) ms)) (of-same first bit (tells x.action))
+    ∙ ap (λ xs. tells x.action ++ xs) (of-behind tells bit (first + 1) first ms (omega arith))
+    ∙ append-nil (tells x.action) ∙ ap (λ y. tells y.action) same
 of-its_own tells bit first (suc k) (x ∷ ms) m e =
     let here : first + suc k ≡ first + 1 + k = omega arith in
-    of-append (first + suc k) (lines bit first (tells x.deed)) (told_by tells bit (first + 1) ms)
+    of-append (first + suc k) (lines bit first (tells x.action)) (told_by tells bit (first + 1) ms)
     ∙ ap (λ xs. xs ++ told_of (first + suc k) (told_by tells bit (first + 1) ms))
-    (of-other (first + suc k) bit first (tells x.deed) (λ e. omega (arith, e)))
+    (of-other (first + suc k) bit first (tells x.action) (λ e. omega (arith, e)))
     ∙ ap (λ n. told_of n (told_by tells bit (first + 1) ms)) here ∙ of-its_own tells bit (first + 1) k ms m e
 
 -- what the lines of a bit tell of a controller
 pub of_controller : (bit : ℕ) (talkers controllers : List Member) (k : ℕ) (m : Member) →
     slice_get controllers k ≡ Some m →
-    told_of (length talkers + k) (bit_lines bit talkers controllers) ≡ start_of m.deed ++ rest_by m.deed
+    told_of (length talkers + k) (bit_lines bit talkers controllers) ≡ start_of m.action ++ rest_by m.action
 of_controller bit talkers controllers k m e =
     let n = length talkers + k in
-    let half : (tells : Deed → List Told) →
-    told_of n (told_by tells bit 0 talkers ++ told_by tells bit (length talkers) controllers) ≡ tells m.deed =
+    let half : (tells : Action → List Told) →
+    told_of n (told_by tells bit 0 talkers ++ told_by tells bit (length talkers) controllers) ≡ tells m.action =
     λ tells. of-append n (told_by tells bit 0 talkers) (told_by tells bit (length talkers) controllers)
     ∙ ap (λ xs. xs ++ told_of n (told_by tells bit (length talkers) controllers))
     (of-front tells bit 0 n talkers (omega arith))
@@ -90,4 +90,4 @@ of_controller bit talkers controllers k m e =
     (told_by rest_by bit 0 talkers ++ told_by rest_by bit (length talkers) controllers)
     ∙ ap (λ xs. xs ++ told_of n (told_by rest_by bit 0 talkers ++ told_by rest_by bit (length talkers) controllers))
     (half start_of)
-    ∙ ap (λ xs. start_of m.deed ++ xs) (half rest_by)
+    ∙ ap (λ xs. start_of m.action ++ xs) (half rest_by)

@@ -5,7 +5,7 @@ use Rattle.std.specs.List.{list_all}
 use Rattle.std.proofs.lemmas.List.Folds.{list_all-append}
 use Rattle.std.proofs.lemmas.Option.{slice_get_within}
 use Rattle.can_station.specs.declared.event.Told.{Told}
-use Rattle.can_station.specs.declared.member.Deed.{Deed}
+use Rattle.can_station.specs.declared.member.Action.{Action}
 use Rattle.can_station.specs.declared.member.Member.{Member}
 use Rattle.can_station.specs.declared.plan.Talker.{Talker}
 use Rattle.can_station.specs.declared.plan.Controller.{Controller}
@@ -41,9 +41,9 @@ drives_all A bit k xs mids afters c em ea h = same_all drives (drives_at bit) c.
     ap drives (same_some act there.0 (sym e ∙ there.1)) ∙ h x.0 (k + i) mid after.0 there.0 there.2)
 
 -- the lines of a bit, told for the talkers and then for the controllers
-told_all : (tells : ℕ → List Told) (by : Deed → List Told) (bit : ℕ) (talkers controllers : List Member) →
-    ((i : ℕ) (m : Member) → slice_get talkers i ≡ Some m → tells i ≡ by m.deed) →
-    ((i : ℕ) (m : Member) → slice_get controllers i ≡ Some m → tells (length talkers + i) ≡ by m.deed) →
+told_all : (tells : ℕ → List Told) (by : Action → List Told) (bit : ℕ) (talkers controllers : List Member) →
+    ((i : ℕ) (m : Member) → slice_get talkers i ≡ Some m → tells i ≡ by m.action) →
+    ((i : ℕ) (m : Member) → slice_get controllers i ≡ Some m → tells (length talkers + i) ≡ by m.action) →
     lines_from tells bit 0 (length talkers + length controllers) ≡ told_by by bit 0 talkers
     ++ told_by by bit (length talkers) controllers
 told_all tells by bit talkers controllers ht hc =
@@ -99,37 +99,37 @@ made plan trace level t0 t1 t2 c0 c1 c2 m =
       controller_placed plan trace level c1 c2 tc.acts tc.size cc i controller mid.0 after.0 p
           mid.1 after.1,
     ) in
-    let start_t : (i : ℕ) (x : Member) → slice_get t2 i ≡ Some x → starts_of (act_of i bit) ≡ start_of x.deed =
+    let start_t : (i : ℕ) (x : Member) → slice_get t2 i ≡ Some x → starts_of (act_of i bit) ≡ start_of x.action =
     λ i x e.
     let talker =
     some_there plan.talkers.items i (let within = slice_get_within t2 i x e in omega (arith, within, t2_size)) in
     let p = talker_at i talker.0 talker.1 in
-    ap starts_of p.3.is_its ∙ p.3.acted.starts ∙ ap (λ y. start_of y.deed) (same_some p.1 x (sym p.2 ∙ e)) in
+    ap starts_of p.3.is_its ∙ p.3.acted.starts ∙ ap (λ y. start_of y.action) (same_some p.1 x (sym p.2 ∙ e)) in
     let rest_t : (i : ℕ) (x : Member) → slice_get t2 i ≡ Some x → rest_of (sending_of i trace) (act_of i bit)
-    ≡ rest_by x.deed =
+    ≡ rest_by x.action =
     λ i x e.
     let talker =
     some_there plan.talkers.items i (let within = slice_get_within t2 i x e in omega (arith, within, t2_size)) in
     let p = talker_at i talker.0 talker.1 in
-    ap (rest_of (sending_of i trace)) p.3.is_its ∙ p.3.acted.rest
-    ∙ ap (λ y. rest_by y.deed) (same_some p.1 x (sym p.2 ∙ e)) in
+    ap (rest_of (sending_of i trace)) p.3.is_its ∙ p.3.acted.deferred
+    ∙ ap (λ y. rest_by y.action) (same_some p.1 x (sym p.2 ∙ e)) in
     let start_c : (i : ℕ) (x : Member) → slice_get c2 i ≡ Some x → starts_of (act_of (length t2 + i) bit)
-    ≡ start_of x.deed =
+    ≡ start_of x.action =
     λ i x e.
     let controller = some_there plan.controllers.items i (let within = slice_get_within c2 i x e in
     omega (arith, within, c2_size)) in
     let p = controller_at i controller.0 controller.1 in
     ap (λ k. starts_of (act_of (k + i) bit)) t2_size ∙ ap starts_of p.3.is_its ∙ p.3.acted.starts
-    ∙ ap (λ y. start_of y.deed) (same_some p.1 x (sym p.2 ∙ e)) in
+    ∙ ap (λ y. start_of y.action) (same_some p.1 x (sym p.2 ∙ e)) in
     let rest_c : (i : ℕ) (x : Member) → slice_get c2 i ≡ Some x →
-    rest_of (sending_of (length t2 + i) trace) (act_of (length t2 + i) bit) ≡ rest_by x.deed =
+    rest_of (sending_of (length t2 + i) trace) (act_of (length t2 + i) bit) ≡ rest_by x.action =
     λ i x e.
     let controller = some_there plan.controllers.items i (let within = slice_get_within c2 i x e in
     omega (arith, within, c2_size)) in
     let p = controller_at i controller.0 controller.1 in
     ap (λ k. rest_of (sending_of (k + i) trace) (act_of (k + i) bit)) t2_size
-    ∙ ap (rest_of (sending_of (n + i) trace)) p.3.is_its ∙ p.3.acted.rest
-    ∙ ap (λ y. rest_by y.deed) (same_some p.1 x (sym p.2 ∙ e)) in
+    ∙ ap (rest_of (sending_of (n + i) trace)) p.3.is_its ∙ p.3.acted.deferred
+    ∙ ap (λ y. rest_by y.action) (same_some p.1 x (sym p.2 ∙ e)) in
     record {
       bit = bit;
       level_is = refl;

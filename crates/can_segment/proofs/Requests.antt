@@ -65,13 +65,13 @@ bit_tells : (node : ℕ) (trace : List Bit) (bit : Bit) → node < length bit.ac
     ++ rest_of (sending_of node trace) (act_of node bit)
 bit_tells node trace bit within =
     let starts = λ (k : ℕ). starts_of (act_of k bit) in
-    let rest = λ (k : ℕ). rest_of (sending_of k trace) (act_of k bit) in
+    let deferred = λ (k : ℕ). rest_of (sending_of k trace) (act_of k bit) in
     of-append node (lines_from starts (length trace) 0 (length bit.acts))
-    (lines_from rest (length trace) 0 (length bit.acts))
-    ∙ ap (λ ts. ts ++ told_of node (lines_from rest (length trace) 0 (length bit.acts)))
+    (lines_from deferred (length trace) 0 (length bit.acts))
+    ∙ ap (λ ts. ts ++ told_of node (lines_from deferred (length trace) 0 (length bit.acts)))
     (from_own starts (length trace) 0 (length bit.acts) node (omega arith) (omega (arith, within)))
     ∙ ap (λ ts. starts node ++ ts)
-    (from_own rest (length trace) 0 (length bit.acts) node (omega arith) (omega (arith, within)))
+    (from_own deferred (length trace) 0 (length bit.acts) node (omega arith) (omega (arith, within)))
 
 -- what is told of a node at a bit of a trace, and at all bits before one
 told_bit : ℕ → List Bit → ℕ → List Told
@@ -119,8 +119,8 @@ undone_parts : (past : BusPast) (xs ys : List Told) → StartsUndone past (xs ++
     StartsUndone past xs × StartsUndone (grown past xs) ys
 undone_parts past [] ys h = (tt, subst (λ p. StartsUndone p ys) (sym (grown-nil past)) h)
 undone_parts past (x ∷ xs) ys h =
-    let rest = undone_parts (grown past (x ∷ [])) xs ys h.1 in
-    ((h.0, rest.0), subst (λ p. StartsUndone p ys) (sym (grown-append past (x ∷ []) xs)) rest.1)
+    let more = undone_parts (grown past (x ∷ [])) xs ys h.1 in
+    ((h.0, more.0), subst (λ p. StartsUndone p ys) (sym (grown-append past (x ∷ []) xs)) more.1)
 
 undone_at : (past : BusPast) (node : ℕ) (trace : List Bit) (n k : ℕ) → k < n →
     StartsUndone past (told_before node trace n) →

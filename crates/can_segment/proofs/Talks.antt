@@ -9,20 +9,20 @@ use Rattle.can_segment.specs.Traces.{Bit, past_of, completed_of}
 use Rattle.can_segment.specs.Runs.{IsBegun}
 use Rattle.can_station.specs.Stations.{IsTalk}
 use Rattle.can_station.specs.Members.{StartsTalking, Samples}
-use Rattle.can_station.specs.Deeds.{begun_by}
+use Rattle.can_station.specs.Actions.{begun_by}
 use Rattle.can_segment.specs.Kept.{StandsBehind}
-use Rattle.can_segment.proofs.Deeds.{Done, done, begun_is, named_start}
+use Rattle.can_segment.proofs.Actions.{Done, done, begun_is, named_start}
 
 -- a talker at a bit at which it is on
 pub record Talked (on k : ℕ) (trace : List Bit) (frames : List FrameValue) (level : Bool)
     (mid after : Member) : Type 0 where
   pub made : Done on k trace level mid after
-  pub begins : (sent : Transmission) → begun_by after.deed ≡ Some sent → IsBegun (past_of on k trace) sent
+  pub begins : (sent : Transmission) → begun_by after.action ≡ Some sent → IsBegun (past_of on k trace) sent
   pub wants : Bool
   pub is_wanting : IsWanting (past_of on k trace) wants
-  pub rule : option_map (λ sent. sent.frame) (begun_by after.deed) ≡ cond wants
+  pub rule : option_map (λ sent. sent.frame) (begun_by after.action) ≡ cond wants
       (slice_get frames (completed_of k trace)) None
-  pub no_label : (sent : Transmission) → begun_by after.deed ≡ Some sent → sent.label ≡ None
+  pub no_label : (sent : Transmission) → begun_by after.action ≡ Some sent → sent.label ≡ None
 
 wants_then : (wanting : Bool) (frames : List FrameValue) (n : ℕ) (frame : FrameValue) →
     true ≡ wanting && is_some (slice_get frames n) → slice_get frames n ≡ Some frame →
@@ -44,7 +44,7 @@ no_sent sent e = cc e
 
 talked_by : (on k : ℕ) (trace : List Bit) (frames : List FrameValue) (level : Bool) (old mid after : Member)
     (b : Bool) → StandsBehind on k trace old → on ≤ length trace → mid.on ≡ on → after.on ≡ on →
-    mid.deed.began ≡ b → IsTalk old.station mid.station frames b → Samples (length trace) level mid after →
+    mid.action.began ≡ b → IsTalk old.station mid.station frames b → Samples (length trace) level mid after →
     Talked on k trace frames level mid after
 talked_by on k trace frames level old mid after true h late mid_on after_on began talk samples =
     let past = past_of on k trace in
@@ -52,8 +52,8 @@ talked_by on k trace frames level old mid after true h late mid_on after_on bega
     let t = talk.begins refl in
     let start = t.2 in
     let sent : Transmission = record { start = start.start; frame = t.0; label = None } in
-    let begun : begun_by after.deed ≡ Some sent = begun_is after.deed true (Some sent) (s.began_is ∙ began)
-    (named_start after.deed mid.station.sending s.names (s.began_is ∙ began) ∙ start.sending_is) in
+    let begun : begun_by after.action ≡ Some sent = begun_is after.action true (Some sent) (s.began_is ∙ began)
+    (named_start after.action mid.station.sending s.names (s.began_is ∙ began) ∙ start.sending_is) in
     let w = talk.wants past h.stands in
     record {
       made = done on k trace level old mid after (Some sent) h late after_on
@@ -84,7 +84,8 @@ talked_by on k trace frames level old mid after false h late mid_on after_on beg
     let past = past_of on k trace in
     let s = samples.samples (omega (arith, mid_on, late)) in
     let same : mid.station ≡ old.station = talk.stays refl in
-    let begun : begun_by after.deed ≡ None = begun_is after.deed false after.deed.sent (s.began_is ∙ began) refl in
+    let begun : begun_by after.action ≡ None = begun_is after.action false after.action.sent (s.began_is ∙ began) refl
+    in
     let w = talk.wants past h.stands in
     record {
       made = done on k trace level old mid after None h late after_on
@@ -103,5 +104,5 @@ pub talked : (on k : ℕ) (trace : List Bit) (frames : List FrameValue) (level :
     StartsTalking (length trace) old mid frames → Samples (length trace) level mid after →
     Talked on k trace frames level mid after
 talked on k trace frames level old mid after h late starts samples =
-    talked_by on k trace frames level old mid after mid.deed.began h late (starts.on_is ∙ h.on_is)
+    talked_by on k trace frames level old mid after mid.action.began h late (starts.on_is ∙ h.on_is)
     (samples.on_is ∙ starts.on_is ∙ h.on_is) refl (starts.talks (omega (arith, h.on_is, late))) samples

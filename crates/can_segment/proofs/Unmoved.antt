@@ -6,19 +6,19 @@ use Rattle.can_frame.specs.Frames.{FrameValue}
 use Rattle.bx_core.specs.TxBus.{Item, BusPast, BusCall}
 use Rattle.can_node.specs.Node.{may_begin}
 use Rattle.can_node.proofs.Samples.{wanting}
-use Rattle.can_station.specs.declared.member.Deed.{Deed}
+use Rattle.can_station.specs.declared.member.Action.{Action}
 use Rattle.can_station.specs.declared.member.Member.{Member}
 use Rattle.can_station.specs.declared.plan.Talker.{Talker}
-use Rattle.can_station.specs.Deeds.{IsQuiet}
+use Rattle.can_station.specs.Actions.{IsUneventful}
 use Rattle.can_station.specs.Members.{PortSettles, PortStarts, SamplesOn, TalkerStarts, is_on, settled_at, taken_at}
 use Rattle.can_station.specs.Members.{wants_at}
 use Rattle.can_station.specs.Ports.{Reaps, Undone, asked_at, begun_at, item_of, settled, started, started_item}
 use Rattle.can_station.specs.Ports.{taken_by}
 use Rattle.can_station.specs.Stations.{IsTalk}
 
-none_began : (on : Bool) (deed : Deed) → IsQuiet deed → (on && deed.began) ≡ false
-none_began true deed quiet = quiet.no_start
-none_began false deed quiet = refl
+none_began : (on : Bool) (action : Action) → IsUneventful action → (on && action.began) ≡ false
+none_began true action uneventful = uneventful.no_start
+none_began false action uneventful = refl
 
 and_false : (b : Bool) → (b && false) ≡ false
 and_false true = refl
@@ -26,11 +26,11 @@ and_false false = refl
 
 -- it takes no message,
 pub unmoved_talks : (bit : ℕ) (talkers : List Talker) (k : ℕ) (m : Member) → may_begin m.station.node ≡ false →
-    IsQuiet m.deed → TalkerStarts bit talkers k m m
-unmoved_talks bit talkers k m wants quiet talker e = record {
+    IsUneventful m.action → TalkerStarts bit talkers k m m
+unmoved_talks bit talkers k m wants uneventful talker e = record {
   off = λ early. refl;
   on_is = refl;
-  talks = λ late. subst (IsTalk m.station m.station talker.frames.items) (sym quiet.no_start)
+  talks = λ late. subst (IsTalk m.station m.station talker.frames.items) (sym uneventful.no_start)
       (record {
         begins = λ e. absurd (cc e);
         stays = λ e. refl;
@@ -41,11 +41,11 @@ unmoved_talks bit talkers k m wants quiet talker e = record {
 -- its port is asked for none,
 pub unmoved_requests : {P : Type 0} (after : P → BusPast → Type 0) (asked : P → List BusCall → Type 0)
     (transmitting : P → Option Item) (stays : P → P → Type 0) (bit : ℕ) (m : Member) (p : P) →
-    may_begin m.station.node ≡ false → IsQuiet m.deed → transmitting p ≡ item_of m.station.sending → stays p p →
+    may_begin m.station.node ≡ false → IsUneventful m.action → transmitting p ≡ item_of m.station.sending → stays p p →
     PortStarts after asked transmitting stays bit m m p p
-unmoved_requests after asked transmitting stays bit m p wants quiet sends same =
-    let none : (is_on bit m && m.deed.began) ≡ false = none_began (is_on bit m) m.deed quiet in
-    let began : m.deed.began ≡ true → ⊥ = λ e. cc (e, quiet.no_start) in
+unmoved_requests after asked transmitting stays bit m p wants uneventful sends same =
+    let none : (is_on bit m && m.action.began) ≡ false = none_began (is_on bit m) m.action uneventful in
+    let began : m.action.began ≡ true → ⊥ = λ e. cc (e, uneventful.no_start) in
     let no_wish : wants_at bit m ≡ false = ap (λ b. is_on bit m && b) wants ∙ and_false (is_on bit m) in
     record {
       member = record {
@@ -71,17 +71,17 @@ unmoved_requests after asked transmitting stays bit m p wants quiet sends same =
 pub unmoved_settles : {P : Type 0} (after : P → BusPast → Type 0) (asked : P → List BusCall → Type 0)
     (transmitting : P → Option Item) (sink : P → List FrameValue → Type 0) (stays : P → P → Type 0) (bit : ℕ)
     (level : Bool) (old new : Member) (p : P) →
-    old.on ≤ bit → new.on ≡ old.on → SamplesOn level old new → IsQuiet new.deed →
+    old.on ≤ bit → new.on ≡ old.on → SamplesOn level old new → IsUneventful new.action →
     transmitting p ≡ item_of new.station.sending → stays p p →
     PortSettles after asked transmitting sink stays bit level old new p p
-unmoved_settles after asked transmitting sink stays bit level old new p on on_is samples quiet sends same =
+unmoved_settles after asked transmitting sink stays bit level old new p on on_is samples uneventful sends same =
     record {
       member = record {
         off = λ early. absurd (omega (arith, early, on));
         on_is = on_is;
         samples = λ late. samples;
-        reaps = λ late. subst (λ r. IfSome r (λ label. Reaps new.deed.sent new.deed.outcome label))
-            (sym quiet.no_reaping) tt;
+        reaps = λ late. subst (λ r. IfSome r (λ label. Reaps new.action.sent new.action.outcome label))
+            (sym uneventful.no_reaping) tt;
       };
       bus = λ past h. settles_none (is_on bit old) past h;
       asks_none = λ calls h. h;
@@ -90,12 +90,12 @@ unmoved_settles after asked transmitting sink stays bit level old new p on on_is
       stays_on = same;
     }
   where
-    settles_none : (on : Bool) (past : BusPast) → after p past → after p (settled_at on past new.deed)
+    settles_none : (on : Bool) (past : BusPast) → after p past → after p (settled_at on past new.action)
     settles_none true past h =
-        subst (λ o. after p (settled past (item_of new.deed.sent) o new.deed.reaped)) (sym quiet.no_end) h
+        subst (λ o. after p (settled past (item_of new.action.sent) o new.action.reaped)) (sym uneventful.no_end) h
     settles_none false past h = h
 
-    offers_none : (on : Bool) (past : List FrameValue) → sink p past → sink p (past ++ taken_at on new.deed)
+    offers_none : (on : Bool) (past : List FrameValue) → sink p past → sink p (past ++ taken_at on new.action)
     offers_none true past h =
-        subst (λ o. sink p (past ++ taken_by o)) (sym quiet.no_end) (subst (sink p) (sym (append-nil past)) h)
+        subst (λ o. sink p (past ++ taken_by o)) (sym uneventful.no_end) (subst (sink p) (sym (append-nil past)) h)
     offers_none false past h = subst (sink p) (sym (append-nil past)) h

@@ -4,61 +4,61 @@ use Rattle.std.proofs.lemmas.Option.{slice_get_within}
 use Rattle.can_confinement.specs.declared.counters.Counters.{Counters}
 use Rattle.can_station.specs.declared.event.Event.{Event}
 use Rattle.can_station.specs.declared.event.Told.{Told}
-use Rattle.can_station.specs.declared.member.Deed.{Deed}
+use Rattle.can_station.specs.declared.member.Action.{Action}
 use Rattle.can_station.specs.declared.member.Member.{Member}
 use Rattle.can_station.specs.declared.plan.SegmentPlan.{SegmentPlan}
 use Rattle.can_segment.specs.declared.record.Record.{Record}
-use Rattle.can_segment.specs.declared.rest.Rest.{Rest}
+use Rattle.can_segment.specs.declared.deferred.Deferred.{Deferred}
 use Rattle.can_segment.specs.Kept.{SegmentKept, StandsBehind}
-use Rattle.can_station.specs.RestingNodes.{AreAlike, IsAlike, LeavesResting, NoneRests}
-use Rattle.can_segment.specs.Rests.{members_at}
-use Rattle.can_segment.specs.Segments.{AreFrom, AreFromResting, SegmentHolds}
+use Rattle.can_station.specs.DeferredNodes.{AreAlike, IsAlike, LeavesDeferred, NoneDeferred}
+use Rattle.can_segment.specs.DeferredState.{materialized}
+use Rattle.can_segment.specs.Segments.{AreFrom, AreFromDeferred, SegmentHolds}
 use Rattle.can_station.specs.Lines.{lines}
 use Rattle.can_station.specs.Tellings.{bit_lines, rest_by, start_of, told_by}
 use Rattle.can_segment.specs.Traces.{Bit}
 use Rattle.can_station.proofs.Places.{some_there}
-use Rattle.can_segment.proofs.Rests.{members_length, real_at, whole_at}
-use Rattle.can_segment.proofs.Woken.{none_resting}
+use Rattle.can_segment.proofs.DeferredState.{members_length, real_at, whole_at}
+use Rattle.can_segment.proofs.Resumed.{none_deferred_at}
 
 -- what is told of nodes
-told_whole : (tells : Deed → List Told) (bit node : ℕ) (rest : Rest) (at : ℕ) (members : List Member) →
-    told_by tells bit node (members_at rest at members) ≡ told_by tells bit node members
+told_whole : (tells : Action → List Told) (bit node : ℕ) (deferred : Deferred) (at : ℕ) (members : List Member) →
+    told_by tells bit node (materialized deferred at members) ≡ told_by tells bit node members
 unfolding told_by
-told_whole tells bit node rest at [] = refl
-told_whole tells bit node rest at (m ∷ members) =
-    ap (λ es. lines bit node (tells m.deed) ++ es) (told_whole tells bit (node + 1) rest at members)
+told_whole tells bit node deferred at [] = refl
+told_whole tells bit node deferred at (m ∷ members) =
+    ap (λ es. lines bit node (tells m.action) ++ es) (told_whole tells bit (node + 1) deferred at members)
 
-pub lines_whole : (bit : ℕ) (rest : Rest) (at : ℕ) (t c : List Member) →
-    bit_lines bit (members_at rest at t) (members_at rest at c) ≡ bit_lines bit t c
-lines_whole bit rest at t c =
-    let wt = members_at rest at t in
-    let wc = members_at rest at c in
+pub lines_whole : (bit : ℕ) (deferred : Deferred) (at : ℕ) (t c : List Member) →
+    bit_lines bit (materialized deferred at t) (materialized deferred at c) ≡ bit_lines bit t c
+lines_whole bit deferred at t c =
+    let wt = materialized deferred at t in
+    let wc = materialized deferred at c in
     ap (λ n. (told_by start_of bit 0 wt ++ told_by start_of bit n wc)
-    ++ (told_by rest_by bit 0 wt ++ told_by rest_by bit n wc)) (members_length rest at t)
+    ++ (told_by rest_by bit 0 wt ++ told_by rest_by bit n wc)) (members_length deferred at t)
     ∙ ap (λ es. (es ++ told_by start_of bit (length t) wc)
-    ++ (told_by rest_by bit 0 wt ++ told_by rest_by bit (length t) wc)) (told_whole start_of bit 0 rest at t)
+    ++ (told_by rest_by bit 0 wt ++ told_by rest_by bit (length t) wc)) (told_whole start_of bit 0 deferred at t)
     ∙ ap (λ es. (told_by start_of bit 0 t ++ es) ++ (told_by rest_by bit 0 wt ++ told_by rest_by bit (length t) wc))
-    (told_whole start_of bit (length t) rest at c)
+    (told_whole start_of bit (length t) deferred at c)
     ∙ ap (λ es. (told_by start_of bit 0 t ++ told_by start_of bit (length t) c)
-    ++ (es ++ told_by rest_by bit (length t) wc)) (told_whole rest_by bit 0 rest at t)
+    ++ (es ++ told_by rest_by bit (length t) wc)) (told_whole rest_by bit 0 deferred at t)
     ∙ ap (λ es. (told_by start_of bit 0 t ++ told_by start_of bit (length t) c) ++ (told_by rest_by bit 0 t ++ es))
-    (told_whole rest_by bit (length t) rest at c)
+    (told_whole rest_by bit (length t) deferred at c)
 
 -- counters that are shown
-pub from_real : (first : ℕ) (rest : Rest) (at : ℕ) (members : List Member) (counters : List Counters) →
-    AreFrom first members counters → AreFrom first (members_at rest at members) counters
-from_real first rest at members counters h k x shown e f =
-    let m = real_at rest at members k x e in
+pub from_real : (first : ℕ) (deferred : Deferred) (at : ℕ) (members : List Member) (counters : List Counters) →
+    AreFrom first members counters → AreFrom first (materialized deferred at members) counters
+from_real first deferred at members counters h k x shown e f =
+    let m = real_at deferred at members k x e in
     h k m.0 shown m.1 f ∙ sym m.2.counters_are
 
-pub from_whole : (first : ℕ) (rest : Rest) (at : ℕ) (members : List Member) (counters : List Counters) →
-    AreFrom first (members_at rest at members) counters → AreFrom first members counters
-from_whole first rest at members counters h k m shown e f =
-    let x = whole_at rest at members k m e in
+pub from_whole : (first : ℕ) (deferred : Deferred) (at : ℕ) (members : List Member) (counters : List Counters) →
+    AreFrom first (materialized deferred at members) counters → AreFrom first members counters
+from_whole first deferred at members counters h k m shown e f =
+    let x = whole_at deferred at members k m e in
     h k x.0 shown x.1 f ∙ x.2.counters_are
 
 pub from_left : (first : ℕ) (old new : List Member) (counters : List Counters) → AreFrom first old counters →
-    LeavesResting old new → AreFromResting first new counters
+    LeavesDeferred old new → AreFromDeferred first new counters
 from_left first old new counters h left k m shown is e f = h k m shown (left k m e is) f
 
 pub from_alike : (first : ℕ) (old new : List Member) (counters : List Counters) → AreAlike old new →
@@ -76,7 +76,7 @@ behind_alike on k trace old new alike h = record {
   sending_is = alike.sending_is ∙ h.sending_is;
   completed_is = alike.completed_is ∙ h.completed_is;
   bit_is = alike.bit_is ∙ h.bit_is;
-  quiet = λ early. alike.quiet (h.quiet early);
+  uneventful = λ early. alike.uneventful (h.uneventful early);
 }
 
 pub kept_alike : (plan : SegmentPlan) (levels : List Bool) (events : List Event) (t0 t1 c0 c1 : List Member) →
@@ -112,8 +112,11 @@ holds_alike plan made t0 t1 c0 c1 talkers controllers kept few size talkers_show
 }
 
 -- where none rests each stands for itself
-pub holds_awake : (plan : SegmentPlan) (made : Record) (rest : Rest) (bit : ℕ) (t c : List Member) → NoneRests t →
-    NoneRests c → SegmentHolds plan made t c → SegmentHolds plan made (members_at rest bit t) (members_at rest bit c)
-holds_awake plan made rest bit t c awake awake_too h =
-    subst (λ ms. SegmentHolds plan made ms (members_at rest bit c)) (sym (none_resting rest.listener bit t awake))
-    (subst (SegmentHolds plan made t) (sym (none_resting rest.listener bit c awake_too)) h)
+pub holds_active : (plan : SegmentPlan) (made : Record) (deferred : Deferred) (bit : ℕ) (t c : List Member) →
+    NoneDeferred t →
+    NoneDeferred c → SegmentHolds plan made t c → SegmentHolds plan made (materialized deferred bit t) (materialized
+    deferred bit c)
+holds_active plan made deferred bit t c active active_too h =
+    subst (λ ms. SegmentHolds plan made ms (materialized deferred bit c)) (sym (none_deferred_at
+    deferred.shared_receiver bit t active))
+    (subst (SegmentHolds plan made t) (sym (none_deferred_at deferred.shared_receiver bit c active_too)) h)

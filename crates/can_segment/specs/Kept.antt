@@ -6,7 +6,7 @@ use Rattle.can_station.specs.declared.plan.Talker.{Talker}
 use Rattle.can_station.specs.declared.plan.Controller.{Controller}
 use Rattle.can_station.specs.declared.plan.SegmentPlan.{SegmentPlan}
 use Rattle.can_station.specs.declared.event.Event.{Event}
-use Rattle.can_station.specs.Deeds.{no_deed}
+use Rattle.can_station.specs.Actions.{no_action}
 use Rattle.can_segment.specs.Traces.{Bit, past_of, sending_of, completed_of}
 use Rattle.can_segment.specs.Runs.{Run}
 
@@ -17,7 +17,7 @@ pub record StandsBehind (on k : ℕ) (trace : List Bit) (member : Member) : Type
   pub sending_is : member.station.sending ≡ sending_of k trace
   pub completed_is : member.station.completed ≡ completed_of k trace
   pub bit_is : bit_of member.station.node ≡ max on (length trace)
-  pub quiet : length trace ≤ on → member.deed ≡ no_deed
+  pub uneventful : length trace ≤ on → member.action ≡ no_action
 
 -- all nodes of a plan stand behind the trace
 pub record SegmentStands (plan : SegmentPlan) (trace : List Bit) (talkers controllers : List Member) : Type 0 where

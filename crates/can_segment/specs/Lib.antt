@@ -7,6 +7,6 @@ pub mod Brought
 pub mod Segments
 pub mod Attempts
 pub mod Copies
-pub mod Passage
-pub mod Rests
-pub mod QuietBits
+pub mod StepOutcome
+pub mod DeferredState
+pub mod UneventfulBits

@@ -89,9 +89,9 @@ AreFrom first members counters = (k : ℕ) (member : Member) (shown : Counters) 
     slice_get counters (first + k) ≡ Some shown → AreOf member shown
 
 -- those of these nodes that rest
-abbrev pub AreFromResting : ℕ → List Member → List Counters → Type 0
-AreFromResting first members counters =
-    (k : ℕ) (member : Member) (shown : Counters) → member.rests ≡ true → slice_get members k ≡ Some member →
+abbrev pub AreFromDeferred : ℕ → List Member → List Counters → Type 0
+AreFromDeferred first members counters =
+    (k : ℕ) (member : Member) (shown : Counters) → member.is_deferred ≡ true → slice_get members k ≡ Some member →
     slice_get counters (first + k) ≡ Some shown → AreOf member shown
 
 -- what stands in a segment between two bits, where these are recorded

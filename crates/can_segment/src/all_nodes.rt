@@ -1,96 +1,101 @@
-//! What all nodes of a segment do at a bit, those that rest among them.
+//! What all nodes of a segment do at a bit, the deferred ones among them.
 
 ghost use Rattle.std.specs.Prelude.{◌≡◌, ◌≤◌, ◌<◌, ◌+◌, ◌&&◌, ℕ, false, Some, length, slice_get};
 ghost use Rattle.std.specs.List.{list_all};
 ghost use Rattle.can_station.specs.FaultOrder.{StandsAt};
 ghost use Rattle.can_station.specs.Faults.{sampled_level};
-ghost use Rattle.can_station.specs.Deeds.{AreQuiet};
+ghost use Rattle.can_station.specs.Actions.{AreUneventful};
 ghost use Rattle.can_station.specs.Members.{NodeSamples, PortSettles, PortStarts, TalkerStarts, drives_at, wants_at};
 ghost use Rattle.can_segment.specs.Moves.{NodesMove, PortMoves};
 ghost use Rattle.can_station.specs.Places.{AtBoth, AtPlaces};
-ghost use Rattle.can_station.specs.RestingNodes.{AwakeAreQuiet, AwakeWithin, HasRoom, IfAwake, IfAwakeBoth};
-ghost use Rattle.can_station.specs.RestingNodes.{LeavesResting, TransmitsAll};
-ghost use Rattle.can_segment.specs.Rests.{RestHolds, members_at};
+ghost use Rattle.can_station.specs.DeferredNodes.{ActiveAreUneventful, ActiveWithin, HasRoom, IfActive, IfActiveBoth};
+ghost use Rattle.can_station.specs.DeferredNodes.{LeavesDeferred, TransmitsAll};
+ghost use Rattle.can_segment.specs.DeferredState.{DeferredHolds, materialized};
 ghost use Rattle.can_station.specs.declared.member.Member.{Member};
 
-use crate::passage::Passage;
-use crate::rest::Rest;
-use crate::taking::sample_together;
+use crate::deferred::Deferred;
+use crate::shared_sample::sample_together;
+use crate::step_outcome::StepOutcome;
 use can_station::{
     FaultOrder, Member, NodeFault, RxSink, SegmentPlan, Talker, driven_by_all, sample_controllers,
     sample_nodes, start_controllers, start_talkers,
 };
 
-/// All nodes start: those that rest do not, or wake if they may have anything to. The AND of what all drive.
+/// Lets all nodes start, after the deferred nodes that may have something to start were resumed. Returns the AND of the
+/// levels that all nodes drive.
 fn start_all<R, P: RxSink<R>>(
     rt: &R,
     plan: &[Talker],
     talkers: &mut [Member],
     controllers: &mut [Member],
     ports: &mut [P],
-    rest: &mut Rest,
+    deferred: &mut Deferred,
     bit: u64,
 ) -> bool
     requires talkers { length plan.now ≡ length talkers.old }
     requires ports { length ports.old ≡ length controllers.old }
-    requires port { TransmitsAll P.transmitting (members_at rest.old bit controllers.old) ports.old }
-    requires rests { RestHolds rest.old bit plan.now talkers.old controllers.old }
+    requires port { TransmitsAll P.transmitting (materialized deferred.old bit controllers.old) ports.old }
+    requires is_deferred { DeferredHolds deferred.old bit plan.now talkers.old controllers.old }
     ensures talkers { AtPlaces (TalkerStarts bit plan.now)
-        (members_at rest.old bit talkers.old) (members_at rest.new bit talkers.new) }
+        (materialized deferred.old bit talkers.old) (materialized deferred.new bit talkers.new) }
     ensures controllers { AtBoth (λ k. PortStarts P.bus_after P.bus_asked P.transmitting P.bus_stays bit)
-        (members_at rest.old bit controllers.old) (members_at rest.new bit controllers.new) ports.old ports.new }
-    ensures driven { result ≡ (list_all (drives_at bit) (members_at rest.new bit talkers.new)
-        && list_all (drives_at bit) (members_at rest.new bit controllers.new)) }
-    ensures rests { RestHolds rest.new bit plan.now talkers.new controllers.new }
-    ensures left { LeavesResting talkers.old talkers.new × LeavesResting controllers.old controllers.new }
+        (materialized deferred.old bit controllers.old) (materialized deferred.new bit controllers.new) ports.old
+        ports.new }
+    ensures driven { result ≡ (list_all (drives_at bit) (materialized deferred.new bit talkers.new)
+        && list_all (drives_at bit) (materialized deferred.new bit controllers.new)) }
+    ensures is_deferred { DeferredHolds deferred.new bit plan.now talkers.new controllers.new }
+    ensures left { LeavesDeferred talkers.old talkers.new × LeavesDeferred controllers.old controllers.new }
 {
-    rest.rouse(plan, talkers, controllers, bit);
-    start_talkers(talkers, plan, bit, rest.talkers);
-    start_controllers(rt, controllers, ports, bit, rest.controllers);
+    deferred.resume_starters(plan, talkers, controllers, bit);
+    start_talkers(talkers, plan, bit, deferred.talkers);
+    start_controllers(rt, controllers, ports, bit, deferred.controllers);
     driven_by_all(
         talkers,
         controllers,
         bit,
-        rest.drive(),
-        rest.talkers,
-        rest.controllers,
+        deferred.drive(),
+        deferred.talkers,
+        deferred.controllers,
     )
 }
 
-/// What is to be looked at behind a bit: whether something may be told of a node, and whether nodes that rest counted
-/// something.
+/// What has to be looked at after a bit.
 #[derive(Clone, Copy)]
 pub(crate) struct Sampled {
+    /// Something may have been reported of a node.
     pub(crate) told: bool,
+    /// Deferred nodes counted a frame.
     pub(crate) counted: bool,
 }
 
-/// The nodes that are awake sample the line, each with its own faults. Whether something may be told of one of them.
-fn sample_awake<R, P: RxSink<R>>(
+/// Lets the active nodes sample the line, each with its own faults. Returns whether something may have been reported of
+/// one of them.
+fn sample_active<R, P: RxSink<R>>(
     rt: &R,
     faults: &[NodeFault],
     talkers: &mut [Member],
     controllers: &mut [Member],
     ports: &mut [P],
-    rest: &Rest,
+    deferred: &Deferred,
     bit: u64,
     level: bool,
 ) -> bool
     requires ports { length ports.old ≡ length controllers.old }
     requires few { length talkers.old + length controllers.old ≤ 1000 }
-    requires talkers_within { AwakeWithin rest.now.talkers talkers.old }
-    requires controllers_within { AwakeWithin rest.now.controllers controllers.old }
+    requires talkers_within { ActiveWithin deferred.now.talkers talkers.old }
+    requires controllers_within { ActiveWithin deferred.now.controllers controllers.old }
     requires talker_room { HasRoom u64.MAX bit talkers.old }
     requires room { HasRoom u64.MAX bit controllers.old }
     requires port { TransmitsAll P.transmitting controllers.old ports.old }
-    ensures talkers { AtPlaces (λ k. IfAwake (NodeSamples 0 bit level faults.now k)) talkers.old talkers.new }
-    ensures controllers { AtBoth (λ k. IfAwakeBoth (PortSettles P.bus_after P.bus_asked P.transmitting P.sink_after
+    ensures talkers { AtPlaces (λ k. IfActive (NodeSamples 0 bit level faults.now k)) talkers.old talkers.new }
+    ensures controllers { AtBoth (λ k. IfActiveBoth (PortSettles P.bus_after P.bus_asked P.transmitting P.sink_after
         P.port_stays bit (sampled_level faults.now (length talkers.old + k) bit level)))
         controllers.old controllers.new ports.old ports.new }
-    ensures quiet { result ≡ false → AwakeAreQuiet bit talkers.new × AwakeAreQuiet bit controllers.new }
+    ensures uneventful { result ≡ false
+        → ActiveAreUneventful bit talkers.new × ActiveAreUneventful bit controllers.new }
 {
     let first = talkers.len() as u32;
-    let talkers_told = sample_nodes(talkers, faults, 0, bit, level, rest.talkers);
+    let talkers_told = sample_nodes(talkers, faults, 0, bit, level, deferred.talkers);
     let controllers_told = sample_controllers(
         rt,
         controllers,
@@ -99,67 +104,85 @@ fn sample_awake<R, P: RxSink<R>>(
         first,
         bit,
         level,
-        rest.controllers,
+        deferred.controllers,
     );
     talkers_told | controllers_told
 }
 
-/// All nodes sample the line, each with its own faults: those that rest as long as the listener can follow for them,
-/// and count a frame that they acknowledge, or they sample it together, or they wake.
+/// Lets all nodes sample the line, each with its own faults. The deferred nodes are taken through the bit by the shared
+/// receiver, count a frame that they acknowledge, sample the level together, or are resumed.
 fn sample_all<R, P: RxSink<R>>(
     rt: &R,
     faults: &[NodeFault],
     talkers: &mut [Member],
     controllers: &mut [Member],
     ports: &mut [P],
-    rest: &mut Rest,
+    deferred: &mut Deferred,
     plan: &[Talker],
     bit: u64,
     level: bool,
 ) -> Sampled
     requires ports { length ports.old ≡ length controllers.old }
     requires few { length talkers.old + length controllers.old ≤ 1000 }
-    requires talker_room { HasRoom u64.MAX bit (members_at rest.old bit talkers.old) }
-    requires room { HasRoom u64.MAX bit (members_at rest.old bit controllers.old) }
-    requires port { TransmitsAll P.transmitting (members_at rest.old bit controllers.old) ports.old }
-    requires rests { RestHolds rest.old bit plan.now talkers.old controllers.old }
+    requires talker_room { HasRoom u64.MAX bit (materialized deferred.old bit talkers.old) }
+    requires room { HasRoom u64.MAX bit (materialized deferred.old bit controllers.old) }
+    requires port { TransmitsAll P.transmitting (materialized deferred.old bit controllers.old) ports.old }
+    requires is_deferred { DeferredHolds deferred.old bit plan.now talkers.old controllers.old }
     ensures talkers { AtPlaces (NodeSamples 0 bit level faults.now)
-        (members_at rest.old bit talkers.old) (members_at rest.new (bit + 1) talkers.new) }
+        (materialized deferred.old bit talkers.old) (materialized deferred.new (bit + 1) talkers.new) }
     ensures controllers { AtBoth (λ k. PortSettles P.bus_after P.bus_asked P.transmitting P.sink_after P.port_stays bit
         (sampled_level faults.now (length talkers.old + k) bit level))
-        (members_at rest.old bit controllers.old) (members_at rest.new (bit + 1) controllers.new)
+        (materialized deferred.old bit controllers.old) (materialized deferred.new (bit + 1) controllers.new)
         ports.old ports.new }
-    ensures quiet { result.told ≡ false → AreQuiet bit (members_at rest.new (bit + 1) talkers.new)
-        × AreQuiet bit (members_at rest.new (bit + 1) controllers.new) }
-    ensures rests { RestHolds rest.new (bit + 1) plan.now talkers.new controllers.new }
+    ensures uneventful { result.told ≡ false → AreUneventful bit (materialized deferred.new (bit + 1) talkers.new)
+        × AreUneventful bit (materialized deferred.new (bit + 1) controllers.new) }
+    ensures is_deferred { DeferredHolds deferred.new (bit + 1) plan.now talkers.new controllers.new }
     ensures left { result.counted ≡ false
-        → LeavesResting talkers.old talkers.new × LeavesResting controllers.old controllers.new }
+        → LeavesDeferred talkers.old talkers.new × LeavesDeferred controllers.old controllers.new }
 {
-    rest.disturb(faults, plan, talkers, controllers, bit);
-    match rest.go_through(plan, talkers, controllers, bit, level) {
-        Passage::Through => {
-            let told = sample_awake(rt, faults, talkers, controllers, ports, rest, bit, level);
+    deferred.resume_faulted(faults, plan, talkers, controllers, bit);
+    match deferred.step_deferred(plan, talkers, controllers, bit, level) {
+        StepOutcome::Through => {
+            let told = sample_active(
+                rt,
+                faults,
+                talkers,
+                controllers,
+                ports,
+                deferred,
+                bit,
+                level,
+            );
             Sampled {
                 told,
                 counted: false,
             }
         }
-        Passage::Acknowledged => {
-            let told = sample_awake(rt, faults, talkers, controllers, ports, rest, bit, level);
-            rest.count_received(talkers, controllers);
+        StepOutcome::Acknowledged => {
+            let told = sample_active(
+                rt,
+                faults,
+                talkers,
+                controllers,
+                ports,
+                deferred,
+                bit,
+                level,
+            );
+            deferred.count_received(talkers, controllers);
             Sampled {
                 told,
                 counted: true,
             }
         }
-        Passage::Shares(shared) => {
+        StepOutcome::Shares(shared) => {
             let told = sample_together(
                 rt,
                 faults,
                 talkers,
                 controllers,
                 ports,
-                rest,
+                deferred,
                 bit,
                 level,
                 &shared,
@@ -172,20 +195,20 @@ fn sample_all<R, P: RxSink<R>>(
     }
 }
 
-/// What the nodes make of a bit: the level of the line, and what is to be looked at behind it.
+/// What the nodes make of a bit: the level of the line, and what has to be looked at after it.
 pub(crate) struct Moved {
     pub(crate) level: bool,
     pub(crate) sampled: Sampled,
 }
 
-/// What all nodes do at a bit: they start, and sample the line, which has this level.
+/// Lets all nodes start, and sample the line, whose level it returns.
 pub(crate) fn move_nodes<R, P: RxSink<R>>(
     rt: &R,
     plan: &SegmentPlan,
     talkers: &mut [Member],
     controllers: &mut [Member],
     ports: &mut [P],
-    rest: &mut Rest,
+    deferred: &mut Deferred,
     bit: u64,
     faults: &FaultOrder,
 ) -> Moved
@@ -193,26 +216,28 @@ pub(crate) fn move_nodes<R, P: RxSink<R>>(
     requires talkers { length talkers.old ≡ length plan.now.talkers.items }
     requires ports { length ports.old ≡ length controllers.old }
     requires few { length talkers.old + length controllers.old ≤ 1000 }
-    requires talker_clocks { HasRoom u64.MAX bit (members_at rest.old bit talkers.old) }
-    requires clocks { HasRoom u64.MAX bit (members_at rest.old bit controllers.old) }
-    requires port { TransmitsAll P.transmitting (members_at rest.old bit controllers.old) ports.old }
-    requires rests { RestHolds rest.old bit plan.now.talkers.items talkers.old controllers.old }
+    requires talker_clocks { HasRoom u64.MAX bit (materialized deferred.old bit talkers.old) }
+    requires clocks { HasRoom u64.MAX bit (materialized deferred.old bit controllers.old) }
+    requires port { TransmitsAll P.transmitting (materialized deferred.old bit controllers.old) ports.old }
+    requires is_deferred { DeferredHolds deferred.old bit plan.now.talkers.items talkers.old controllers.old }
     ensures nodes { NodesMove plan.now bit result.level
-        (members_at rest.old bit talkers.old) (members_at rest.new (bit + 1) talkers.new)
-        (members_at rest.old bit controllers.old) (members_at rest.new (bit + 1) controllers.new) }
-    ensures port { (k : ℕ) (a m : Member) (p q : P) → slice_get (members_at rest.old bit controllers.old) k ≡ Some a
-        → slice_get (members_at rest.new (bit + 1) controllers.new) k ≡ Some m
+        (materialized deferred.old bit talkers.old) (materialized deferred.new (bit + 1) talkers.new)
+        (materialized deferred.old bit controllers.old) (materialized deferred.new (bit + 1) controllers.new) }
+    ensures port { (k : ℕ) (a m : Member) (p q : P) → slice_get (materialized deferred.old bit controllers.old) k ≡ Some
+        a
+        → slice_get (materialized deferred.new (bit + 1) controllers.new) k ≡ Some m
         → slice_get ports.old k ≡ Some p → slice_get ports.new k ≡ Some q
         → PortMoves P.bus_after P.bus_asked P.transmitting P.sink_after P.port_stays bit (wants_at bit a) m p q }
     ensures size { length ports.new ≡ length ports.old }
-    ensures quiet { result.sampled.told ≡ false → AreQuiet bit (members_at rest.new (bit + 1) talkers.new)
-        × AreQuiet bit (members_at rest.new (bit + 1) controllers.new) }
-    ensures rests { RestHolds rest.new (bit + 1) plan.now.talkers.items talkers.new controllers.new }
+    ensures uneventful { result.sampled.told ≡ false → AreUneventful bit (materialized deferred.new (bit + 1)
+        talkers.new)
+        × AreUneventful bit (materialized deferred.new (bit + 1) controllers.new) }
+    ensures is_deferred { DeferredHolds deferred.new (bit + 1) plan.now.talkers.items talkers.new controllers.new }
     ensures left { result.sampled.counted ≡ false
-        → LeavesResting talkers.old talkers.new × LeavesResting controllers.old controllers.new }
+        → LeavesDeferred talkers.old talkers.new × LeavesDeferred controllers.old controllers.new }
 {
     let talkers_plan = plan.talkers.as_slice();
-    let driven = start_all(rt, talkers_plan, talkers, controllers, ports, rest, bit);
+    let driven = start_all(rt, talkers_plan, talkers, controllers, ports, deferred, bit);
     let level = faults.line_level(bit, driven);
     let here = faults.inverting(bit);
     let sampled = sample_all(
@@ -221,7 +246,7 @@ pub(crate) fn move_nodes<R, P: RxSink<R>>(
         talkers,
         controllers,
         ports,
-        rest,
+        deferred,
         talkers_plan,
         bit,
         level,

@@ -1,24 +1,24 @@
 //! A segment: nodes on one line, bit by bit, and what they did.
 #![tactic(auto)]
 
-mod acknowledging;
+mod active;
 mod all_nodes;
-mod awake;
 mod counts_shown;
+mod deferred;
 mod grow;
-mod idle_run;
-mod leader;
-mod lull;
+mod idle_burst;
 mod make_bit;
 mod opening;
-mod passage;
+mod receiver_choice;
 mod record;
-mod rest;
+mod regroup;
 mod seg_fault;
 mod segment;
-mod send_run;
-mod sole_sender;
-mod taking;
+mod shared_ack;
+mod shared_sample;
+mod single_bit;
+mod step_outcome;
+mod transmit_burst;
 
 pub use crate::record::Record;
 pub use crate::seg_fault::SegFault;

@@ -1,10 +1,10 @@
-//! One bit of a segment.
+//! One bit of a segment at which any node may have something to do.
 
 ghost use Rattle.std.specs.Prelude.{◌≡◌, false, ◌+◌, ◌*◌, ◌<◌, ◌≤◌, ◌++◌, ◌∷◌, [], ℕ, Bool, Some};
 ghost use Rattle.std.specs.Prelude.{length, slice_get, vec_len, vec_capacity};
 ghost use Rattle.can_station.specs.FaultOrder.{StandsAt};
-ghost use Rattle.can_station.specs.RestingNodes.{LeavesResting, TransmitsAll};
-ghost use Rattle.can_segment.specs.Rests.{RestHolds, members_at};
+ghost use Rattle.can_station.specs.DeferredNodes.{LeavesDeferred, TransmitsAll};
+ghost use Rattle.can_segment.specs.DeferredState.{DeferredHolds, materialized};
 ghost use Rattle.can_station.specs.Members.{wants_at};
 ghost use Rattle.can_segment.specs.Moves.{PortMoves};
 ghost use Rattle.can_segment.specs.Kept.{SegmentKept};
@@ -12,10 +12,10 @@ ghost use Rattle.can_station.specs.Tellings.{bit_lines};
 ghost use Rattle.can_station.specs.declared.member.Member.{Member};
 
 use crate::all_nodes::{Moved, Sampled, move_nodes};
-use crate::rest::Rest;
+use crate::deferred::Deferred;
 use can_station::{Event, FaultOrder, Member, RxSink, SegmentPlan, tell_rests, tell_starts};
 
-/// One level more, for which there is room.
+/// Appends one level, for which there is room.
 pub(crate) fn keep(levels: &mut Vec<bool>, level: bool)
     requires { vec_len levels.old < vec_capacity levels.old }
     ensures { levels.new.items ≡ levels.old.items ++ level ∷ [] }
@@ -23,10 +23,10 @@ pub(crate) fn keep(levels: &mut Vec<bool>, level: bool)
     let _ = levels.push(level);
 }
 
-/// The lines of a bit: what starts, and then the rest, each in the order of nodes. At most bits it is known that
-/// nothing is told.
+/// Appends the events of a bit: what starts, then the rest, each in the order of nodes. With `told` false, as at most
+/// bits, nothing is reported.
 fn tell(events: &mut Vec<Event>, bit: u64, talkers: &[Member], controllers: &[Member], told: bool)
-    requires quiet { told ≡ false → bit_lines bit talkers.now controllers.now ≡ [] }
+    requires uneventful { told ≡ false → bit_lines bit talkers.now controllers.now ≡ [] }
     requires few { length talkers.now + length controllers.now ≤ 1000 }
     requires room { vec_len events.old + 3 * (length talkers.now + length controllers.now) ≤ vec_capacity events.old }
     ensures { events.new.items ≡ events.old.items ++ bit_lines bit talkers.now controllers.now }
@@ -41,48 +41,49 @@ fn tell(events: &mut Vec<Event>, bit: u64, talkers: &[Member], controllers: &[Me
     tell_rests(events, bit, first, controllers);
 }
 
-/// The nodes make one more bit, and the record grows by its level and its lines.
+/// Simulates one bit of all nodes, and appends its level and its events to the record.
 pub(crate) fn make_bit<R, P: RxSink<R>>(
     rt: &R,
     plan: &SegmentPlan,
     talkers: &mut [Member],
     controllers: &mut [Member],
     ports: &mut [P],
-    rest: &mut Rest,
+    deferred: &mut Deferred,
     levels: &mut Vec<bool>,
     events: &mut Vec<Event>,
     faults: &FaultOrder,
 ) -> Sampled
     requires stands { StandsAt plan.now (length levels.old.items) faults.now }
     requires kept { SegmentKept plan.now levels.old.items events.old.items
-        (members_at rest.old (length levels.old.items) talkers.old)
-        (members_at rest.old (length levels.old.items) controllers.old) }
+        (materialized deferred.old (length levels.old.items) talkers.old)
+        (materialized deferred.old (length levels.old.items) controllers.old) }
     requires still { length levels.old.items < plan.now.bits }
     requires ports { length ports.old ≡ length controllers.old }
     requires few { length talkers.old + length controllers.old ≤ 1000 }
     requires port { TransmitsAll P.transmitting
-        (members_at rest.old (length levels.old.items) controllers.old) ports.old }
-    requires rests { RestHolds rest.old (length levels.old.items) plan.now.talkers.items talkers.old controllers.old }
+        (materialized deferred.old (length levels.old.items) controllers.old) ports.old }
+    requires is_deferred { DeferredHolds deferred.old (length levels.old.items) plan.now.talkers.items talkers.old
+        controllers.old }
     requires level_room { vec_len levels.old < vec_capacity levels.old }
     requires event_room { vec_len events.old + 3 * (length talkers.old + length controllers.old)
         ≤ vec_capacity events.old }
     ensures kept { SegmentKept plan.now levels.new.items events.new.items
-        (members_at rest.new (length levels.old.items + 1) talkers.new)
-        (members_at rest.new (length levels.old.items + 1) controllers.new) }
+        (materialized deferred.new (length levels.old.items + 1) talkers.new)
+        (materialized deferred.new (length levels.old.items + 1) controllers.new) }
     ensures level { (level : Bool) × (levels.new.items ≡ levels.old.items ++ level ∷ []) }
     ensures events { events.new.items ≡ events.old.items
-        ++ bit_lines (length levels.old.items) (members_at rest.new (length levels.old.items + 1) talkers.new)
-        (members_at rest.new (length levels.old.items + 1) controllers.new) }
+        ++ bit_lines (length levels.old.items) (materialized deferred.new (length levels.old.items + 1) talkers.new)
+        (materialized deferred.new (length levels.old.items + 1) controllers.new) }
     ensures port { (k : ℕ) (a m : Member) (p q : P)
-        → slice_get (members_at rest.old (length levels.old.items) controllers.old) k ≡ Some a
-        → slice_get (members_at rest.new (length levels.old.items + 1) controllers.new) k ≡ Some m
+        → slice_get (materialized deferred.old (length levels.old.items) controllers.old) k ≡ Some a
+        → slice_get (materialized deferred.new (length levels.old.items + 1) controllers.new) k ≡ Some m
         → slice_get ports.old k ≡ Some p → slice_get ports.new k ≡ Some q
         → PortMoves P.bus_after P.bus_asked P.transmitting P.sink_after P.port_stays (length levels.old.items)
         (wants_at (length levels.old.items) a) m p q }
-    ensures rests { RestHolds rest.new (length levels.old.items + 1) plan.now.talkers.items
+    ensures is_deferred { DeferredHolds deferred.new (length levels.old.items + 1) plan.now.talkers.items
         talkers.new controllers.new }
     ensures left { result.counted ≡ false
-        → LeavesResting talkers.old talkers.new × LeavesResting controllers.old controllers.new }
+        → LeavesDeferred talkers.old talkers.new × LeavesDeferred controllers.old controllers.new }
     ensures size { length ports.new ≡ length ports.old }
 {
     let bit = levels.len() as u64;
@@ -92,7 +93,7 @@ pub(crate) fn make_bit<R, P: RxSink<R>>(
         talkers,
         controllers,
         ports,
-        rest,
+        deferred,
         bit,
         faults,
     );

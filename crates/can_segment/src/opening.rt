@@ -7,7 +7,7 @@ use can_node::Counters;
 use can_station::{Controller, Member, Talker};
 use std::alloc::{AllocError, Global};
 
-/// Counters in which nothing is counted yet.
+/// Returns counters for this many nodes, in which nothing is counted yet.
 pub(crate) fn counters_for(alloc: Global, nodes: usize) -> Result<Vec<Counters>, AllocError>
     ensures { IfOk result (λ counters. length counters.items ≡ nodes) }
 {
@@ -18,7 +18,7 @@ pub(crate) fn counters_for(alloc: Global, nodes: usize) -> Result<Vec<Counters>,
     Ok(counters)
 }
 
-/// The talkers before their first bit.
+/// Returns the talkers before their first bit.
 pub(crate) fn talkers_of(alloc: Global, talkers: &[Talker]) -> Result<Vec<Member>, AllocError>
     ensures { IfOk result (λ members. AreFresh (λ talker. talker.on) talkers.now members.items) }
 {
@@ -29,7 +29,7 @@ pub(crate) fn talkers_of(alloc: Global, talkers: &[Talker]) -> Result<Vec<Member
     Ok(members)
 }
 
-/// The controllers before their first bit.
+/// Returns the controllers before their first bit.
 pub(crate) fn controllers_of(
     alloc: Global,
     controllers: &[Controller],

@@ -1,4 +1,4 @@
-//! What became of a segment.
+//! The record of a segment: levels, events and error counters.
 
 ghost use Rattle.std.specs.Prelude.{◌≡◌, ◌+◌, ◌*◌, ◌<◌, ◌≤◌, vec_len, vec_capacity, OnOk};
 
@@ -6,18 +6,18 @@ use can_node::Counters;
 use can_station::Event;
 use std::alloc::AllocError;
 
-/// What a segment did.
+/// The levels, the events and the error counters of a segment, up to some bit.
 #[derive(Drop)]
 pub struct Record {
     /// The level of the line at each bit, true being recessive.
     pub levels: Vec<bool>,
-    /// What happened: by bit; in one bit first what started, then the rest, each in the order of nodes.
+    /// What happened, by bit; at one bit first what started, then the rest, each in the order of nodes.
     pub events: Vec<Event>,
-    /// The error counters behind the last bit, in the order of nodes.
+    /// The error counters after the last bit, in the order of nodes.
     pub counters: Vec<Counters>,
 }
 
-/// Room for one level and for three events of each node.
+/// Reserves room for one level and for three events of each node.
 pub(crate) fn make_room(made: &mut Record, nodes: usize) -> Result<(), AllocError>
     requires { nodes ≤ 16 }
     ensures levels { made.new.levels.items ≡ made.old.levels.items }

@@ -1,14 +1,14 @@
-//! What ends the bits of a segment.
+//! Why a segment simulates no bit.
 
 use thiserror::Error;
 
-/// Why a segment makes no bit, or is not made.
+/// Why a segment simulates no bit, or cannot be created.
 #[derive(Clone, Copy, Debug, PartialEq, Eq, Error)]
 pub enum SegFault {
-    /// All bits of its plan are made.
+    /// All bits of its plan are simulated.
     #[error("S1 Ended")]
     Ended,
-    /// A growth was refused.
+    /// An allocation failed.
     #[error("S2 Memory")]
     Memory,
 }

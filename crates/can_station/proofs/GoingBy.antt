@@ -9,21 +9,21 @@ use Rattle.can_node.specs.PlainBits.{GoesOnBy}
 use Rattle.can_node.proofs.GoingBy.{may_taken}
 use Rattle.can_station.specs.declared.member.Member.{Member}
 use Rattle.can_station.specs.declared.place_set.PlaceSet.{PlaceSet}
-use Rattle.can_station.specs.Deeds.{IsQuiet}
-use Rattle.can_station.specs.RestingNodes.{MayGoBy, MemberGoesBy}
+use Rattle.can_station.specs.Actions.{IsUneventful}
+use Rattle.can_station.specs.DeferredNodes.{MayGoBy, MemberGoesBy}
 use Rattle.can_station.proofs.PlaceSets.{EachBut}
 
 -- the member with this node
 abbrev with_node : Member → Node → Member
 with_node member node = record {
   on = member.on;
-  rests = member.rests;
+  is_deferred = member.is_deferred;
   station = record {
     node = node;
     sending = member.station.sending;
     completed = member.station.completed;
   };
-  deed = member.deed;
+  action = member.action;
 }
 
 on_at : (on bit : ℕ) → on ≤ bit → nat_le on bit ≡ true
@@ -31,48 +31,48 @@ on_at on bit h =
     elim (leb_tells on bit) [ inl is ↦ is.0 | inr not ↦ absurd (let less = not.1 in omega (arith, h, less)) ]
 
 pub member_by : (is_sender : Bool) (bit : ℕ) (levels : List Bool) (member : Member) (node : Node) →
-    member.rests ≡ false → member.on ≤ bit → IsQuiet member.deed →
+    member.is_deferred ≡ false → member.on ≤ bit → IsUneventful member.action →
     GoesOnBy is_sender member.station.node levels node →
     MemberGoesBy is_sender bit levels member (with_node member node)
-member_by is_sender bit [] member node awake is_on quiet go = ap (with_node member) go
-member_by is_sender bit (level ∷ levels) member node awake is_on quiet go = (
+member_by is_sender bit [] member node active is_on uneventful go = ap (with_node member) go
+member_by is_sender bit (level ∷ levels) member node active is_on uneventful go = (
   with_node member go.0,
   record {
-    awake = awake;
+    active = active;
     is_on = is_on;
-    quiet = quiet;
+    uneventful = uneventful;
     begins_none = go.1.begins_none;
     samples = go.1.samples;
     history = go.1.history;
     bit_is = go.1.bit_is;
     counts_none = go.1.counts_none;
-    awake_too = awake;
+    active_too = active;
     on_is = refl;
-    deed_is = refl;
+    action_is = refl;
     sending_is = refl;
     completed_is = refl;
   },
   ap (λ b. cond b (driven_by member.station.node) true) (on_at member.on bit is_on) ∙ go.2,
-  member_by is_sender (bit + 1) levels (with_node member go.0) node awake (omega (arith, is_on)) quiet go.3,
+  member_by is_sender (bit + 1) levels (with_node member go.0) node active (omega (arith, is_on)) uneventful go.3,
 )
 
 -- with the first of these levels
 pub by_taken : (is_sender : Bool) (bit n : ℕ) (levels : List Bool) (member : Member) →
     MayGoBy is_sender bit levels member → MayGoBy is_sender bit (take n levels) member
 by_taken is_sender bit n levels member h = record {
-  awake = h.awake;
+  active = h.active;
   is_on = h.is_on;
-  quiet = h.quiet;
+  uneventful = h.uneventful;
   goes = may_taken is_sender n levels member.station.node h.goes;
 }
 
 -- so does one that is awake, but the one at this place
 abbrev pub StaysBeside : ℕ → ℕ → List Bool → ℕ → Member → Type 0
-StaysBeside but bit levels k m = k ≢ but → m.rests ≡ false → MayGoBy false bit levels m
+StaysBeside but bit levels k m = k ≢ but → m.is_deferred ≡ false → MayGoBy false bit levels m
 
 pub fewer_beside : (but bit n : ℕ) (levels : List Bool) (members : List Member) (left : PlaceSet) →
     EachBut (StaysBeside but bit levels) members left → EachBut (StaysBeside but bit (take n levels)) members left
 fewer_beside but bit n levels members left so_far = record {
   within = so_far.within;
-  each = λ k m out e not awake. by_taken false bit n levels m (so_far.each k m out e not awake);
+  each = λ k m out e not active. by_taken false bit n levels m (so_far.each k m out e not active);
 }

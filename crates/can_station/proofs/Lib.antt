@@ -3,6 +3,6 @@ pub mod Tellings
 pub mod Events
 pub mod Settles
 pub mod FaultsInOrder
-pub mod Wakes
+pub mod Resuming
 pub mod PlaceSets
 pub mod GoingBy

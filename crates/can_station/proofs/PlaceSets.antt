@@ -16,7 +16,7 @@ use Rattle.can_station.specs.declared.place_set.PlaceSet.{PlaceSet}
 use Rattle.can_station.specs.Places.{AtBoth, AtPlaces}
 use Rattle.can_station.proofs.Places.{AtBothBut, AtPlacesBut, same_some, some_there, get_set_same, get_set_other}
 use Rattle.can_station.specs.PlaceSets.{HasPlace, IsEmpty, IsFirst, IsWith, IsWithout}
-use Rattle.can_station.specs.RestingNodes.{AwakeWithin, IfAwake, IfAwakeBoth}
+use Rattle.can_station.specs.DeferredNodes.{ActiveWithin, IfActive, IfActiveBoth}
 
 -- the first place of a set that has one is that of the lowest 1
 pub first_is : (set : PlaceSet) → 0 < set.bits → set.bits < 2 ^ 64 → IsFirst (trailing_zeros w64 set.bits) set
@@ -81,49 +81,50 @@ fewer set place room has = elim (cases_eq (bit_and set.bits mask) set.bits) [
     mask = bit_not w64 (1 * 2 ^ place % 2 ^ 64)
 
 -- those of the first of these that are awake have the places of the set
-pub record AwakeBelow (set : PlaceSet) (members : List Member) (i : ℕ) : Type 0 where
+pub record ActiveBelow (set : PlaceSet) (members : List Member) (i : ℕ) : Type 0 where
   pub within : (k : ℕ) → HasPlace set k → k < i
-  pub has : (k : ℕ) (m : Member) → k < i → slice_get members k ≡ Some m → m.rests ≡ false → HasPlace set k
-  pub awake : (k : ℕ) (m : Member) → HasPlace set k → slice_get members k ≡ Some m → m.rests ≡ false
+  pub has : (k : ℕ) (m : Member) → k < i → slice_get members k ≡ Some m → m.is_deferred ≡ false → HasPlace set k
+  pub active : (k : ℕ) (m : Member) → HasPlace set k → slice_get members k ≡ Some m → m.is_deferred ≡ false
 
 -- one whose place isn't in the set rests
-pub rests_outside : (set : PlaceSet) (members : List Member) (k : ℕ) (m : Member) → AwakeWithin set members →
-    slice_get members k ≡ Some m → (HasPlace set k → ⊥) → m.rests ≡ true
-rests_outside set members k m h e out = by m.rests refl
+pub deferred_outside : (set : PlaceSet) (members : List Member) (k : ℕ) (m : Member) → ActiveWithin set members →
+    slice_get members k ≡ Some m → (HasPlace set k → ⊥) → m.is_deferred ≡ true
+deferred_outside set members k m h e out = by m.is_deferred refl
   where
-    by : (b : Bool) → m.rests ≡ b → m.rests ≡ true
+    by : (b : Bool) → m.is_deferred ≡ b → m.is_deferred ≡ true
     by true is = is
     by false is = absurd (out (h.has k m e is))
 
 -- one that rests makes no step
-rests_step : (Step : Member → Member → Type 0) (old new : Member) → new ≡ old → old.rests ≡ true → IfAwake Step old new
-rests_step Step old new same is =
-    record { rests_on = λ e. same; stays_awake = λ e. absurd (cc (e, is)); steps = λ e. absurd (cc (e, is)) }
+deferred_step : (Step : Member → Member → Type 0) (old new : Member) → new ≡ old → old.is_deferred ≡ true → IfActive
+    Step old new
+deferred_step Step old new same is =
+    record { stays_deferred = λ e. same; stays_active = λ e. absurd (cc (e, is)); steps = λ e. absurd (cc (e, is)) }
 
-rests_both : {P : Type 0} (Step : Member → Member → P → P → Type 0) (old new : Member) (from to : P) → new ≡ old →
-    to ≡ from → old.rests ≡ true → IfAwakeBoth Step old new from to
-rests_both Step old new from to same same_port is = record {
-  rests_on = λ e. (same, same_port);
-  stays_awake = λ e. absurd (cc (e, is));
+deferred_both : {P : Type 0} (Step : Member → Member → P → P → Type 0) (old new : Member) (from to : P) → new ≡ old →
+    to ≡ from → old.is_deferred ≡ true → IfActiveBoth Step old new from to
+deferred_both Step old new from to same same_port is = record {
+  stays_deferred = λ e. (same, same_port);
+  stays_active = λ e. absurd (cc (e, is));
   steps = λ e. absurd (cc (e, is));
 }
 
 -- before a loop over the places at which nodes may be awake those elsewhere have made none
-pub but_start : (Step : ℕ → Member → Member → Type 0) (xs : List Member) (set : PlaceSet) → AwakeWithin set xs →
-    AtPlacesBut (λ k. IfAwake (Step k)) xs xs set
+pub but_start : (Step : ℕ → Member → Member → Type 0) (xs : List Member) (set : PlaceSet) → ActiveWithin set xs →
+    AtPlacesBut (λ k. IfActive (Step k)) xs xs set
 but_start Step xs set h = record {
   within = h.within;
-  made = λ k a b not p q. rests_step (Step k) a b (same_some b a (sym q ∙ p)) (rests_outside set xs k a h p not);
+  made = λ k a b not p q. deferred_step (Step k) a b (same_some b a (sym q ∙ p)) (deferred_outside set xs k a h p not);
   same = λ k has. refl;
   size = refl;
 }
 
 pub both_start : {P : Type 0} (Step : ℕ → Member → Member → P → P → Type 0) (xs : List Member) (ps : List P)
-    (set : PlaceSet) → AwakeWithin set xs → AtBothBut (λ k. IfAwakeBoth (Step k)) xs xs ps ps set
+    (set : PlaceSet) → ActiveWithin set xs → AtBothBut (λ k. IfActiveBoth (Step k)) xs xs ps ps set
 both_start Step xs ps set h = record {
   within = h.within;
-  made = λ k a b p q not ea eb ep eq. rests_both (Step k) a b p q (same_some b a (sym eb ∙ ea))
-      (same_some q p (sym eq ∙ ep)) (rests_outside set xs k a h ea not);
+  made = λ k a b p q not ea eb ep eq. deferred_both (Step k) a b p q (same_some b a (sym eb ∙ ea))
+      (same_some q p (sym eq ∙ ep)) (deferred_outside set xs k a h ea not);
   same = λ k has. refl;
   same_too = λ k has. refl;
   size = refl;
@@ -132,7 +133,7 @@ both_start Step xs ps set h = record {
 
 -- no other node is awake behind such steps
 pub within_places : (Step : ℕ → Member → Member → Type 0) (set : PlaceSet) (old new : List Member) →
-    AtPlaces (λ k. IfAwake (Step k)) old new → AwakeWithin set old → AwakeWithin set new
+    AtPlaces (λ k. IfActive (Step k)) old new → ActiveWithin set old → ActiveWithin set new
 within_places Step set old new h w = record {
   within = λ k has. let less = w.within k has in omega (arith, less, h.size);
   has = λ k m e is.
@@ -140,16 +141,16 @@ within_places Step set old new h w = record {
       w.has k x.0 x.1 (was x.0 m (h.at k x.0 m x.1 e) is);
 }
   where
-    was : {S : Member → Member → Type 0} (x m : Member) → IfAwake S x m → m.rests ≡ false → x.rests ≡ false
-    was x m step is = by x.rests refl
+    was : {S : Member → Member → Type 0} (x m : Member) → IfActive S x m → m.is_deferred ≡ false → x.is_deferred ≡ false
+    was x m step is = by x.is_deferred refl
       where
-        by : (b : Bool) → x.rests ≡ b → x.rests ≡ false
+        by : (b : Bool) → x.is_deferred ≡ b → x.is_deferred ≡ false
         by false on = on
-        by true on = ap (λ y. y.rests) (sym (step.rests_on on)) ∙ is
+        by true on = ap (λ y. y.is_deferred) (sym (step.stays_deferred on)) ∙ is
 
 pub within_both : {P : Type 0} (Step : ℕ → Member → Member → P → P → Type 0) (set : PlaceSet) (old new : List Member)
-    (from to : List P) → length from ≡ length old → AtBoth (λ k. IfAwakeBoth (Step k)) old new from to →
-    AwakeWithin set old → AwakeWithin set new
+    (from to : List P) → length from ≡ length old → AtBoth (λ k. IfActiveBoth (Step k)) old new from to →
+    ActiveWithin set old → ActiveWithin set new
 within_both {P = P} Step set old new from to sizes h w = record {
   within = λ k has. let less = w.within k has in omega (arith, less, h.size);
   has = λ k m e is.
@@ -160,24 +161,24 @@ within_both {P = P} Step set old new from to sizes h w = record {
       w.has k x.0 x.1 (was (Step k) x.0 m p.0 q.0 (h.at k x.0 m p.0 q.0 x.1 e p.1 q.1) is);
 }
   where
-    was : (S : Member → Member → P → P → Type 0) (x m : Member) (p q : P) → IfAwakeBoth S x m p q →
-        m.rests ≡ false → x.rests ≡ false
-    was S x m p q step is = by x.rests refl
+    was : (S : Member → Member → P → P → Type 0) (x m : Member) (p q : P) → IfActiveBoth S x m p q →
+        m.is_deferred ≡ false → x.is_deferred ≡ false
+    was S x m p q step is = by x.is_deferred refl
       where
-        by : (b : Bool) → x.rests ≡ b → x.rests ≡ false
+        by : (b : Bool) → x.is_deferred ≡ b → x.is_deferred ≡ false
         by false on = on
-        by true on = ap (λ y. y.rests) (sym (step.rests_on on).0) ∙ is
+        by true on = ap (λ y. y.is_deferred) (sym (step.stays_deferred on).0) ∙ is
 
 -- this is so of each node, but of those left
 pub record EachBut (Q : ℕ → Member → Type 0) (members : List Member) (left : PlaceSet) : Type 0 where
   pub within : (k : ℕ) → HasPlace left k → k < length members
   pub each : (k : ℕ) (m : Member) → (HasPlace left k → ⊥) → slice_get members k ≡ Some m → Q k m
 
-pub each_start : (Q : ℕ → Member → Type 0) (members : List Member) (set : PlaceSet) → AwakeWithin set members →
-    ((k : ℕ) (m : Member) → m.rests ≡ true → Q k m) → EachBut Q members set
-each_start Q members set h resting = record {
+pub each_start : (Q : ℕ → Member → Type 0) (members : List Member) (set : PlaceSet) → ActiveWithin set members →
+    ((k : ℕ) (m : Member) → m.is_deferred ≡ true → Q k m) → EachBut Q members set
+each_start Q members set h deferred_level = record {
   within = h.within;
-  each = λ k m not e. resting k m (rests_outside set members k m h e not);
+  each = λ k m not e. deferred_level k m (deferred_outside set members k m h e not);
 }
 
 pub each_step : (Q : ℕ → Member → Type 0) (members : List Member) (left after : PlaceSet) (i : ℕ) (m : Member) →

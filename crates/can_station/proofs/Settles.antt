@@ -8,8 +8,8 @@ use Rattle.bx_core.specs.TxBus.{Item, BusPast, BusCall}
 use Rattle.can_station.specs.declared.member.Member.{Member}
 use Rattle.can_station.specs.Ports.{item_of}
 use Rattle.can_station.specs.Outcomes.{sending_after, completed_by}
-use Rattle.can_station.specs.Deeds.{IsQuiet, Names}
-use Rattle.can_station.specs.RestingNodes.{IfAwake, IfAwakeBoth}
+use Rattle.can_station.specs.Actions.{IsUneventful, Names}
+use Rattle.can_station.specs.DeferredNodes.{IfActive, IfActiveBoth}
 use Rattle.can_station.specs.Members.{is_on, settled_at, taken_at, SamplesOn, Samples, IsUnsettled, Settles}
 use Rattle.can_station.specs.Members.{SamplesAndSettles, PortSettled, PortSettles}
 
@@ -27,14 +27,14 @@ unsettled transmits bit level old mid is s = record {
 settled_on : (bit : ℕ) (level : Bool) (old mid new : Member) → SamplesOn level old mid → Settles bit mid new →
     SamplesOn level old new
 settled_on bit level old mid new s t =
-    let names : Names new.deed old.station.sending = elim s.names [
-      | inl quiet ↦ inl (subst (λ m. IsQuiet m.deed) (sym (t.quiet quiet.no_end)) quiet)
+    let names : Names new.action old.station.sending = elim s.names [
+      | inl uneventful ↦ inl (subst (λ m. IsUneventful m.action) (sym (t.uneventful uneventful.no_end)) uneventful)
       | inr named ↦ inr (t.sent_is ∙ named)
     ] in
     record {
       began_is = t.began_is ∙ s.began_is;
       names = names;
-      stands = subst (λ x. IsSample old.station.node level new.deed.outcome x.node) (sym t.station_is)
+      stands = subst (λ x. IsSample old.station.node level new.action.outcome x.node) (sym t.station_is)
           (subst (λ o. IsSample old.station.node level o mid.station.node) (sym t.outcome_is) s.stands);
       history = subst (λ x. (past : Past) → StandsAfter x.node past → IsHistory past) (sym t.station_is) s.history;
       sending_is =
@@ -63,53 +63,56 @@ port_settles after asked transmitting sink stays bit level old mid new from to s
     let same_on : is_on bit mid ≡ is_on bit old = ap (λ n. nat_le n bit) s.on_is in
     record {
       member = settled_too bit level old mid new s p.member;
-      bus = λ past h. subst (λ on. after to (settled_at on past new.deed)) same_on (p.bus past h);
+      bus = λ past h. subst (λ on. after to (settled_at on past new.action)) same_on (p.bus past h);
       asks_none = p.asks_none;
       transmits = p.transmits;
-      offers = λ past h. subst (λ on. sink to (past ++ taken_at on new.deed)) same_on (p.offers past h);
+      offers = λ past h. subst (λ on. sink to (past ++ taken_at on new.action)) same_on (p.offers past h);
       stays_on = p.stays_on;
     }
 
-pub quiet_settled : (bit : ℕ) (mid new : Member) → Settles bit mid new → (mid.on ≤ bit → IsQuiet mid.deed) →
-    new.on ≤ bit → IsQuiet new.deed
-quiet_settled bit mid new t quiet on =
-    let calm = quiet (omega (arith, on, t.on_is)) in
-    subst (λ m. IsQuiet m.deed) (sym (t.quiet calm.no_end)) calm
+pub uneventful_settled : (bit : ℕ) (mid new : Member) → Settles bit mid new → (mid.on ≤ bit → IsUneventful mid.action) →
+    new.on ≤ bit → IsUneventful new.action
+uneventful_settled bit mid new t uneventful on =
+    let calm = uneventful (omega (arith, on, t.on_is)) in
+    subst (λ m. IsUneventful m.action) (sym (t.uneventful calm.no_end)) calm
 
 -- the same of one that is awake, and of one that rests
-was_awake : (Step : Member → Member → Type 0) (old new : Member) → IfAwake Step old new → new.rests ≡ false →
-    old.rests ≡ false
-was_awake Step old new s awake = by old.rests refl
+was_active : (Step : Member → Member → Type 0) (old new : Member) → IfActive Step old new → new.is_deferred ≡ false →
+    old.is_deferred ≡ false
+was_active Step old new s active = by old.is_deferred refl
   where
-    by : (b : Bool) → old.rests ≡ b → old.rests ≡ false
-    by true e = let same = ap (λ m. m.rests) (s.rests_on e) in absurd (cc (awake, same, e))
+    by : (b : Bool) → old.is_deferred ≡ b → old.is_deferred ≡ false
+    by true e = let same = ap (λ m. m.is_deferred) (s.stays_deferred e) in absurd (cc (active, same, e))
     by false e = e
 
-pub unsettled_awake : (transmits : Option Item) (bit : ℕ) (level : Bool) (old mid : Member) →
-    transmits ≡ item_of old.station.sending → IfAwake (Samples bit level) old mid → mid.rests ≡ false →
+pub unsettled_active : (transmits : Option Item) (bit : ℕ) (level : Bool) (old mid : Member) →
+    transmits ≡ item_of old.station.sending → IfActive (Samples bit level) old mid → mid.is_deferred ≡ false →
     IsUnsettled transmits bit mid
-unsettled_awake transmits bit level old mid is s awake =
-    unsettled transmits bit level old mid is (s.steps (was_awake (Samples bit level) old mid s awake))
+unsettled_active transmits bit level old mid is s active =
+    unsettled transmits bit level old mid is (s.steps (was_active (Samples bit level) old mid s active))
 
 pub settles_both : {P : Type 0} (after : P → BusPast → Type 0) (asked : P → List BusCall → Type 0)
     (transmitting : P → Option Item) (sink : P → List FrameValue → Type 0) (stays : P → P → Type 0) (bit : ℕ)
     (level : Bool) (old mid new : Member) (from to : P) →
-    IfAwake (Samples bit level) old mid → IfAwakeBoth (PortSettled after asked transmitting sink stays bit) mid new from
-    to → IfAwakeBoth (PortSettles after asked transmitting sink stays bit level) old new from to
+    IfActive (Samples bit level) old mid → IfActiveBoth (PortSettled after asked transmitting sink stays bit) mid new
+    from
+    to → IfActiveBoth (PortSettles after asked transmitting sink stays bit level) old new from to
 settles_both after asked transmitting sink stays bit level old mid new from to s p = record {
-  rests_on = λ e. let same = s.rests_on e in let on = p.rests_on (ap (λ m. m.rests) same ∙ e) in (on.0 ∙ same, on.1);
-  stays_awake = λ e. p.stays_awake (s.stays_awake e);
+  stays_deferred = λ e. let same = s.stays_deferred e in let on = p.stays_deferred (ap (λ m. m.is_deferred) same ∙ e) in
+      (on.0 ∙ same, on.1);
+  stays_active = λ e. p.stays_active (s.stays_active e);
   steps = λ e. port_settles after asked transmitting sink stays bit level old mid new from to (s.steps e)
-      (p.steps (s.stays_awake e));
+      (p.steps (s.stays_active e));
 }
 
-pub quiet_both : {P : Type 0} (after : P → BusPast → Type 0) (asked : P → List BusCall → Type 0)
+pub uneventful_both : {P : Type 0} (after : P → BusPast → Type 0) (asked : P → List BusCall → Type 0)
     (transmitting : P → Option Item) (sink : P → List FrameValue → Type 0) (stays : P → P → Type 0) (bit : ℕ)
     (mid new : Member) (from to : P) →
-    IfAwakeBoth (PortSettled after asked transmitting sink stays bit) mid new from to →
-    (mid.rests ≡ false → mid.on ≤ bit → IsQuiet mid.deed) → new.rests ≡ false → new.on ≤ bit → IsQuiet new.deed
-quiet_both after asked transmitting sink stays bit mid new from to s quiet awake = by mid.rests refl
+    IfActiveBoth (PortSettled after asked transmitting sink stays bit) mid new from to →
+    (mid.is_deferred ≡ false → mid.on ≤ bit → IsUneventful mid.action) → new.is_deferred ≡ false → new.on ≤ bit →
+    IsUneventful new.action
+uneventful_both after asked transmitting sink stays bit mid new from to s uneventful active = by mid.is_deferred refl
   where
-    by : (b : Bool) → mid.rests ≡ b → new.on ≤ bit → IsQuiet new.deed
-    by true e = let same = ap (λ m. m.rests) (s.rests_on e).0 in absurd (cc (awake, same, e))
-    by false e = quiet_settled bit mid new (s.steps e).member (quiet e)
+    by : (b : Bool) → mid.is_deferred ≡ b → new.on ≤ bit → IsUneventful new.action
+    by true e = let same = ap (λ m. m.is_deferred) (s.stays_deferred e).0 in absurd (cc (active, same, e))
+    by false e = uneventful_settled bit mid new (s.steps e).member (uneventful e)

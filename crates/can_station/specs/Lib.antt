@@ -6,12 +6,12 @@ pub mod EventParts
 pub mod Lines
 pub mod Stations
 pub mod Ports
-pub mod Deeds
+pub mod Actions
 pub mod Members
 pub mod PlaceSets
 pub mod Places
 pub mod Tellings
 pub mod Fresh
 pub mod FaultOrder
-pub mod RestingNodes
+pub mod DeferredNodes
 pub mod ManyBits

@@ -145,9 +145,9 @@ impl FaultOrder {
     /// A bit before which no fault stands behind the cursors, `limit` at most: up to it they stand where they do, and
     /// pass nothing.
     #[inline]
-    pub fn quiet_until(&self, limit: u64) -> u64
+    pub fn faultless_until(&self, limit: u64) -> u64
         ensures limit { result ≤ limit }
-        ensures quiet { (plan : SegmentPlan) (bit : ℕ) → bit < result → StandsAt plan bit self.now
+        ensures uneventful { (plan : SegmentPlan) (bit : ℕ) → bit < result → StandsAt plan bit self.now
             → IsFaultless plan bit × StandsAt plan (bit + 1) self.now }
     {
         limit.min(self.next_bit)

@@ -12,26 +12,26 @@ mod members;
 mod place_set;
 mod plan;
 mod port;
+mod resume;
 mod runs;
 mod rx_sink;
 mod station;
 mod tell;
 mod transmission;
-mod wake;
 
 pub use crate::event::{Event, Label, Told};
 pub use crate::fault_order::FaultOrder;
 pub use crate::going::{all_go_on, all_stay_out, go_on, go_on_by};
-pub use crate::member::{Deed, Member};
+pub use crate::member::{Action, Member};
 pub use crate::members::{
     driven_by_all, sample_controllers, sample_nodes, start_controllers, start_talkers,
 };
 pub use crate::place_set::PlaceSet;
 pub use crate::plan::{Controller, LineFault, NodeFault, SegmentPlan, Talker};
+pub use crate::resume::{
+    clear_actions, receive_all, resume_each, resume_each_faulted, resume_each_unfinished, share_all,
+};
 pub use crate::rx_sink::RxSink;
 pub use crate::station::Station;
 pub use crate::tell::{tell_rests, tell_starts};
 pub use crate::transmission::Transmission;
-pub use crate::wake::{
-    fall_silent, receive_all, share_all, wake_all, wake_disturbed, wake_unspent,
-};

@@ -8,11 +8,11 @@ ghost use Rattle.can_confinement.specs.KnownCounts.{Knows};
 ghost use Rattle.can_node.specs.Node.{bit_of, counters_in};
 ghost use Rattle.can_station.specs.Ports.{item_of, Undone, Asks, started, started_item};
 ghost use Rattle.can_station.specs.Fresh.{IsFresh};
-ghost use Rattle.can_station.specs.Deeds.{IsQuiet, Names, no_deed};
+ghost use Rattle.can_station.specs.Actions.{IsUneventful, Names, no_action};
 ghost use Rattle.can_station.specs.Outcomes.{sending_after, completed_by};
-ghost use Rattle.can_station.specs.RestingNodes.{GoesAsItMay, MayGo, MayGoBy, MayWake};
-ghost use Rattle.can_station.specs.RestingNodes.{CountsReceived, KnowsResting, MemberGoes, Shares};
-ghost use Rattle.can_station.specs.RestingNodes.{laid_down, silenced, woken};
+ghost use Rattle.can_station.specs.DeferredNodes.{GoesAsItMay, MayGo, MayGoBy, MayResume};
+ghost use Rattle.can_station.specs.DeferredNodes.{CountsReceived, KnowsDeferred, MemberGoes, Shares};
+ghost use Rattle.can_station.specs.DeferredNodes.{deferred_member, cleared, resumed};
 ghost use Rattle.can_station.specs.Members.{
   AreOf,
   is_on,
@@ -33,27 +33,27 @@ use crate::rx_sink::RxSink;
 use crate::station::Station;
 use crate::transmission::Transmission;
 use can_frame::Frame;
-use can_node::{Counters, KnownCounts, Listener, Outcome, SharedSample};
+use can_node::{Counters, KnownCounts, Outcome, SharedReceiver, SharedSample};
 
-/// What a node did at the last bit. What it sent is kept up only at bits of which something is told.
+/// What a node did at the last bit. What it sent is kept up only at bits at which something is reported.
 #[derive(Clone, Copy)]
-pub struct Deed {
-    /// Whether it began to send.
+pub struct Action {
+    /// It began to send.
     pub began: bool,
     /// What it sent, or began to send, at that bit.
     pub sent: Option<Transmission>,
-    /// What became of it.
+    /// What the bit brought to an end.
     pub outcome: Outcome,
     /// The request that failed, was asked to end, and ended.
     pub reaped: Option<Label>,
 }
 
-impl Deed {
-    /// What a node has done that was never on.
-    fn none() -> Deed
-        ensures { result ≡ no_deed }
+impl Action {
+    /// Returns what a node did that was never on: nothing.
+    fn none() -> Action
+        ensures { result ≡ no_action }
     {
-        Deed {
+        Action {
             began: false,
             sent: None,
             outcome: Outcome::Nothing,
@@ -61,10 +61,10 @@ impl Deed {
         }
     }
 
-    /// Whether nothing is told of it.
-    pub(crate) fn is_quiet(&self) -> bool
-        ensures quiet { result ≡ true → IsQuiet self.now }
-        ensures told { IsQuiet self.now → result ≡ true }
+    /// Returns whether nothing is reported of it.
+    pub(crate) fn is_uneventful(&self) -> bool
+        ensures uneventful { result ≡ true → IsUneventful self.now }
+        ensures told { IsUneventful self.now → result ≡ true }
     {
         if self.began || self.reaped.is_some() {
             return false;
@@ -73,101 +73,106 @@ impl Deed {
     }
 }
 
-/// A node with its first bit.
+/// A node of a segment, from the bit on at which it is switched on.
 #[derive(Drop)]
 pub struct Member {
     /// The number of its first bit.
     pub on: u64,
-    /// Whether it rests: it is left alone while a listener follows the line for it. Else it is awake.
-    pub rests: bool,
-    /// The node, and what it sends. Of one that rests the node stands where it came to rest.
+    /// It is deferred: a shared receiver is simulated for it. A node that is not deferred is active.
+    pub is_deferred: bool,
+    /// The node, and what it sends. The node of a deferred one has the state in which it was deferred.
     pub station: Station,
     /// What it did at the last bit.
-    pub deed: Deed,
+    pub action: Action,
 }
 
 impl Member {
-    /// A node that is switched on at this bit.
+    /// Returns a node that is switched on at this bit, and is active.
     pub fn new(on: u64) -> Member
         ensures { IsFresh on result }
     {
         Member {
             on,
-            rests: false,
+            is_deferred: false,
             station: Station::new(on),
-            deed: Deed::none(),
+            action: Action::none(),
         }
     }
 
-    /// What is shown of its error counters: of one that rests what was shown before.
+    /// Copies the node's error counters, if it is active. What is shown of a deferred node stays.
     pub fn show(&self, counters: &mut Counters)
-        ensures rests { self.now.rests ≡ true → counters.new ≡ counters.old }
-        ensures awake { self.now.rests ≡ false → AreOf self.now counters.new }
+        ensures is_deferred { self.now.is_deferred ≡ true → counters.new ≡ counters.old }
+        ensures active { self.now.is_deferred ≡ false → AreOf self.now counters.new }
     {
-        if self.rests {
+        if self.is_deferred {
             return;
         }
         *counters = self.station.node.counters();
     }
 
-    /// So much is known of its error counts.
+    /// Returns what is known of its error counters.
     pub fn known_counts(&self) -> KnownCounts
         ensures { Knows result (counters_in self.now.station.node) }
     {
         self.station.node.known_counts()
     }
 
-    /// Whether it is awake, and a listener may come to stand for it before this bit.
+    /// Returns whether it is active and on, and a shared receiver may stand for it before this bit.
     #[inline(always)]
     pub fn listens_at(&self, bit: u64) -> bool
-        ensures awake { result ≡ true → self.now.rests ≡ false }
+        ensures active { result ≡ true → self.now.is_deferred ≡ false }
         ensures on { result ≡ true → self.now.on ≤ bit }
         ensures bit { result ≡ true → bit_of self.now.station.node ≡ bit }
     {
-        if self.rests || bit < self.on || self.station.node.bit() != bit {
+        if self.is_deferred || bit < self.on || self.station.node.bit() != bit {
             return false;
         }
         self.station.node.is_listening()
     }
 
-    /// It wakes before this bit, if it rests: it has come as far as the listener.
-    pub(crate) fn wake(&mut self, listener: &Listener, bit: u64)
-        ensures { self.new ≡ woken listener.now bit self.old }
+    /// Resumes the node before this bit, if it is deferred: the shared receiver is copied into it.
+    pub(crate) fn resume(&mut self, shared_receiver: &SharedReceiver, bit: u64)
+        ensures { self.new ≡ resumed shared_receiver.now bit self.old }
     {
-        if !self.rests {
+        if !self.is_deferred {
             return;
         }
-        self.rests = false;
-        self.station.node.catch_up(listener, bit);
+        self.is_deferred = false;
+        self.station.node.materialize(shared_receiver, bit);
     }
 
-    /// So unless it may rest on.
-    pub(crate) fn wake_unless(&mut self, rests_on: bool, listener: &Listener, bit: u64)
-        ensures wakes { MayWake listener.now bit self.old self.new }
-        ensures awake { rests_on ≡ false → self.new.rests ≡ false }
+    /// Resumes the node before this bit, if it is deferred and `stays_deferred` is false.
+    pub(crate) fn resume_unless(
+        &mut self,
+        stays_deferred: bool,
+        shared_receiver: &SharedReceiver,
+        bit: u64,
+    )
+        ensures resumes { MayResume shared_receiver.now bit self.old self.new }
+        ensures active { stays_deferred ≡ false → self.new.is_deferred ≡ false }
     {
-        if rests_on {
+        if stays_deferred {
             return;
         }
-        self.wake(listener, bit);
+        self.resume(shared_receiver, bit);
     }
 
-    /// If it rests it samples this level as each does for which its listener stands (`Node::take_up`, `Node::hear`),
-    /// and wakes. Whether something may be told of it then.
+    /// If it is deferred, it samples this level as each node does that its shared receiver stands for (`Node::take_up`,
+    /// `Node::hear`), and is active then. Returns whether something may be reported of it.
     pub(crate) fn share(&mut self, shared: &SharedSample, bit: u64, level: bool) -> bool
         requires bit { bit < u64.MAX }
-        requires room { self.old.rests ≡ true → self.old.station.completed < u64.MAX }
+        requires room { self.old.is_deferred ≡ true → self.old.station.completed < u64.MAX }
         ensures shares { Shares shared.now bit level self.old self.new }
-        ensures quiet { result ≡ false → self.old.rests ≡ true → IsQuiet self.new.deed }
+        ensures uneventful { result ≡ false → self.old.is_deferred ≡ true → IsUneventful self.new.action }
     {
-        if !self.rests {
+        if !self.is_deferred {
             return false;
         }
-        self.rests = false;
+        self.is_deferred = false;
         match shared {
             SharedSample::Takes(taken) => {
                 self.station.node.take_up(bit);
-                self.deed = Deed {
+                self.action = Action {
                     began: false,
                     sent: self.station.sending,
                     outcome: Outcome::Took {
@@ -185,90 +190,92 @@ impl Member {
         }
     }
 
-    /// If it rests it counts that it received a frame (`Node::receive`), and rests on. What is known of its counts then.
+    /// If it is deferred, it counts that it received a frame (`Node::receive`), and stays deferred. Returns what is
+    /// known of its counters then.
     pub(crate) fn receive(&mut self) -> KnownCounts
         ensures counts { CountsReceived self.old self.new }
-        ensures known { KnowsResting result self.old self.new }
+        ensures known { KnowsDeferred result self.old self.new }
     {
-        if !self.rests {
+        if !self.is_deferred {
             return KnownCounts::Zero;
         }
         self.station.node.receive();
         self.known_counts()
     }
 
-    /// It comes to rest, and nothing is told any more of what it did.
-    pub fn lie_down(&mut self)
-        ensures { self.new ≡ laid_down self.old }
+    /// Defers the node, and clears what it did.
+    pub fn defer(&mut self)
+        ensures { self.new ≡ deferred_member self.old }
     {
-        self.rests = true;
-        self.deed = Deed::none();
+        self.is_deferred = true;
+        self.action = Action::none();
     }
 
-    /// Nothing is told any more of what it did, if it is awake.
-    pub(crate) fn fall_silent(&mut self)
-        ensures rests { self.old.rests ≡ true → self.new ≡ self.old }
-        ensures awake { self.new.rests ≡ self.old.rests }
-        ensures silent { self.old.rests ≡ false → self.new ≡ silenced self.old }
+    /// Clears what it did, if it is active.
+    pub(crate) fn clear_actions(&mut self)
+        ensures is_deferred { self.old.is_deferred ≡ true → self.new ≡ self.old }
+        ensures active { self.new.is_deferred ≡ self.old.is_deferred }
+        ensures is_cleared { self.old.is_deferred ≡ false → self.new ≡ cleared self.old }
     {
-        if self.rests {
+        if self.is_deferred {
             return;
         }
-        self.deed = Deed::none();
+        self.action = Action::none();
     }
 
-    /// Whether it has completed all of these frames.
-    pub fn is_spent(&self, frames: &[Frame]) -> bool
+    /// Returns whether it has completed all of these frames.
+    pub fn has_sent_all(&self, frames: &[Frame]) -> bool
         ensures { result ≡ true → slice_get frames.now self.now.station.completed ≡ None }
     {
         frames.len() as u64 <= self.station.completed
     }
 
-    /// A talker that is awake takes its next message at the start of this bit.
+    /// Lets an active talker take its next message at the start of this bit.
     pub(crate) fn start_talking(&mut self, bit: u64, frames: &[Frame])
-        ensures rests { self.old.rests ≡ true → self.new ≡ self.old }
-        ensures awake { self.new.rests ≡ self.old.rests }
-        ensures starts { self.old.rests ≡ false → StartsTalking bit self.old self.new frames.now }
+        ensures is_deferred { self.old.is_deferred ≡ true → self.new ≡ self.old }
+        ensures active { self.new.is_deferred ≡ self.old.is_deferred }
+        ensures starts { self.old.is_deferred ≡ false → StartsTalking bit self.old self.new frames.now }
     {
-        if self.rests || bit < self.on {
+        if self.is_deferred || bit < self.on {
             return;
         }
-        self.deed.began = self.station.talk(frames);
+        self.action.began = self.station.talk(frames);
     }
 
-    /// A controller that is awake takes its next request at the start of this bit.
+    /// Lets an active controller take its next request at the start of this bit.
     pub(crate) fn start_request<R, P: RxSink<R>>(&mut self, rt: &R, bit: u64, port: &mut P)
         requires { P.transmitting port.old ≡ item_of self.old.station.sending }
-        ensures rests { self.old.rests ≡ true → (self.new ≡ self.old) × (port.new ≡ port.old) }
-        ensures awake { self.new.rests ≡ self.old.rests }
-        ensures member { self.old.rests ≡ false → StartsRequest bit self.old self.new }
-        ensures bus { self.old.rests ≡ false → (past : BusPast) → P.bus_after port.old past
+        ensures is_deferred { self.old.is_deferred ≡ true → (self.new ≡ self.old) × (port.new ≡ port.old) }
+        ensures active { self.new.is_deferred ≡ self.old.is_deferred }
+        ensures member { self.old.is_deferred ≡ false → StartsRequest bit self.old self.new }
+        ensures bus { self.old.is_deferred ≡ false → (past : BusPast) → P.bus_after port.old past
             → P.bus_after port.new (started past
-            (started_item (is_on bit self.new && self.new.deed.began) self.new.station.sending)) }
-        ensures undone { self.old.rests ≡ false → (past : BusPast) → P.bus_after port.old past
-            → Undone past (started_item (is_on bit self.new && self.new.deed.began) self.new.station.sending) }
-        ensures asks { self.old.rests ≡ false → Asks P.bus_asked (wants_at bit self.old)
-            (started_item (is_on bit self.new && self.new.deed.began) self.new.station.sending) port.old port.new }
+            (started_item (is_on bit self.new && self.new.action.began) self.new.station.sending)) }
+        ensures undone { self.old.is_deferred ≡ false → (past : BusPast) → P.bus_after port.old past
+            → Undone past (started_item (is_on bit self.new && self.new.action.began) self.new.station.sending) }
+        ensures asks { self.old.is_deferred ≡ false → Asks P.bus_asked (wants_at bit self.old)
+            (started_item (is_on bit self.new && self.new.action.began) self.new.station.sending) port.old port.new }
         ensures transmits { P.transmitting port.new ≡ item_of self.new.station.sending }
         ensures stays { P.bus_stays port.old port.new }
     {
-        if self.rests || bit < self.on {
+        if self.is_deferred || bit < self.on {
             return;
         }
-        self.deed.began = self.station.request(rt, port);
+        self.action.began = self.station.request(rt, port);
     }
 
-    /// The level that it drives at this bit, where those that rest drive that one; a node that is not on drives none.
-    pub(crate) fn drives_beside(&self, bit: u64, resting: bool) -> bool
-        ensures { result ≡ (if self.now.rests then resting else drives_at bit self.now) }
+    /// Returns the level that it drives at this bit, where deferred nodes drive `deferred_level`; a node that is not on
+    /// drives recessive.
+    pub(crate) fn drives_beside(&self, bit: u64, deferred_level: bool) -> bool
+        ensures { result ≡ (if self.now.is_deferred then deferred_level else drives_at bit self.now) }
     {
-        if self.rests {
-            return resting;
+        if self.is_deferred {
+            return deferred_level;
         }
         self.drives(bit)
     }
 
-    /// The level that it drives at this bit; a node that is not on drives none.
+    /// Returns the level that it drives at this bit; a node that is not on drives recessive.
     fn drives(&self, bit: u64) -> bool
         ensures { result ≡ drives_at bit self.now }
     {
@@ -278,102 +285,103 @@ impl Member {
         self.station.node.drive()
     }
 
-    /// If it is awake it samples this level at this bit. Whether something may be told of it.
+    /// Lets an active node sample this level at this bit. Returns whether something may be reported of it.
     pub(crate) fn sample(&mut self, bit: u64, level: bool) -> bool
-        requires bit { self.old.rests ≡ false → self.old.on ≤ bit → bit_of self.old.station.node < u64.MAX }
-        requires room { self.old.rests ≡ false → self.old.on ≤ bit → self.old.station.completed < u64.MAX }
-        ensures rests { self.old.rests ≡ true → self.new ≡ self.old }
-        ensures awake { self.new.rests ≡ self.old.rests }
-        ensures member { self.old.rests ≡ false → Samples bit level self.old self.new }
-        ensures quiet { result ≡ false → self.new.rests ≡ false → self.new.on ≤ bit → IsQuiet self.new.deed }
+        requires bit { self.old.is_deferred ≡ false → self.old.on ≤ bit → bit_of self.old.station.node < u64.MAX }
+        requires room { self.old.is_deferred ≡ false → self.old.on ≤ bit → self.old.station.completed < u64.MAX }
+        ensures is_deferred { self.old.is_deferred ≡ true → self.new ≡ self.old }
+        ensures active { self.new.is_deferred ≡ self.old.is_deferred }
+        ensures member { self.old.is_deferred ≡ false → Samples bit level self.old self.new }
+        ensures uneventful { result ≡ false → self.new.is_deferred ≡ false → self.new.on ≤ bit → IsUneventful
+            self.new.action }
     {
-        if self.rests || bit < self.on {
+        if self.is_deferred || bit < self.on {
             return false;
         }
         let outcome = self.station.node.sample(level);
         self.note(outcome)
     }
 
-    /// What a bit that it has sampled brought to an end. Whether something may be told of it.
+    /// Notes what a bit that it has sampled brought to an end. Returns whether something may be reported of it.
     #[inline(always)]
     fn note(&mut self, outcome: Outcome) -> bool
         requires { self.old.station.completed < u64.MAX }
-        ensures rests { self.new.rests ≡ self.old.rests }
+        ensures is_deferred { self.new.is_deferred ≡ self.old.is_deferred }
         ensures on { self.new.on ≡ self.old.on }
         ensures node { self.new.station.node ≡ self.old.station.node }
-        ensures began { self.new.deed.began ≡ self.old.deed.began }
-        ensures names { Names self.new.deed self.old.station.sending }
-        ensures outcome { self.new.deed.outcome ≡ outcome }
+        ensures began { self.new.action.began ≡ self.old.action.began }
+        ensures names { Names self.new.action self.old.station.sending }
+        ensures outcome { self.new.action.outcome ≡ outcome }
         ensures sending { self.new.station.sending ≡ sending_after self.old.station.sending outcome }
         ensures completed { self.new.station.completed ≡ self.old.station.completed + completed_by outcome }
-        ensures reaped { self.new.deed.reaped ≡ None }
-        ensures quiet { result ≡ false → IsQuiet self.new.deed }
+        ensures reaped { self.new.action.reaped ≡ None }
+        ensures uneventful { result ≡ false → IsUneventful self.new.action }
     {
         // as at most bits: the deed says so already, and need not name what it sends
-        if matches!(outcome, Outcome::Nothing) && self.deed.is_quiet() {
+        if matches!(outcome, Outcome::Nothing) && self.action.is_uneventful() {
             return false;
         }
-        self.deed.sent = self.station.sending;
-        self.deed.outcome = outcome;
-        self.deed.reaped = None;
-        self.station.conclude(&self.deed.outcome);
+        self.action.sent = self.station.sending;
+        self.action.outcome = outcome;
+        self.action.reaped = None;
+        self.station.conclude(&self.action.outcome);
         true
     }
 
-    /// The port of a controller that is awake, and has sampled this bit, learns what became of it.
+    /// Tells the port of an active controller, which has sampled this bit, what became of it.
     pub(crate) fn settle<R, P: RxSink<R>>(&mut self, rt: &R, bit: u64, port: &mut P)
-        requires { self.old.rests ≡ false → IsUnsettled (P.transmitting port.old) bit self.old }
-        ensures rests { self.old.rests ≡ true → (self.new ≡ self.old) × (port.new ≡ port.old) }
-        ensures awake { self.new.rests ≡ self.old.rests }
-        ensures member { self.old.rests ≡ false → Settles bit self.old self.new }
-        ensures bus { self.old.rests ≡ false → (past : BusPast) → P.bus_after port.old past
-            → P.bus_after port.new (settled_at (is_on bit self.old) past self.new.deed) }
+        requires { self.old.is_deferred ≡ false → IsUnsettled (P.transmitting port.old) bit self.old }
+        ensures is_deferred { self.old.is_deferred ≡ true → (self.new ≡ self.old) × (port.new ≡ port.old) }
+        ensures active { self.new.is_deferred ≡ self.old.is_deferred }
+        ensures member { self.old.is_deferred ≡ false → Settles bit self.old self.new }
+        ensures bus { self.old.is_deferred ≡ false → (past : BusPast) → P.bus_after port.old past
+            → P.bus_after port.new (settled_at (is_on bit self.old) past self.new.action) }
         ensures asked { (calls : List BusCall) → P.bus_asked port.old calls → P.bus_asked port.new calls }
-        ensures transmits { self.old.rests ≡ false → P.transmitting port.new ≡ item_of self.new.station.sending }
-        ensures sink { self.old.rests ≡ false → (past : List FrameValue) → P.sink_after port.old past
-            → P.sink_after port.new (past ++ taken_at (is_on bit self.old) self.new.deed) }
+        ensures transmits { self.old.is_deferred ≡ false → P.transmitting port.new ≡ item_of self.new.station.sending }
+        ensures sink { self.old.is_deferred ≡ false → (past : List FrameValue) → P.sink_after port.old past
+            → P.sink_after port.new (past ++ taken_at (is_on bit self.old) self.new.action) }
         ensures stays { P.port_stays port.old port.new }
     {
-        if self.rests || bit < self.on {
+        if self.is_deferred || bit < self.on {
             return;
         }
-        if self.deed.outcome == Outcome::Nothing {
+        if self.action.outcome == Outcome::Nothing {
             return;
         }
-        let outcome = self.deed.outcome;
-        let sent = self.deed.sent;
-        self.deed.reaped = settle(rt, port, sent, outcome);
+        let outcome = self.action.outcome;
+        let sent = self.action.sent;
+        self.action.reaped = settle(rt, port, sent, outcome);
     }
 
-    /// Whether it is awake and on, goes on with this bit, if that has this level (`Node::goes_on`), and nothing is told
-    /// of it.
+    /// Returns whether it is active and on, and continues with this bit if the bit has this level (`Node::goes_on`), so
+    /// that nothing is reported of it.
     #[inline(always)]
     fn goes_on(&self, bit: u64, level: bool) -> bool
         ensures { result ≡ true → MayGo bit level self.now }
     {
-        if self.rests || bit < self.on {
+        if self.is_deferred || bit < self.on {
             return false;
         }
-        self.deed.is_quiet() && self.station.node.goes_on(level)
+        self.action.is_uneventful() && self.station.node.goes_on(level)
     }
 
-    /// Whether it is awake, and doesn't go on so.
+    /// Returns whether it is active and does not continue with this bit.
     #[inline(always)]
     pub(crate) fn holds_up(&self, bit: u64, level: bool) -> bool
-        ensures { result ≡ false → self.now.rests ≡ false → MayGo bit level self.now }
+        ensures { result ≡ false → self.now.is_deferred ≡ false → MayGo bit level self.now }
     {
-        !self.rests && !self.goes_on(bit, level)
+        !self.is_deferred && !self.goes_on(bit, level)
     }
 
-    /// If it is awake it goes on with this bit, at which it samples this level (`Node::go_on`).
+    /// Lets an active node continue with this bit, at which it samples this level (`Node::go_on`).
     #[inline(always)]
     pub(crate) fn go_on(&mut self, bit: u64, level: bool)
-        requires goes { self.old.rests ≡ false → MayGo bit level self.old }
-        requires room { self.old.rests ≡ false → self.old.on ≤ bit → bit_of self.old.station.node < u64.MAX }
-        ensures rests { self.old.rests ≡ true → self.new ≡ self.old }
-        ensures goes { self.old.rests ≡ false → MemberGoes bit level self.old self.new }
+        requires goes { self.old.is_deferred ≡ false → MayGo bit level self.old }
+        requires room { self.old.is_deferred ≡ false → self.old.on ≤ bit → bit_of self.old.station.node < u64.MAX }
+        ensures is_deferred { self.old.is_deferred ≡ true → self.new ≡ self.old }
+        ensures goes { self.old.is_deferred ≡ false → MemberGoes bit level self.old self.new }
     {
-        if self.rests {
+        if self.is_deferred {
             return;
         }
         self.station.node.go_on(level);

@@ -1,43 +1,43 @@
-//! Sets of places.
+//! Sets of indices.
 
 ghost use Rattle.std.specs.Prelude.{◌≡◌, ◌≤◌, ◌<◌, ℕ, Some, IfNone, IfSome, true, false, length, slice_get};
 ghost use Rattle.can_station.specs.PlaceSets.{HasPlace, IsEmpty, IsFirst, IsWith, IsWithout};
-ghost use Rattle.can_station.specs.RestingNodes.{AwakeWithin};
+ghost use Rattle.can_station.specs.DeferredNodes.{ActiveWithin};
 
 use crate::member::Member;
 
-/// Places of a list, below 64: a few of many are gone through at once, without a look at the others.
+/// A set of indices below 64 into a list of nodes: a few of many nodes are visited without a look at the others.
 #[derive(Clone, Copy)]
 pub struct PlaceSet {
-    /// Bit k of it is 1 where place k is one of them.
+    /// Bit k is 1 where index k is in the set.
     pub bits: u64,
 }
 
 impl PlaceSet {
-    /// No place.
+    /// Returns the empty set.
     pub fn none() -> PlaceSet
         ensures { IsEmpty result }
     {
         PlaceSet { bits: 0 }
     }
 
-    /// The places of those of these nodes that are awake. There are 64 at most.
-    pub fn of_awake(members: &[Member]) -> PlaceSet
+    /// Returns the indices of those of these nodes that are active. There are at most 64 nodes.
+    pub fn of_active(members: &[Member]) -> PlaceSet
         requires { length members.now ≤ 64 }
-        ensures within { AwakeWithin result members.now }
-        ensures awake { (k : ℕ) (m : Member) → HasPlace result k → slice_get members.now k ≡ Some m
-            → m.rests ≡ false }
+        ensures within { ActiveWithin result members.now }
+        ensures active { (k : ℕ) (m : Member) → HasPlace result k → slice_get members.now k ≡ Some m
+            → m.is_deferred ≡ false }
     {
         let mut set = PlaceSet::none();
         for place in 0..members.len() {
-            if !members[place].rests {
+            if !members[place].is_deferred {
                 set.insert(place);
             }
         }
         set
     }
 
-    /// This place too, which is below 64.
+    /// Adds this index, which is below 64.
     #[inline(always)]
     pub fn insert(&mut self, place: usize)
         requires { place < 64 }
@@ -46,7 +46,7 @@ impl PlaceSet {
         self.bits |= 1 << place;
     }
 
-    /// Takes the first of these places out, if there is one.
+    /// Removes and returns the least index, if there is one.
     #[inline(always)]
     pub fn take_first(&mut self) -> Option<usize>
         ensures some { IfSome result (λ place. IsFirst place self.old × IsWithout place self.old self.new) }
@@ -62,7 +62,7 @@ impl PlaceSet {
         Some(place)
     }
 
-    /// The first of these places, and 64 where there is none.
+    /// Returns the least index, and 64 where the set is empty.
     pub fn first(self) -> usize
         ensures some { result < 64 → IsFirst result self }
         ensures none { 64 ≤ result → IsEmpty self }
@@ -71,7 +71,7 @@ impl PlaceSet {
         self.bits.trailing_zeros() as usize
     }
 
-    /// Whether it has no place.
+    /// Returns whether the set is empty.
     pub fn is_empty(self) -> bool
         ensures none { result ≡ true → IsEmpty self }
         ensures some { IsEmpty self → result ≡ true }

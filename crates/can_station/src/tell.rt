@@ -5,7 +5,7 @@ ghost use Rattle.can_station.specs.Lines.{lines, told_outcome, told_reaped};
 ghost use Rattle.can_station.specs.Tellings.{start_of, rest_by, told_by};
 
 use crate::event::{Event, Label, Told};
-use crate::member::{Deed, Member};
+use crate::member::{Action, Member};
 use crate::transmission::Transmission;
 use can_node::Outcome;
 
@@ -22,14 +22,14 @@ fn push(events: &mut Vec<Event>, bit: u64, node: u16, told: Told)
 }
 
 /// What is told of the beginning of a frame.
-fn tell_start(events: &mut Vec<Event>, bit: u64, node: u16, deed: &Deed)
+fn tell_start(events: &mut Vec<Event>, bit: u64, node: u16, action: &Action)
     requires { vec_len events.old < vec_capacity events.old }
-    ensures value { events.new.items ≡ events.old.items ++ lines bit node (start_of deed.now) }
+    ensures value { events.new.items ≡ events.old.items ++ lines bit node (start_of action.now) }
     ensures len { vec_len events.new ≤ vec_len events.old + 1 }
     ensures capacity { vec_capacity events.old ≤ vec_capacity events.new }
 {
-    if deed.began {
-        if let Some(sent) = &deed.sent {
+    if action.began {
+        if let Some(sent) = &action.sent {
             push(
                 events,
                 bit,
@@ -105,14 +105,14 @@ fn tell_reaped(events: &mut Vec<Event>, bit: u64, node: u16, reaped: Option<Labe
 }
 
 /// What is told besides.
-fn tell_rest(events: &mut Vec<Event>, bit: u64, node: u16, deed: &Deed)
+fn tell_rest(events: &mut Vec<Event>, bit: u64, node: u16, action: &Action)
     requires { vec_len events.old + 2 ≤ vec_capacity events.old }
-    ensures value { events.new.items ≡ events.old.items ++ lines bit node (rest_by deed.now) }
+    ensures value { events.new.items ≡ events.old.items ++ lines bit node (rest_by action.now) }
     ensures len { vec_len events.new ≤ vec_len events.old + 2 }
     ensures capacity { vec_capacity events.old ≤ vec_capacity events.new }
 {
-    tell_outcome(events, bit, node, &deed.sent, &deed.outcome);
-    tell_reaped(events, bit, node, deed.reaped);
+    tell_outcome(events, bit, node, &action.sent, &action.outcome);
+    tell_reaped(events, bit, node, action.reaped);
 }
 
 /// Lines of what starts at these nodes at this bit, the first of which has this number: one a node at most, in their
@@ -126,7 +126,7 @@ pub fn tell_starts(events: &mut Vec<Event>, bit: u64, first: u32, members: &[Mem
 {
     for place in 0..members.len() {
         let node = (first + place as u32) as u16;
-        tell_start(events, bit, node, &members[place].deed);
+        tell_start(events, bit, node, &members[place].action);
     }
 }
 
@@ -141,6 +141,6 @@ pub fn tell_rests(events: &mut Vec<Event>, bit: u64, first: u32, members: &[Memb
 {
     for place in 0..members.len() {
         let node = (first + place as u32) as u16;
-        tell_rest(events, bit, node, &members[place].deed);
+        tell_rest(events, bit, node, &members[place].action);
     }
 }

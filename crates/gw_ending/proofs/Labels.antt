@@ -17,7 +17,7 @@ use Rattle.can_station.specs.Lines.{told_start, told_outcome, told_reaped, lines
 use Rattle.can_segment.specs.Tells.{starts_of, rest_of, lines_from, events_at}
 use Rattle.can_segment.specs.Traces.{Act, Bit, act_of, sending_now, sending_behind, sending_of}
 use Rattle.can_station.specs.Outcomes.{ends_sending}
-use Rattle.can_segment.proofs.Deeds.{sending_next}
+use Rattle.can_segment.proofs.Actions.{sending_next}
 use Rattle.can_station.proofs.Places.{some_there}
 use Rattle.can_segment.proofs.NextBits.{act_found}
 use Rattle.gw_script.specs.NamedPlaces.{label_of}

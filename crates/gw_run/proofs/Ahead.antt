@@ -2,9 +2,9 @@
 use Rattle.std.proofs.Common.{ℕ, ◌≤◌, inl, inr, ◌∷◌, [], length, refl, ap, arith, length-append, ◌∙◌}
 use Rattle.std.proofs.lemmas.Bool.{cases_lt}
 use Rattle.can_segment.specs.Segments.{SegmentValue}
-use Rattle.can_segment.specs.QuietBits.{MakeQuietBits}
-use Rattle.can_segment.specs.QuietBits.MakeQuietBits.{no_bit, one_more}
-use Rattle.can_segment.proofs.QuietBits.{left_quietly}
+use Rattle.can_segment.specs.UneventfulBits.{MakeUneventfulBits}
+use Rattle.can_segment.specs.UneventfulBits.MakeUneventfulBits.{no_bit, one_more}
+use Rattle.can_segment.proofs.UneventfulBits.{left_uneventfully}
 use Rattle.bx_controller.specs.Ports.{bus_leaves-self, port_leaves-on, port_of_bus}
 use Rattle.bx_core.specs.Stands.{BusKeeps, bus_keeps-on, bus_keeps-self}
 use Rattle.gw_site.proofs.Sites.{leave-on, leave-self}
@@ -12,11 +12,11 @@ use Rattle.gw_run.specs.Ports.{PortLeaves, Site}
 use Rattle.gw_run.specs.Sites.{IsAhead, IsAheadUpTo, SiteHolds, SiteIdles, SiteMoves}
 
 pub ahead_least : (made : ℕ) (segment : SegmentValue) → IsAhead made segment → made ≤ length segment.levels
-ahead_least made segment h = (let left = left_quietly h.quiet in omega (arith, h.made_is, left.longer))
+ahead_least made segment h = (let left = left_uneventfully h.quiet in omega (arith, h.made_is, left.longer))
 
 -- of such bits the later ones alone
 peeled : {old new : SegmentValue} (made : ℕ) → length old.levels ≤ made → made ≤ length new.levels →
-    MakeQuietBits old new → IsAhead made new
+    MakeUneventfulBits old new → IsAhead made new
 peeled {new = new} made least most no_bit =
     record { before = new; made_is = omega (arith, least, most); quiet = no_bit }
 peeled {new = new} made least most (one_more {mid = mid} bits bit) = elim (cases_lt made (length new.levels)) [

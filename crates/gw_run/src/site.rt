@@ -55,7 +55,7 @@ pub(crate) fn bits_of<R: Wait>(rt: &R, site: &mut Site, until: u64, bits: u64) -
 {
     while !idle_on(site, until) {
         make_bit(rt, &mut site.segment, site.ports.as_mut_slice())?;
-        site.segment.quiet_bits(bits);
+        site.segment.uneventful_bits(bits);
     }
     Ok(())
 }

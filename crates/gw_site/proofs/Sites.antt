@@ -11,7 +11,7 @@ use Rattle.can_segment.specs.Segments.{SegmentValue, Fit, MakesBit}
 use Rattle.can_segment.proofs.Brought.{all-append, grown-append, starts_undone-append}
 use Rattle.can_segment.proofs.LinesOfNodes.{of-append}
 use Rattle.can_station.proofs.Places.{some_there, same_some}
-use Rattle.can_segment.proofs.QuietBits.{LeftQuietly}
+use Rattle.can_segment.proofs.UneventfulBits.{LeftUneventfully}
 use Rattle.gw_site.specs.Sites.{PortHolds, SiteHolds, PortsLeave}
 
 module _ {P : Type 0} (after : P → BusPast → Type 0) (asked : P → List BusCall → Type 0)
@@ -71,7 +71,7 @@ module _ {P : Type 0} (after : P → BusPast → Type 0) (asked : P → List Bus
 
 -- so do bits at which no port is needed
 pub site_quietly : {P : Type 0} (after : P → BusPast → Type 0) (transmitting : P → Option Item)
-    (sink : P → List FrameValue → Type 0) (old new : SegmentValue) (ports : List P) → LeftQuietly old new →
+    (sink : P → List FrameValue → Type 0) (old new : SegmentValue) (ports : List P) → LeftUneventfully old new →
     SiteHolds after transmitting sink old ports → SiteHolds after transmitting sink new ports
 site_quietly after transmitting sink old new ports left h = record {
   fit = record {

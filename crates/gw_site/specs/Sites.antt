@@ -4,7 +4,7 @@ use Rattle.std.specs.Prelude.{◌≡◌, ℕ, ◌+◌, ◌≤◌, Option, Some, 
 use Rattle.can_frame.specs.Frames.{FrameValue}
 use Rattle.bx_core.specs.TxBus.{Item, BusPast, BusCall, no_bus_past}
 use Rattle.can_segment.specs.Brought.{told_of, all_in, taken_in, grown, StartsUndone}
-use Rattle.can_segment.specs.QuietBits.{MakeQuietBits}
+use Rattle.can_segment.specs.UneventfulBits.{MakeUneventfulBits}
 use Rattle.can_segment.specs.Segments.{SegmentValue, Fit, MakesBit}
 use Rattle.gw_site.specs.declared.site.Site.{Site}
 
@@ -36,7 +36,7 @@ pub record MakesOneAndQuiet {P : Type 0} (after : P → BusPast → Type 0) (ask
     (old new : SegmentValue) (from to : List P) : Type 0 where
   pub after_one : SegmentValue
   pub one : MakesBit after asked transmitting sink stays old after_one from to
-  pub quiet : MakeQuietBits after_one new
+  pub quiet : MakeUneventfulBits after_one new
 
 -- before the first of so many bits
 pub record IsNewSegment {P : Type 0} (after : P → BusPast → Type 0) (transmitting : P → Option Item)

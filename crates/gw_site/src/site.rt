@@ -42,7 +42,7 @@ pub fn make_bit<R, P: RxSink<R>>(
 }
 
 /// Simulates one bit time of a segment with its controllers, as `make_bit` does, and then bits that need no port
-/// (`Segment::quiet_bits`), up to `limit` bits in all. Returns how many bits the segment has then. `Memory` where the
+/// (`Segment::uneventful_bits`), up to `limit` bits in all. Returns how many bits the segment has then. `Memory` where the
 /// record could not grow: then segment and ports are unchanged.
 pub fn make_bits<R, P: RxSink<R>>(
     rt: &R,
@@ -65,6 +65,6 @@ pub fn make_bits<R, P: RxSink<R>>(
     ensures memory { OnErr result ((segment.new ≡ segment.old) × (ports.new ≡ ports.old)) }
 {
     make_bit(rt, segment, ports)?;
-    segment.quiet_bits(limit);
+    segment.uneventful_bits(limit);
     Ok(segment.record().levels.len() as u64)
 }

@@ -35,23 +35,23 @@ fn those_that_are_left_alone_count_what_they_acknowledge(rt: HostRuntime) {
     let mut resting = erring();
     // a receiver that detects an error adds one to its receive error count
     assert_eq!(rt; resting.counters().rec(), 1);
-    let mut listener = resting.listener();
+    let mut shared_receiver = resting.shared_receiver();
     for byte in BEFORE_SLOT.as_bytes() {
         let level = *byte == b'1';
-        assert!(rt; !listener.acknowledge(level));
-        assert!(rt; listener.follow(alone.bit(), level, KnownCounts::Any));
+        assert!(rt; !shared_receiver.acknowledge(level));
+        assert!(rt; shared_receiver.follow(alone.bit(), level, KnownCounts::Any));
         assert_eq!(rt; sample(&mut alone, level), Some(Outcome::Nothing));
     }
-    // that it received a frame takes one off, so the listener does not follow the slot for whatever counts there are
+    // that it received a frame takes one off, so the shared_receiver does not follow the slot for whatever counts there are
     let slot = alone.bit();
-    assert!(rt; !listener.follow(slot, false, KnownCounts::Any));
+    assert!(rt; !shared_receiver.follow(slot, false, KnownCounts::Any));
     // and its own dominant level is missing in a slot that is recessive
-    assert!(rt; !listener.acknowledge(true));
-    assert!(rt; listener.acknowledge(false));
+    assert!(rt; !shared_receiver.acknowledge(true));
+    assert!(rt; shared_receiver.acknowledge(false));
     resting.receive();
     assert_eq!(rt; sample(&mut alone, false), Some(Outcome::Nothing));
-    resting.catch_up(&listener, alone.bit());
-    assert!(rt; alone.stands_with(&resting.listener()));
+    resting.materialize(&shared_receiver, alone.bit());
+    assert!(rt; alone.matches(&resting.shared_receiver()));
     assert_eq!(rt; (alone.counters().rec(), resting.counters().rec()), (0, 0));
-    assert!(rt; !listener.acknowledge(false));
+    assert!(rt; !shared_receiver.acknowledge(false));
 }

@@ -131,7 +131,7 @@ fn frame() -> Frame {
 }
 
 /// A station that only listens.
-fn listener(on: u64) -> Station {
+fn shared_receiver(on: u64) -> Station {
     Station::new('l', on, frame(), 0)
 }
 
@@ -139,7 +139,13 @@ fn listener(on: u64) -> Station {
 fn a_frame_is_sent_and_taken(rt: HostRuntime) -> Result<(), Fail> {
     let mut log = Vec::new(rt.alloc());
     let mut talker = Station::new('t', 0, frame(), 1);
-    run(&mut log, &mut talker, &mut listener(0), 64, &NO_FAULTS)?;
+    run(
+        &mut log,
+        &mut talker,
+        &mut shared_receiver(0),
+        64,
+        &NO_FAULTS,
+    )?;
     assert_eq!(rt;
         log.as_slice(),
         [
@@ -165,7 +171,7 @@ fn sixteen_attempts(log: &mut Vec<Line>) -> Result<(), AllocError> {
 fn a_lone_sender_becomes_passive_and_never_goes_off(rt: HostRuntime) -> Result<(), Fail> {
     let mut log = Vec::new(rt.alloc());
     let mut talker = Station::new('t', 0, frame(), 1);
-    let mut nobody = listener(2000);
+    let mut nobody = shared_receiver(2000);
     run(&mut log, &mut talker, &mut nobody, 938, &NO_FAULTS)?;
     assert_eq!(rt; talker.node.counters().tec(), 128);
     let mut log = Vec::new(rt.alloc());

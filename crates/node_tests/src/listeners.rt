@@ -2,7 +2,7 @@
 //! ways.
 
 use can_frame::{Frame, Reader, Step};
-use can_node::{Counters, ErrorKind, KnownCounts, Listener, Node, Outcome};
+use can_node::{Counters, ErrorKind, KnownCounts, Node, Outcome, SharedReceiver};
 
 /// A data frame of identifier 0 without bytes as all sample it, its ACK slot, the level at place 41, dominant.
 const FRAME: &str = "00000100000100000100000100000100000100001011111111";
@@ -26,17 +26,17 @@ fn go_on(node: &mut Node, level: bool) -> Option<Outcome> {
 
 /// What a node tells that samples this level as all do that this one stands for, if they read a frame, and whether it
 /// has come as far then as one that has caught up and samples it by itself.
-fn heard(listener: &Listener, bit: u64, level: bool) -> Option<(Outcome, bool)> {
-    let heard = listener.hears(level)?;
+fn heard(shared_receiver: &SharedReceiver, bit: u64, level: bool) -> Option<(Outcome, bool)> {
+    let heard = shared_receiver.hears(level)?;
     if bit == u64::MAX {
         return None;
     }
     let mut together = synchronized();
     let outcome = together.hear(&heard, bit, level);
     let mut alone = synchronized();
-    alone.catch_up(listener, bit);
+    alone.materialize(shared_receiver, bit);
     sample(&mut alone, level)?;
-    Some((outcome, together.stands_with(&alone.listener())))
+    Some((outcome, together.matches(&alone.shared_receiver())))
 }
 
 /// The node goes on with these levels, one after another, if they are the next that it drives in a frame, and it has
@@ -93,9 +93,9 @@ fn sender() -> Node {
 fn one_follows_for_those_that_listen(rt: HostRuntime) {
     let mut sender = sender();
     let mut receiver = synchronized();
-    let mut listener = receiver.listener();
-    assert!(rt; listener.wants_start());
-    assert!(rt; listener.hears(true).is_none());
+    let mut shared_receiver = receiver.shared_receiver();
+    assert!(rt; shared_receiver.wants_start());
+    assert!(rt; shared_receiver.hears(true).is_none());
     assert!(rt; !sender.is_listening());
     for (place, byte) in FRAME.as_bytes().iter().enumerate() {
         let level = *byte == b'1';
@@ -104,14 +104,14 @@ fn one_follows_for_those_that_listen(rt: HostRuntime) {
                 assert_eq!(rt; sample(&mut sender, level), Some(Outcome::Nothing));
                 assert_eq!(rt; sample(&mut receiver, level), Some(Outcome::Nothing));
                 assert!(rt; receiver.is_listening());
-                listener = receiver.listener();
-                assert!(rt; receiver.stands_with(&listener));
-                assert!(rt; !listener.wants_start());
+                shared_receiver = receiver.shared_receiver();
+                assert!(rt; receiver.matches(&shared_receiver));
+                assert!(rt; !shared_receiver.wants_start());
             }
             // the last bit of the CRC, at which the frame is read, and the ACK slot, at which a receiver answers
             39 | 41 => {
-                assert_eq!(rt; listener.drive(), place != 41);
-                assert_eq!(rt; listener.reads_along_by(&[level]), 0);
+                assert_eq!(rt; shared_receiver.drive(), place != 41);
+                assert_eq!(rt; shared_receiver.reads_along_by(&[level]), 0);
                 // a CRC that is wrong is told behind the ACK slot; that one's own dominant level is missing is a bit
                 // error
                 let wrong = if place == 41 {
@@ -121,24 +121,24 @@ fn one_follows_for_those_that_listen(rt: HostRuntime) {
                 };
                 let bit = sender.bit();
                 assert_eq!(rt;
-                    heard(&listener, bit, level),
+                    heard(&shared_receiver, bit, level),
                     Some((Outcome::Nothing, true))
                 );
-                assert_eq!(rt; heard(&listener, bit, !level), Some((wrong, true)));
+                assert_eq!(rt; heard(&shared_receiver, bit, !level), Some((wrong, true)));
                 assert_eq!(rt; sample(&mut sender, level), Some(Outcome::Nothing));
-                assert!(rt; listener.follow(bit, level, receiver.known_counts()));
+                assert!(rt; shared_receiver.follow(bit, level, receiver.known_counts()));
             }
             // the sixth bit of EOF, at which a receiver takes the frame
             48 => {
-                assert_eq!(rt; listener.reads_along_by(&[level]), 0);
-                assert!(rt; !listener.follow(sender.bit(), level, KnownCounts::Zero));
-                assert!(rt; !receiver.stands_with(&listener));
-                assert!(rt; listener.takes(false).is_none());
-                let Some(taken) = listener.takes(level) else {
+                assert_eq!(rt; shared_receiver.reads_along_by(&[level]), 0);
+                assert!(rt; !shared_receiver.follow(sender.bit(), level, KnownCounts::Zero));
+                assert!(rt; !receiver.matches(&shared_receiver));
+                assert!(rt; shared_receiver.takes(false).is_none());
+                let Some(taken) = shared_receiver.takes(level) else {
                     panic!(rt; "it is taken");
                 };
                 assert_eq!(rt; (taken.start, taken.frame), (11, Frame::default()));
-                receiver.catch_up(&listener, sender.bit());
+                receiver.materialize(&shared_receiver, sender.bit());
                 assert_eq!(rt; sample(&mut sender, level), Some(Outcome::Nothing));
                 assert_eq!(rt;
                     sample(&mut receiver, level),
@@ -150,10 +150,10 @@ fn one_follows_for_those_that_listen(rt: HostRuntime) {
             }
             49 => assert_eq!(rt; sample(&mut sender, level), Some(Outcome::Completed)),
             _ => {
-                assert!(rt; listener.drive());
+                assert!(rt; shared_receiver.drive());
                 assert_eq!(rt; sender.drive(), level);
                 assert_eq!(rt; sample(&mut sender, level), Some(Outcome::Nothing));
-                assert_eq!(rt; listener.reads_along_by(&[level]), 1);
+                assert_eq!(rt; shared_receiver.reads_along_by(&[level]), 1);
             }
         }
     }
@@ -163,7 +163,7 @@ fn one_follows_for_those_that_listen(rt: HostRuntime) {
     let mut other = synchronized();
     other.take_up(59);
     assert_eq!(rt; other.bit(), 60);
-    assert!(rt; other.stands_with(&receiver.listener()));
+    assert!(rt; other.matches(&receiver.shared_receiver()));
     assert_eq!(rt;
         KnownCounts::Zero.and(sender.known_counts()),
         KnownCounts::Zero
@@ -308,9 +308,9 @@ fn a_sender_makes_many_bits_at_once(rt: HostRuntime) {
     // all before the ACK slot
     assert!(rt; sender.ahead(64) == levels.as_slice());
     // up to the last bit of the CRC, at which the frame is read
-    let mut listener = receiver.listener();
-    assert_eq!(rt; listener.reads_along_by(&levels), 37);
-    assert_eq!(rt; listener.reads_along_by(&levels), 0);
+    let mut shared_receiver = receiver.shared_receiver();
+    assert_eq!(rt; shared_receiver.reads_along_by(&levels), 37);
+    assert_eq!(rt; shared_receiver.reads_along_by(&levels), 0);
     // the receiver reads as many by itself, and three more dominant ones before a stuff bit is due
     assert_eq!(rt; receiver.stays_out(&[false; 8]), 3);
     assert_eq!(rt; stay_out(&mut receiver, &levels), 37);

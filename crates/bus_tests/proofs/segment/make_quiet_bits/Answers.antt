@@ -1,11 +1,11 @@
 -- Such bits leave what each controller has on the bus.
 use Rattle.std.proofs.Common.{length, slice_get, sym, ap, ◌∙◌}
-use Rattle.can_segment.proofs.QuietBits.{left_quietly}
+use Rattle.can_segment.proofs.UneventfulBits.{left_uneventfully}
 use Rattle.bus_tests.proofs.segment.make_quiet_bits.Goals as goal
 
 pub returns : goal.returns
 returns g c =
-    let left = left_quietly c.quiet_bits.ensures.bits in
+    let left = left_uneventfully c.uneventful_bits.ensures.bits in
     record {
       size = c.requires.size ∙ ap length (sym left.sending_is);
       transmits =

@@ -6,18 +6,19 @@ use Rattle.can_node.proofs.plain_bits.flag_on.Goals as goal
 
 pub returns-then-sent-lt5-clause-counted : goal.returns-then-sent-lt5-clause-counted
 returns-then-sent-lt5-clause-counted c told counters now =
-    rw (c.in-Flagging.is, c.saturating_sub.ensures)
+    rw (c.in-DominantFlag.is, c.saturating_sub.ensures)
     (record {
-      goes = flag_on c.in-Flagging._kind c.in-Flagging._role c.in-Flagging.sent c.in-Flagging.until now
+      goes = flag_on c.in-DominantFlag._kind c.in-DominantFlag._role c.in-DominantFlag.sent c.in-DominantFlag.until now
           (state_of (counts_of counters)) c.if-sent-lt5.true;
       reads_none = refl;
     })
 
 pub returns-then-until-ge2-clause-counted : goal.returns-then-until-ge2-clause-counted
 returns-then-until-ge2-clause-counted c told counters now =
-    rw (c.in-Waiting.is, c.if-not-first.true)
+    rw (c.in-AwaitingDelimiter.is, c.if-not-first.true)
     (record {
-      goes = wait_on c.in-Waiting._kind c.in-Waiting._role c.in-Waiting.until now (state_of (counts_of counters))
+      goes = wait_on c.in-AwaitingDelimiter._kind c.in-AwaitingDelimiter._role c.in-AwaitingDelimiter.until now
+          (state_of (counts_of counters))
           c.if-until-ge2.true;
       reads_none = refl;
     })

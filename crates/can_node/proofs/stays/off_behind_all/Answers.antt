@@ -1,5 +1,5 @@
 use Rattle.std.proofs.Common.{◌≡◌, ◌≤◌, true, false, get_or, arith}
-use Rattle.can_node.specs.declared.state.State.TheVariants.{Recovering}
+use Rattle.can_node.specs.declared.state.State.TheVariants.{BusOffRecovery}
 use Rattle.can_node.proofs.BusOff.{counted_few, run_more, run_over}
 use Rattle.can_node.proofs.stays.off_behind_all.Goals as goal
 use Rattle.can_node.proofs.stays.off_behind_all.Goals.{then-run-gt9+then-level, else-run-gt9}
@@ -11,7 +11,7 @@ loop-level-preserved c =
     let here = c.loop-level.invariant in
     let levels = c.args.levels.now in
     let i = c.loop-level.level-index in
-    let state = Recovering c.args.runs c.args.ones in
+    let state = BusOffRecovery c.args.runs c.args.ones in
     let whole = c.loop-level.whole in
     let run = c.loop-level.run in
     let within = c.loop-level-test.true in

@@ -1,10 +1,10 @@
 use Rattle.std.proofs.Common.{◌∙◌, sym}
-use Rattle.can_node.specs.declared.state.State.TheVariants.{PassiveFlagging}
+use Rattle.can_node.specs.declared.state.State.TheVariants.{PassiveErrorFlag}
 use Rattle.can_node.proofs.GoingBy.{flag_more, is_not, stays_none}
 use Rattle.can_node.proofs.stays.stay_flagging.Goals as goal
 
 pub loop-place-init : goal.loop-place-init
-loop-place-init c role = stays_none (PassiveFlagging role c.args.owes c.args.ones c.args.zeros) c.args.levels.now
+loop-place-init c role = stays_none (PassiveErrorFlag role c.args.owes c.args.ones c.args.zeros) c.args.levels.now
 
 pub loop-place-preserved : goal.loop-place-preserved
 loop-place-preserved c role =

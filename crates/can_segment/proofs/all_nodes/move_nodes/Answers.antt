@@ -2,49 +2,59 @@ use Rattle.std.proofs.Common.{◌≡◌, ◌+◌, length, ap, subst, ◌∙◌, 
 use Rattle.std.proofs.lemmas.Option.{slice_get_within}
 use Rattle.can_station.specs.Faults.{line_level, sampled_level}
 use Rattle.can_station.specs.Members.{Samples, SamplesAndSettles}
-use Rattle.can_segment.specs.Rests.{members_at}
+use Rattle.can_segment.specs.DeferredState.{materialized}
 use Rattle.can_station.proofs.Places.{some_there}
 use Rattle.can_segment.proofs.Moves.{talker_clock, controller_clock, port_moves}
-use Rattle.can_segment.proofs.Rests.{awake_at, members_length}
-use Rattle.can_segment.proofs.Woken.{left_on}
+use Rattle.can_segment.proofs.DeferredState.{active_at, members_length}
+use Rattle.can_segment.proofs.Resumed.{left_on}
 use Rattle.can_segment.proofs.all_nodes.move_nodes.Goals as goal
 
 pub sample_all-sampled-requires-clause-talker_room : goal.sample_all-sampled-requires-clause-talker_room
-sample_all-sampled-requires-clause-talker_room g c k m e awake on =
+sample_all-sampled-requires-clause-talker_room g c k m e active on =
     let starts = c.start_all-driven.ensures.talkers in
-    let rest = c.args.rest.now in
-    let size = members_length rest c.args.bit c.args.talkers.now in
+    let deferred = c.args.deferred.now in
+    let size = members_length deferred c.args.bit c.args.talkers.now in
     let within =
-    slice_get_within (members_at c.start_all-driven.new.rest c.args.bit c.start_all-driven.new.talkers) k m e in
-    let old = some_there (members_at rest c.args.bit c.args.talkers.now) k (omega (arith, within, starts.size)) in
+    slice_get_within (materialized c.start_all-driven.new.deferred c.args.bit c.start_all-driven.new.talkers) k m e in
+    let old = some_there (materialized deferred c.args.bit c.args.talkers.now) k (omega (arith, within, starts.size)) in
     let talker =
     some_there c.args.plan.now.talkers.items k (omega (arith, within, starts.size, size, c.requires.talkers)) in
     talker_clock c.args.bit _ old.0 m talker.0.frames.items
     (starts.at k old.0 m old.1 e talker.0 (rw c.as_slice-talkers_plan.ensures.value talker.1))
-    (c.requires.talker_clocks k old.0 old.1 (awake_at rest c.args.bit c.args.talkers.now k old.0 old.1)) on
+    (c.requires.talker_clocks k old.0 old.1 (active_at deferred c.args.bit c.args.talkers.now k old.0 old.1)) on
 
 pub sample_all-sampled-requires-clause-room : goal.sample_all-sampled-requires-clause-room
-sample_all-sampled-requires-clause-room g c k m e awake on =
+sample_all-sampled-requires-clause-room g c k m e active on =
     let starts = c.start_all-driven.ensures.controllers in
-    let rest = c.args.rest.now in
-    let size = members_length rest c.args.bit c.args.controllers.now in
+    let deferred = c.args.deferred.now in
+    let size = members_length deferred c.args.bit c.args.controllers.now in
     let within =
-    slice_get_within (members_at c.start_all-driven.new.rest c.args.bit c.start_all-driven.new.controllers) k m e in
-    let old = some_there (members_at rest c.args.bit c.args.controllers.now) k (omega (arith, within, starts.size)) in
+    slice_get_within (materialized c.start_all-driven.new.deferred c.args.bit c.start_all-driven.new.controllers) k m e
+    in
+    let old = some_there (materialized deferred c.args.bit c.args.controllers.now) k (omega (
+      arith,
+      within,
+      starts.size,
+    )) in
     let from = some_there c.args.ports.now k (omega (arith, within, starts.size, size, c.requires.ports)) in
     let to = some_there c.start_all-driven.new.ports k
     (omega (arith, within, starts.size, starts.size_too, size, c.requires.ports)) in
     controller_clock c.args.bit _ old.0 m (starts.at k old.0 m from.0 to.0 old.1 e from.1 to.1).member
-    (c.requires.clocks k old.0 old.1 (awake_at rest c.args.bit c.args.controllers.now k old.0 old.1)) on
+    (c.requires.clocks k old.0 old.1 (active_at deferred c.args.bit c.args.controllers.now k old.0 old.1)) on
 
 pub sample_all-sampled-requires-clause-port : goal.sample_all-sampled-requires-clause-port
 sample_all-sampled-requires-clause-port g c k m p e f =
     let starts = c.start_all-driven.ensures.controllers in
-    let rest = c.args.rest.now in
-    let size = members_length rest c.args.bit c.args.controllers.now in
+    let deferred = c.args.deferred.now in
+    let size = members_length deferred c.args.bit c.args.controllers.now in
     let within =
-    slice_get_within (members_at c.start_all-driven.new.rest c.args.bit c.start_all-driven.new.controllers) k m e in
-    let old = some_there (members_at rest c.args.bit c.args.controllers.now) k (omega (arith, within, starts.size)) in
+    slice_get_within (materialized c.start_all-driven.new.deferred c.args.bit c.start_all-driven.new.controllers) k m e
+    in
+    let old = some_there (materialized deferred c.args.bit c.args.controllers.now) k (omega (
+      arith,
+      within,
+      starts.size,
+    )) in
     let from = some_there c.args.ports.now k (omega (arith, within, starts.size, size, c.requires.ports)) in
     (starts.at k old.0 m from.0 p old.1 e from.1 f).transmits
 
@@ -52,22 +62,22 @@ pub returns-clause-nodes : goal.returns-clause-nodes
 returns-clause-nodes g c =
     let starts = c.start_all-driven.ensures.controllers in
     let settles = c.sample_all-sampled.ensures.controllers in
-    let rest = c.args.rest.now in
+    let deferred = c.args.deferred.now in
     let bit = c.args.bit in
     let level = c.line_level-level.result in
-    let mid = c.start_all-driven.new.rest in
+    let mid = c.start_all-driven.new.deferred in
     let talkers_size : length c.start_all-driven.new.talkers ≡ length c.args.plan.now.talkers.items =
     omega (
       arith,
       c.requires.talkers,
       c.start_all-driven.ensures.talkers.size,
-      members_length rest bit c.args.talkers.now,
+      members_length deferred bit c.args.talkers.now,
       members_length mid bit c.start_all-driven.new.talkers,
     ) in
-    let size = members_length rest bit c.args.controllers.now in
+    let size = members_length deferred bit c.args.controllers.now in
     record {
-      t1 = members_at mid bit c.start_all-driven.new.talkers;
-      c1 = members_at mid bit c.start_all-driven.new.controllers;
+      t1 = materialized mid bit c.start_all-driven.new.talkers;
+      c1 = materialized mid bit c.start_all-driven.new.controllers;
       starts = rw c.as_slice-talkers_plan.ensures.value at c.start_all-driven.ensures.talkers;
       samples = record {
         at = λ k a b e f.
@@ -81,13 +91,13 @@ returns-clause-nodes g c =
       };
       controls = record {
         starts = λ k a b ea eb.
-            let within = slice_get_within (members_at rest bit c.args.controllers.now) k a ea in
+            let within = slice_get_within (materialized deferred bit c.args.controllers.now) k a ea in
             let from = some_there c.args.ports.now k (omega (arith, within, size, c.requires.ports)) in
             let to = some_there c.start_all-driven.new.ports k
             (omega (arith, within, size, starts.size_too, c.requires.ports)) in
             (starts.at k a b from.0 to.0 ea eb from.1 to.1).member;
         settles = λ k a b ea eb.
-            let within = slice_get_within (members_at mid bit c.start_all-driven.new.controllers) k a ea in
+            let within = slice_get_within (materialized mid bit c.start_all-driven.new.controllers) k a ea in
             let from = some_there c.start_all-driven.new.ports k
             (omega (arith, within, size, starts.size, starts.size_too, c.requires.ports)) in
             let to = some_there c.sample_all-sampled.new.ports k
@@ -109,12 +119,12 @@ pub returns-clause-port : goal.returns-clause-port
 returns-clause-port g c k a m p q d e f h =
     let starts = c.start_all-driven.ensures.controllers in
     let settles = c.sample_all-sampled.ensures.controllers in
-    let rest = c.args.rest.now in
-    let start = c.start_all-driven.new.rest in
-    let after = c.sample_all-sampled.new.rest in
-    let size = members_length rest c.args.bit c.args.controllers.now in
-    let within = slice_get_within (members_at after (c.args.bit + 1) c.sample_all-sampled.new.controllers) k m e in
-    let mid = some_there (members_at start c.args.bit c.start_all-driven.new.controllers) k
+    let deferred = c.args.deferred.now in
+    let start = c.start_all-driven.new.deferred in
+    let after = c.sample_all-sampled.new.deferred in
+    let size = members_length deferred c.args.bit c.args.controllers.now in
+    let within = slice_get_within (materialized after (c.args.bit + 1) c.sample_all-sampled.new.controllers) k m e in
+    let mid = some_there (materialized start c.args.bit c.start_all-driven.new.controllers) k
     (omega (arith, within, settles.size)) in
     let between = some_there c.start_all-driven.new.ports k
     (omega (arith, within, size, starts.size, settles.size, starts.size_too, c.requires.ports)) in

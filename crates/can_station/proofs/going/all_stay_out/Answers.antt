@@ -11,8 +11,8 @@ pub loop-place-init : goal.loop-place-init
 loop-place-init c = record {
   few = omega arith;
   within = c.requires.within;
-  out = λ some. each_start (StaysBeside c.args.but c.args.bit _) c.args.members.now c.args.awake c.requires
-      (λ k m is not awake. absurd (cc (is, awake)));
+  out = λ some. each_start (StaysBeside c.args.but c.args.bit _) c.args.members.now c.args.active c.requires
+      (λ k m is not active. absurd (cc (is, active)));
 }
 
 pub bounds-members-place : goal.bounds-members-place

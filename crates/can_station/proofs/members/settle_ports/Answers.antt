@@ -3,13 +3,13 @@ use Rattle.std.proofs.lemmas.Option.{slice_get-get_or}
 use Rattle.can_station.proofs.Places.{both_end, both_step}
 use Rattle.can_station.proofs.PlaceSets.{both_start}
 use Rattle.can_station.specs.Members.{PortSettled}
-use Rattle.can_station.specs.RestingNodes.{IfAwakeBoth}
+use Rattle.can_station.specs.DeferredNodes.{IfActiveBoth}
 use Rattle.can_station.proofs.members.settle_ports.Goals as goal
 
 pub loop-place-init : goal.loop-place-init
 loop-place-init g c =
     both_start (λ k. PortSettled g.P.TxBus.bus_after g.P.TxBus.bus_asked g.P.TxBus.transmitting g.P.RxSink.sink_after
-    g.P.RxSink.port_stays c.args.bit) c.args.members.now c.args.ports.now c.args.awake c.requires.awake
+    g.P.RxSink.port_stays c.args.bit) c.args.members.now c.args.ports.now c.args.active c.requires.active
 
 pub bounds-members-place : goal.bounds-members-place
 bounds-members-place g c =
@@ -34,13 +34,13 @@ loop-place-preserved g c =
     (omega (arith, less, c.loop-place.invariant.size_too, c.requires.size)) in
     let settle = c.settle.ensures in
     both_step
-    (λ k. IfAwakeBoth (PortSettled g.P.TxBus.bus_after g.P.TxBus.bus_asked g.P.TxBus.transmitting g.P.RxSink.sink_after
+    (λ k. IfActiveBoth (PortSettled g.P.TxBus.bus_after g.P.TxBus.bus_asked g.P.TxBus.transmitting g.P.RxSink.sink_after
     g.P.RxSink.port_stays c.args.bit)) c.args.members.now members c.args.ports.now ports c.loop-place.left
     c.take_first.new.self place _ c.settle.new.self _ c.settle.new.port c.requires.size has c.in-Some.ensures.some.1
     found there
     (record {
-      rests_on = settle.rests;
-      stays_awake = λ e. settle.awake ∙ e;
+      stays_deferred = settle.is_deferred;
+      stays_active = λ e. settle.active ∙ e;
       steps = λ e. record {
         member = settle.member e;
         bus = settle.bus e;
@@ -54,6 +54,6 @@ loop-place-preserved g c =
 pub returns : goal.returns
 returns g c =
     both_end
-    (λ k. IfAwakeBoth (PortSettled g.P.TxBus.bus_after g.P.TxBus.bus_asked g.P.TxBus.transmitting g.P.RxSink.sink_after
+    (λ k. IfActiveBoth (PortSettled g.P.TxBus.bus_after g.P.TxBus.bus_asked g.P.TxBus.transmitting g.P.RxSink.sink_after
     g.P.RxSink.port_stays c.args.bit)) c.args.members.now c.loop-place.members c.args.ports.now c.loop-place.ports
     c.loop-place.left c.in_default.ensures.none.0 c.loop-place.invariant

@@ -1,12 +1,12 @@
 use Rattle.can_station.specs.Members.{PortStarts}
 use Rattle.can_station.proofs.Places.{AtBothBut}
-use Rattle.can_station.specs.RestingNodes.{IfAwakeBoth}
+use Rattle.can_station.specs.DeferredNodes.{IfActiveBoth}
 use Rattle.can_station.proofs.members.start_controllers.Given as goal
 
 abbrev pub invariant-loop-place : goal.invariant-loop-place
 invariant-loop-place g l =
     AtBothBut
-    (λ k. IfAwakeBoth (PortStarts g.P.TxBus.bus_after g.P.TxBus.bus_asked g.P.TxBus.transmitting g.P.TxBus.bus_stays
+    (λ k. IfActiveBoth (PortStarts g.P.TxBus.bus_after g.P.TxBus.bus_asked g.P.TxBus.transmitting g.P.TxBus.bus_stays
     l.bit)) l.initial.members l.members l.initial.ports l.ports l.left
 
 abbrev pub decreases-loop-place : goal.decreases-loop-place

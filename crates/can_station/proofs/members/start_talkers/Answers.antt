@@ -3,12 +3,12 @@ use Rattle.std.proofs.lemmas.Option.{slice_get-get_or}
 use Rattle.can_station.proofs.Places.{but_end, but_step, same_some}
 use Rattle.can_station.proofs.PlaceSets.{but_start}
 use Rattle.can_station.specs.Members.{TalkerStarts, StartsTalking}
-use Rattle.can_station.specs.RestingNodes.{IfAwake}
+use Rattle.can_station.specs.DeferredNodes.{IfActive}
 use Rattle.can_station.proofs.members.start_talkers.Goals as goal
 
 pub loop-place-init : goal.loop-place-init
 loop-place-init c =
-    but_start (TalkerStarts c.args.bit c.args.talkers.now) c.args.members.now c.args.awake c.requires.awake
+    but_start (TalkerStarts c.args.bit c.args.talkers.now) c.args.members.now c.args.active c.requires.active
 
 pub bounds-members-place : goal.bounds-members-place
 bounds-members-place c =
@@ -30,11 +30,11 @@ loop-place-preserved c =
     (omega (arith, less, c.loop-place.invariant.size)) in
     let old = get_or members place c.index-members-place.result in
     let talker = get_or c.args.talkers.now place c.index-talkers-place.result in
-    but_step (λ k. IfAwake (TalkerStarts c.args.bit c.args.talkers.now k)) c.args.members.now members c.loop-place.left
+    but_step (λ k. IfActive (TalkerStarts c.args.bit c.args.talkers.now k)) c.args.members.now members c.loop-place.left
     c.take_first.new.self place old c.start_talking.new.self has c.in-Some.ensures.some.1 found
     (record {
-      rests_on = c.start_talking.ensures.rests;
-      stays_awake = λ e. c.start_talking.ensures.awake ∙ e;
+      stays_deferred = c.start_talking.ensures.is_deferred;
+      stays_active = λ e. c.start_talking.ensures.active ∙ e;
       steps = λ e t is.
           let same = same_some talker t
           (sym (slice_get-get_or c.args.talkers.now place c.index-talkers-place.result
@@ -47,5 +47,5 @@ loop-place-preserved c =
 
 pub returns : goal.returns
 returns c =
-    but_end (λ k. IfAwake (TalkerStarts c.args.bit c.args.talkers.now k)) c.args.members.now c.loop-place.members
+    but_end (λ k. IfActive (TalkerStarts c.args.bit c.args.talkers.now k)) c.args.members.now c.loop-place.members
     c.loop-place.left c.in_default.ensures.none.0 c.loop-place.invariant

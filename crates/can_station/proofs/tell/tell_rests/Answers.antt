@@ -16,7 +16,7 @@ loop-place-init c = record {
 pub loop-place-preserved : goal.loop-place-preserved
 loop-place-preserved c =
     let more = lines c.args.bit (c.args.first + c.loop-place.place)
-    (rest_by (get_or c.args.members.now c.loop-place.place c.index-members-place.result).deed) in
+    (rest_by (get_or c.args.members.now c.loop-place.place c.index-members-place.result).action) in
     record {
       value = c.tell_rest.ensures.value ∙ ap (λ es. es ++ more) c.loop-place.invariant.value
           ∙ append_assoc c.args.events.now.items _ more

@@ -6,7 +6,7 @@ use Rattle.bx_core.specs.Stands.{BusKeeps, bus_keeps-self}
 use Rattle.gw_run.specs.Ports.{BusDid, PortLeaves, on_bus}
 use Rattle.gw_run.specs.Sites.{SiteHolds, PortsLeave}
 use Rattle.bx_controller.specs.Ports.{SinkStands}
-use Rattle.can_segment.proofs.QuietBits.{left_quietly}
+use Rattle.can_segment.proofs.UneventfulBits.{left_uneventfully}
 use Rattle.gw_run.proofs.Ahead.{ahead_on, moves_on}
 use Rattle.gw_run.proofs.site.bits_of.Goals as goal
 
@@ -29,8 +29,8 @@ make_bit-requires-clause-holds g c = subst (λ ports. SiteHolds c.idle_on.new.si
 pub loop-site-preserved : goal.loop-site-preserved
 loop-site-preserved g c =
     let made = c.in_ok-make_bit.ensures in
-    let quiet = c.quiet_bits.ensures in
-    let passed = left_quietly quiet.bits in
+    let quiet = c.uneventful_bits.ensures in
+    let passed = left_uneventfully quiet.bits in
     let site = c.idle_on.new.site in
     let ports = site.ports in
     let before = moves_on c.args.site.now c.loop-site.site site c.loop-site.invariant.0 c.idle_on.ensures.idles.moves
@@ -41,7 +41,7 @@ loop-site-preserved g c =
     (sym left.size) in
     let holds = subst (λ all. SiteHolds c.make_bit.new.segment all) (sym back) made.holds in (
       moves_on c.args.site.now site _ before (record {
-        holds = site_quietly BusDid on_bus SinkStands c.make_bit.new.segment c.quiet_bits.new.self _ passed holds;
+        holds = site_quietly BusDid on_bus SinkStands c.make_bit.new.segment c.uneventful_bits.new.self _ passed holds;
         plan_is = passed.plan_is ∙ made.plan;
         ports = subst (λ all. PortsLeave ports.items all) (sym back) left;
       }),
@@ -56,7 +56,7 @@ loop-site-preserved g c =
 pub loop-site-smaller : goal.loop-site-smaller
 loop-site-smaller g c =
     let less : length c.idle_on.new.site.segment.levels < c.args.until = search rules in
-    let passed = left_quietly c.quiet_bits.ensures.bits in
+    let passed = left_uneventfully c.uneventful_bits.ensures.bits in
     let before = c.idle_on.ensures.idles.longer in
     omega (arith, less, before, passed.longer, c.in_ok-make_bit.ensures.longer)
 

@@ -2,7 +2,7 @@ use Rattle.std.proofs.Common.{rules, ◌≤◌, length, refl, arith}
 use Rattle.bx_controller.specs.Ports.{SinkStands, bus_leaves-self, port_of_bus}
 use Rattle.bx_core.specs.Stands.{BusKeeps, bus_keeps-self}
 use Rattle.can_segment.proofs.IdleBits.{left_idle}
-use Rattle.can_segment.specs.QuietBits.MakeQuietBits.{no_bit}
+use Rattle.can_segment.specs.UneventfulBits.MakeUneventfulBits.{no_bit}
 use Rattle.gw_site.proofs.Sites.{leave-self, site_quietly}
 use Rattle.gw_run.specs.Ports.{BusDid, PortLeaves, on_bus}
 use Rattle.gw_run.proofs.site.idle_on.Goals as goal

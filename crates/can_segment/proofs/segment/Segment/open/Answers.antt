@@ -4,12 +4,12 @@ use Rattle.can_segment.specs.declared.record.Record.{Record}
 use Rattle.can_station.specs.Ports.{item_of}
 use Rattle.can_station.specs.FaultOrder.{StandsAt}
 use Rattle.can_station.specs.Fresh.{AreFresh}
-use Rattle.can_segment.specs.Rests.{members_at}
+use Rattle.can_segment.specs.DeferredState.{materialized}
 use Rattle.can_segment.specs.Segments.{SegmentHolds}
-use Rattle.can_segment.proofs.Fresh.{fresh_awake, kept_fresh, idle_fresh}
-use Rattle.can_segment.proofs.Holds.{none_rests}
-use Rattle.can_segment.proofs.Woken.{none_resting}
-use Rattle.can_segment.proofs.Wholes.{holds_awake}
+use Rattle.can_segment.proofs.Fresh.{fresh_active, kept_fresh, idle_fresh}
+use Rattle.can_segment.proofs.Holds.{none_deferred}
+use Rattle.can_segment.proofs.Resumed.{none_deferred_at}
+use Rattle.can_segment.proofs.Wholes.{holds_active}
 use Rattle.can_segment.proofs.segment.Segment.open.Goals as goal
 
 pub invariant_of-result : goal.invariant_of-result
@@ -20,8 +20,8 @@ invariant_of-result c =
     rw c.as_slice.ensures.value at c.in_ok-talkers.ensures in
     let fresh_too : AreFresh (λ controller. controller.on) c.args.plan.controllers.items controllers =
     rw c.as_slice-2.ensures.value at c.in_ok-controllers.ensures in
-    let awake = fresh_awake (λ talker. talker.on) c.args.plan.talkers.items talkers fresh in
-    let awake_too = fresh_awake (λ controller. controller.on) c.args.plan.controllers.items controllers fresh_too in
+    let active = fresh_active (λ talker. talker.on) c.args.plan.talkers.items talkers fresh in
+    let active_too = fresh_active (λ controller. controller.on) c.args.plan.controllers.items controllers fresh_too in
     let kept = kept_fresh c.args.plan talkers controllers fresh fresh_too in
     let made : Record =
     record { levels = c.new-2.result; events = c.new-3.result; counters = c.show_all.new.counters } in
@@ -32,14 +32,15 @@ invariant_of-result c =
       talkers_shown = rw c.as_slice-5.ensures.value at c.show_all.ensures.talkers;
       controllers_shown = rw (c.as_slice-5.ensures.value, c.as_slice-6.ensures.value) at c.show_all.ensures.controllers;
     } in (
-      holds_awake c.args.plan made c.none-rest.result (length made.levels.items) talkers controllers awake awake_too
+      holds_active c.args.plan made c.none-deferred.result (length made.levels.items) talkers controllers active
+          active_too
           held,
       subst (λ n. StandsAt c.args.plan n c.in_ok-faults.faults) (sym (ap length c.new-2.ensures.items))
           c.in_ok-faults.ensures,
-      none_rests c.none-rest.result (length made.levels.items) c.args.plan.talkers.items talkers controllers
+      none_deferred c.none-deferred.result (length made.levels.items) c.args.plan.talkers.items talkers controllers
           (search rules) (search rules)
           (omega (arith, held.few)) (omega (arith, held.few))
-          awake awake_too,
+          active active_too,
     )
 
 pub returns : goal.returns
@@ -47,9 +48,9 @@ returns c =
     let controllers = c.in_ok-controllers.controllers.items in
     let fresh : AreFresh (λ controller. controller.on) c.args.plan.controllers.items controllers =
     rw c.as_slice-2.ensures.value at c.in_ok-controllers.ensures in
-    let same : members_at c.none-rest.result (length c.new-2.result.items) controllers ≡ controllers =
-    none_resting c.none-rest.result.listener (length c.new-2.result.items) controllers
-    (fresh_awake (λ controller. controller.on) c.args.plan.controllers.items controllers fresh) in
+    let same : materialized c.none-deferred.result (length c.new-2.result.items) controllers ≡ controllers =
+    none_deferred_at c.none-deferred.result.shared_receiver (length c.new-2.result.items) controllers
+    (fresh_active (λ controller. controller.on) c.args.plan.controllers.items controllers fresh) in
     record {
       plan_is = refl;
       no_levels = c.new-2.ensures.items;

@@ -3,8 +3,8 @@ use Rattle.can_station.proofs.member.Member.ahead.Goals as goal
 
 pub returns-clause-may : goal.returns-clause-may
 returns-clause-may c some = record {
-  awake = c.if-self.false;
+  active = c.if-self.false;
   is_on = omega (arith, c.if-bit-self.false);
-  quiet = c.is_quiet.ensures.quiet c.if-not-is_quiet.false;
+  uneventful = c.is_uneventful.ensures.uneventful c.if-not-is_uneventful.false;
   goes = c.ahead.ensures.may some;
 }

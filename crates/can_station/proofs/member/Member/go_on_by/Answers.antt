@@ -7,6 +7,6 @@ go_on_by-requires-clause-goes c =
     (may.0, may.2.goes)
 
 pub returns-clause-goes : goal.returns-clause-goes
-returns-clause-goes c awake is_sender bit may =
-    member_by is_sender bit c.args.levels.now c.args.self.now c.go_on_by.new.self awake may.is_on may.quiet
+returns-clause-goes c active is_sender bit may =
+    member_by is_sender bit c.args.levels.now c.args.self.now c.go_on_by.new.self active may.is_on may.uneventful
     (c.go_on_by.ensures is_sender may.goes)

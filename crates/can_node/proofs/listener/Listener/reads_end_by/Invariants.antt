@@ -1,6 +1,0 @@
-use Rattle.std.proofs.Common.{take}
-use Rattle.can_node.specs.Listener.{ReadsAlongBy}
-use Rattle.can_node.proofs.listener.Listener.reads_end_by.Given as goal
-
-abbrev pub invariant-loop-place : goal.invariant-loop-place
-invariant-loop-place l = ReadsAlongBy l.fn.self (take l.place l.levels) l.self

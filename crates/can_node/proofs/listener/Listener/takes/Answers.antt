@@ -1,8 +1,0 @@
-use Rattle.can_node.proofs.Listens.{all_take}
-use Rattle.can_node.proofs.listener.Listener.takes.Goals as goal
-
-pub returns : goal.returns
-returns c =
-    let here = c.in-Taking-default-default-AfterSlot in
-    let push = c.in_ok-frame.ensures in
-    all_take c.args.self.now here.start here.field-1 here.field-2 c.args.level c.in_ok-frame.frame push.0 here.is push.1

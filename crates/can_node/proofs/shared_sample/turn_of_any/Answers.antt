@@ -1,4 +1,0 @@
-use Rattle.can_node.proofs.shared_sample.turn_of_any.Goals as goal
-
-pub returns-in-Nothing : goal.returns-in-Nothing
-returns-in-Nothing c = c.after_taking-turn.ensures.alike c.in-Nothing.is

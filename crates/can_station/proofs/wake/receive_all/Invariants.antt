@@ -1,9 +1,0 @@
-use Rattle.can_station.proofs.Places.{AtPlacesBelow}
-use Rattle.can_station.specs.RestingNodes.{CountsReceived, KnowsResting}
-use Rattle.can_station.proofs.wake.receive_all.Given as goal
-
-abbrev pub invariant-loop-place : goal.invariant-loop-place
-invariant-loop-place l = record {
-  counts : AtPlacesBelow (λ k. CountsReceived) l.fn.members l.members l.place;
-  known : AtPlacesBelow (λ k. KnowsResting l.known) l.fn.members l.members l.place;
-}
