@@ -1,5 +1,5 @@
-//! `Segment::bit`: node-bits a second of segments of 2, 8 and 16 talkers, on an idle line and on one where all of them
-//! always have frames to send; and how many bytes a line of a record takes.
+//! Node-bits a second of segments of 2, 8, 16 and 64 talkers, on an idle bus and on one where all of them always have
+//! frames to send; and how many bytes an event of a record takes.
 
 ghost use Rattle.std.specs.Prelude.{◌≡◌, IfOk, length};
 ghost use Rattle.can_segment.specs.Segments.{Fit};
@@ -44,12 +44,21 @@ fn plan_of(alloc: Global, size: u16, times: u32) -> Result<SegmentPlan, AllocErr
 fn segment_of(alloc: Global, plan: SegmentPlan) -> Result<Segment, SegFault>
     ensures { IfOk result (λ segment. length segment.sending ≡ 0) }
 {
-    if !plan.controllers.is_empty() || plan.talkers.len() > 16 {
+    if !plan.controllers.is_empty() || plan.talkers.len() > 64 {
         return Err(SegFault::Ended);
     }
     Segment::new(alloc, plan)
 }
 
+/// Simulates bits at which no port is needed, as far as there are some.
+fn make_uneventful_bits<R, P: RxSink<R>>(_rt: &R, segment: &mut Segment, ports: &[P])
+    requires { Fit P.transmitting segment.old ports.now }
+    ensures { Fit P.transmitting segment.new ports.now }
+{
+    segment.uneventful_bits(BITS);
+}
+
+/// Simulates all bits.
 fn make_bits<R, P: RxSink<R>>(
     rt: &R,
     segment: &mut Segment,
@@ -58,6 +67,10 @@ fn make_bits<R, P: RxSink<R>>(
     requires { Fit P.transmitting segment.old ports.old }
 {
     for _ in 0..BITS {
+        make_uneventful_bits(rt, segment, ports);
+        if segment.record().levels.len() as u64 >= BITS {
+            return Ok(());
+        }
         segment.bit(rt, ports)?;
     }
     Ok(())
@@ -66,7 +79,7 @@ fn make_bits<R, P: RxSink<R>>(
 /// Prints the rate of each segment.
 pub(crate) fn measure<H: Print + Clock + AllocGlobal + Wait>(rt: &H) -> io::Result<()> {
     println!(rt; "a line of a record takes {} bytes", size_of::<Event>())?;
-    for size in [2u16, 8, 16] {
+    for size in [2u16, 8, 16, 64] {
         for (name, times) in [("idle", 0u32), ("busy", 10_000)] {
             let plan = plan_of(rt.alloc(), size, times)?;
             let Ok(mut segment) = segment_of(rt.alloc(), plan) else {

@@ -1,5 +1,6 @@
 //! Worked cases of a segment, and what they are made of.
 
+mod many_nodes;
 mod one_fault;
 mod requests;
 mod shared;
@@ -142,7 +143,7 @@ fn make_bits<R, P: RxSink<R>>(
 }
 
 /// Makes bits at which no port is needed, up to so many in all.
-fn make_quiet_bits<R, P: RxSink<R>>(_rt: &R, segment: &mut Segment, ports: &[P], limit: u64)
+fn make_uneventful_bits<R, P: RxSink<R>>(_rt: &R, segment: &mut Segment, ports: &[P], limit: u64)
     requires { Fit P.transmitting segment.old ports.now }
     ensures { Fit P.transmitting segment.new ports.now }
 {
@@ -171,11 +172,11 @@ fn make_more<R, P: RxSink<R>>(
         return Ok(false);
     }
     make_bit(rt, segment, ports)?;
-    make_quiet_bits(rt, segment, ports, bits as u64);
+    make_uneventful_bits(rt, segment, ports, bits as u64);
     Ok(true)
 }
 
-/// Makes so many bits in all: how many of them weren't quiet bits behind another.
+/// Makes so many bits in all: how many of them were not uneventful bits after another.
 fn make_all<R, P: RxSink<R>>(
     rt: &R,
     segment: &mut Segment,
@@ -223,7 +224,7 @@ fn segment_of(alloc: Global, plan: SegmentPlan) -> Result<Segment, Fail>
     if !plan.controllers.is_empty() {
         return Err(SegFault::Ended.into());
     }
-    if plan.talkers.len() > 16 {
+    if plan.talkers.len() > 64 {
         return Err(SegFault::Ended.into());
     }
     match Segment::new(alloc, plan) {

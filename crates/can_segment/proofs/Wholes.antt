@@ -99,7 +99,7 @@ kept_alike plan levels events t0 t1 c0 c1 talkers controllers h = record {
 
 -- what a segment holds behind a bit, when nodes may have come to rest
 pub holds_alike : (plan : SegmentPlan) (made : Record) (t0 t1 c0 c1 : List Member) → AreAlike t0 t1 → AreAlike c0 c1 →
-    SegmentKept plan made.levels.items made.events.items t0 c0 → length t0 + length c0 ≤ 16 →
+    SegmentKept plan made.levels.items made.events.items t0 c0 → length t0 + length c0 ≤ 64 →
     length made.counters.items ≡ length t0 + length c0 → AreFrom 0 t0 made.counters.items →
     AreFrom (length t0) c0 made.counters.items → SegmentHolds plan made t1 c1
 holds_alike plan made t0 t1 c0 c1 talkers controllers kept few size talkers_shown controllers_shown = record {

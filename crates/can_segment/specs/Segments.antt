@@ -98,7 +98,7 @@ AreFromDeferred first members counters =
 pub record ListsHold (plan : SegmentPlan) (levels : List Bool) (events : List Event) (counters : List Counters)
     (talkers controllers : List Member) : Type 0 where
   pub kept : SegmentKept plan levels events talkers controllers
-  pub few : length talkers + length controllers ≤ 16
+  pub few : length talkers + length controllers ≤ 64
   pub size : length counters ≡ length talkers + length controllers
   pub talkers_shown : AreFrom 0 talkers counters
   pub controllers_shown : AreFrom (length talkers) controllers counters

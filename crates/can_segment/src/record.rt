@@ -19,7 +19,7 @@ pub struct Record {
 
 /// Reserves room for one level and for three events of each node.
 pub(crate) fn make_room(made: &mut Record, nodes: usize) -> Result<(), AllocError>
-    requires { nodes ≤ 16 }
+    requires { nodes ≤ 64 }
     ensures levels { made.new.levels.items ≡ made.old.levels.items }
     ensures events { made.new.events.items ≡ made.old.events.items }
     ensures counters { made.new.counters ≡ made.old.counters }

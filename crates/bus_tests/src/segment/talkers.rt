@@ -1,8 +1,8 @@
 //! Worked cases of talkers on a line, with its faults.
 
 use super::{
-    Port, completed, data_frame, errored, make_all, make_bits, make_quiet_bits, plan_of, record_of,
-    segment_of, sender_and_listener, started, talker, took,
+    Port, completed, data_frame, errored, make_all, make_bits, make_uneventful_bits, plan_of,
+    record_of, segment_of, sender_and_listener, started, talker, took,
 };
 use can_frame::{Frame, Id};
 use can_node::{ErrorKind, ErrorState};
@@ -44,13 +44,13 @@ fn a_frame_goes_from_one_node_to_another(rt: HostRuntime) -> Result<(), Fail> {
 }
 
 #[test]
-fn quiet_bits_are_made_at_once(rt: HostRuntime) -> Result<(), Fail> {
+fn uneventful_bits_are_simulated_at_once(rt: HostRuntime) -> Result<(), Fail> {
     let frame = data_frame()?;
     match segment_of(rt.alloc(), sender_and_listener(rt.alloc(), 64, 1)?) {
         Ok(mut segment) => {
             let mut none: [Port; 0] = [];
             make_bits(&(), &mut segment, &mut none, 1)?;
-            make_quiet_bits(&(), &mut segment, &none, 7);
+            make_uneventful_bits(&(), &mut segment, &none, 7);
             assert!(rt; segment.record().levels.len() <= 7);
             let calls = make_all(&(), &mut segment, &mut none, 64)?;
             // eleven bits of rest and most of a frame that one node sends are such

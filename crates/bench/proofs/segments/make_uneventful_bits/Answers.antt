@@ -1,7 +1,7 @@
 -- Such bits leave what each controller has on the bus.
 use Rattle.std.proofs.Common.{length, slice_get, sym, ap, ◌∙◌}
 use Rattle.can_segment.proofs.UneventfulBits.{left_uneventfully}
-use Rattle.bus_tests.proofs.segment.make_quiet_bits.Goals as goal
+use Rattle.bench.proofs.segments.make_uneventful_bits.Goals as goal
 
 pub returns : goal.returns
 returns g c =
