@@ -274,7 +274,7 @@ pub completed-rest : (v w : BusSide) (q : List Waiting) → v ≡ w → q ≡ le
     IsRunning w → on_bus_now q ≡ None
 completed-rest v w q e is on h = let x =
     some_item (on_bus_now w.boxes) (subst (λ (u : BusSide). IsSome (on_bus_now u.boxes)) e on) in
-    ap on_bus_now is ∙ completes-rest w h.0 x.0 x.1 h.1
+    ap on_bus_now is ∙ completes-rest w h.0 x.0 x.1 h.1.runs
 
 pub failed-past : (v w : BusSide) (q : List Waiting) (y : Option (ℕ × ℕ)) → v ≡ w → q ≡ failed_first w.boxes →
     y ≡ reaping w.boxes → IsSome (on_bus_now v.boxes) → (past : BusPast) → Runs v past →
@@ -288,7 +288,7 @@ pub failed-rest : (v w : BusSide) (q : List Waiting) → v ≡ w → q ≡ faile
     IsRunning w → on_bus_now q ≡ None
 failed-rest v w q e is on h = let x =
     some_item (on_bus_now w.boxes) (subst (λ (u : BusSide). IsSome (on_bus_now u.boxes)) e on) in
-    ap on_bus_now is ∙ fails-rest w h.0 x.0 x.1 h.1
+    ap on_bus_now is ∙ fails-rest w h.0 x.0 x.1 h.1.runs
 
 pub failed-label : (v w : BusSide) (y : Option (ℕ × ℕ)) → v ≡ w → y ≡ reaping w.boxes → IsSome (on_bus_now v.boxes) →
     IsRunning w → IfSome y (λ z. option_map label_of (on_bus_now v.boxes) ≡ Some z)
@@ -296,4 +296,4 @@ failed-label v w y e told on h = let x =
     some_item (on_bus_now w.boxes) (subst (λ (u : BusSide). IsSome (on_bus_now u.boxes)) e on) in
     subst (λ (u : BusSide). IfSome y (λ z. option_map label_of (on_bus_now u.boxes) ≡ Some z)) (sym e)
     (subst (λ o. IfSome o (λ z. option_map label_of (on_bus_now w.boxes) ≡ Some z)) (sym told)
-    (fails-label w h.0 x.0 x.1 h.1))
+    (fails-label w h.0 x.0 x.1 h.1.runs))

@@ -390,10 +390,3 @@ pub all_drained : (v : BusSide) (sides : List RouteSide) (was u : Log) (posts : 
     TotalFact (bus_log (u.got ++ posts) u.made u.known) [] → AreAll v sides posts
 all_drained v sides was u posts a b is f = all_there v sides was.got was.made posts a b
     (subst (λ (x : Log). TotalFact (bus_log (x.got ++ posts) x.made x.known) []) is f)
-
-pub left_as : (left : List Left) (xs ws : List Waiting) (ys ps : List Posting) (aside : Option Posting) → xs ≡ ws →
-    ys ≡ ps → left ≡ (map as_left xs ++ lefts_in (option_to_list aside)) ++ lefts_in ys →
-    left ≡ (map as_left ws ++ lefts_in (option_to_list aside)) ++ lefts_in ps
-left_as left xs ws ys ps aside a b is =
-    subst (λ (y : List Waiting × List Posting). left ≡ (map as_left y.0 ++ lefts_in (option_to_list aside))
-    ++ lefts_in y.1) (λ i. (a i, b i)) is

@@ -7,3 +7,4 @@ pub mod Leaving
 pub mod Begins
 pub mod RouteSides
 pub mod Scheduling
+pub mod Tallied

@@ -1,5 +1,6 @@
 -- What a route's calls add to its past.
-use Rattle.std.proofs.Common.{◌≡◌, ℕ, ◌++◌, ◌∷◌, [], List, true, false, Bool, refl, sym, ap, ◌∙◌, subst}
+use Rattle.std.proofs.Common.{ℕ, ◌+◌, ◌≤◌, length, length-append, arith}
+use Rattle.std.proofs.Common.{◌≡◌, ◌++◌, ◌∷◌, [], List, true, false, Bool, refl, sym, ap, ◌∙◌, subst}
 use Rattle.std.proofs.Common.{append-nil}
 use Rattle.std.specs.Prelude.{Result, Ok, Err, IfOk, OnErr}
 use Rattle.atomic_table.specs.Seated.{TableId}
@@ -13,14 +14,14 @@ use Rattle.bx_core.specs.declared.answer.AbortAnswer.TheVariants.{Ended, Asked, 
 use Rattle.bx_core.specs.declared.point.Point.{Point}
 use Rattle.bx_core.specs.declared.point.Point.TheVariants.{Post, Answered}
 use Rattle.bx_core.specs.declared.entry.Entry.{Entry}
-use Rattle.bx_core.specs.Steps.{last_of, last_number}
+use Rattle.bx_core.specs.Steps.{last_of, last_number, greatest_number}
 use Rattle.bx_core.specs.Gate.{Passes, HearsAnswer, IsHeard}
 use Rattle.bx_core.specs.RouteTx.{RoutePast, after_request, after_abort}
 use Rattle.bx_mail.specs.declared.log.Log.{Log}
 use Rattle.bx_mail.specs.declared.posting.Posting.{Posting}
 use Rattle.bx_mail.specs.declared.posting.Asks.{Asks}
 use Rattle.bx_mail.specs.declared.posting.Asks.TheVariants.{Transmit, Abort}
-use Rattle.bx_mail.specs.Postings.{of, request_by, requests_in, aborts_in, newest_by}
+use Rattle.bx_mail.specs.Postings.{of, request_by, requests_in, aborts_in, newest_by, count_by, MayFollow}
 use Rattle.bx_mail.specs.Rule.{route_log, SentFact}
 use Rattle.bx_mail.specs.Sides.{RouteSide, RouteRuns, IsPosted, IsAbortAnswer, AreLastOf, posted, is_yes, heard_as}
 use Rattle.bx_mail.proofs.Postings.{requests_in-append, aborts_in-append}
@@ -141,6 +142,32 @@ newest_posted u n route number last newer what was is e =
     ∙ ap (λ es. last_number (requests_in u.sent ++ es)) (sym (append-nil (request_by number what)))
     ∙ ap last_number (sym (requests_in-append u.sent (record { route = route; number = number; what = what } ∷ [])))
     ∙ ap (λ (x : Log). last_number (requests_in x.sent)) (sym e)
+
+-- the count of requests after a post
+
+count_is : (es : List Entry) (number count : ℕ) (what : Asks) → count ≡ length es →
+    count_by count what ≡ length (es ++ request_by number what)
+count_is es number count (Transmit f) e = ap (λ n. n + 1) e
+    ∙ sym (length-append es (record { number = number; frame = f } ∷ []))
+count_is es number count Abort e = e ∙ ap length (sym (append-nil es))
+
+pub counted_posted : (u n : Log) (route number count more : ℕ) (what : Asks) → count ≡ length (requests_in u.sent) →
+    more ≡ count_by count what →
+    n ≡ route_log u.from (u.sent ++ record { route = route; number = number; what = what } ∷ []) →
+    more ≡ length (requests_in n.sent)
+counted_posted u n route number count more what was is e =
+    is ∙ count_is (requests_in u.sent) number count what was
+    ∙ ap (λ es. length (requests_in u.sent ++ es)) (sym (append-nil (request_by number what)))
+    ∙ ap length (sym (requests_in-append u.sent (record { route = route; number = number; what = what } ∷ [])))
+    ∙ ap (λ (x : Log). length (requests_in x.sent)) (sym e)
+
+-- numbers rise, up to the greatest
+pub rises_posted : (sent : List Posting) (number last count : ℕ) (what : Asks) → last ≡ last_number (requests_in sent) →
+    count ≤ last → last ≤ greatest_number → MayFollow sent number what →
+    (count_by count what ≤ newest_by last number what) × (newest_by last number what ≤ greatest_number)
+rises_posted sent number last count (Transmit f) is rises most may =
+    let above = may.0 in (omega (arith, is, rises, above), may.1)
+rises_posted sent number last count Abort is rises most may = (rises, most)
 
 pub posted_form : (u n : Log) (x : Posting) (route : ℕ) → u.from ≡ route → n ≡ route_log u.from (u.sent ++ x ∷ []) →
     n ≡ route_log route n.sent

@@ -54,10 +54,14 @@ abbrev pub starting : List Waiting → Option Item
 starting [] = None
 starting (w ∷ ws) = if may_start w then Some (item_of w) else None
 
--- the oldest leaves its mailbox
+-- the oldest leaves its mailbox; and what left so
 abbrev pub left_first : List Waiting → List Waiting
 left_first [] = []
 left_first (w ∷ ws) = ws
+
+abbrev pub leaving : List Waiting → Option Item
+leaving [] = None
+leaving (w ∷ ws) = Some (item_of w)
 
 -- the oldest failed: where its abort was asked it leaves, else it is scheduled again; and the label of what left so
 abbrev pub failed_first : List Waiting → List Waiting

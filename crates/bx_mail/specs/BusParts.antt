@@ -13,6 +13,7 @@ bus_view s = record {
   got = (view s.pass).got;
   boxes = s.boxes.items;
   aside = s.aside;
+  tally = s.tally;
 }
 
 -- it may take posts, and what it keeps came from them

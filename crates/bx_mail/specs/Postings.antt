@@ -1,10 +1,11 @@
 -- What routes ask for by their posts.
-use Rattle.std.specs.Prelude.{◌≡◌, ℕ, ◌<◌, ◌≤◌, ◌==◌, List, [], ◌∷◌, ◌++◌, if◌then◌else◌}
+use Rattle.std.specs.Prelude.{◌≡◌, ℕ, ◌+◌, ◌<◌, ◌≤◌, ◌==◌, List, [], ◌∷◌, ◌++◌, if◌then◌else◌}
 use Rattle.bx_core.specs.declared.entry.Entry.{Entry}
 use Rattle.bx_core.specs.declared.left.Left.{Left}
 use Rattle.bx_core.specs.Lists.{Each, Rises}
 use Rattle.bx_core.specs.States.{numbers}
 use Rattle.bx_core.specs.Steps.{greatest_number, last_number}
+use Rattle.bx_core.specs.TxBus.{Item}
 use Rattle.bx_mail.specs.declared.posting.Posting.{Posting}
 use Rattle.bx_mail.specs.declared.posting.Asks.{Asks}
 use Rattle.bx_mail.specs.declared.posting.Asks.TheVariants.{Transmit, Abort}
@@ -49,6 +50,23 @@ left_by route number Abort = []
 abbrev pub lefts_in : List Posting → List Left
 lefts_in [] = []
 lefts_in (p ∷ ps) = left_by p.route p.number p.what ++ lefts_in ps
+
+-- the same, as route, number and frame
+abbrev pub item_by : ℕ → ℕ → Asks → List Item
+item_by route number (Transmit frame) = (route, number, frame) ∷ []
+item_by route number Abort = []
+
+abbrev pub items_in : List Posting → List Item
+items_in [] = []
+items_in (p ∷ ps) = item_by p.route p.number p.what ++ items_in ps
+
+abbrev pub item_left : Item → Left
+item_left x = record { route = x.0; number = x.1; frame = x.2 }
+
+-- how many requests there were, where there were so many before the post
+abbrev pub count_by : ℕ → Asks → ℕ
+count_by count (Transmit frame) = count + 1
+count_by count Abort = count
 
 -- the newest number requested, where it was `last` before the post
 abbrev pub newest_by : ℕ → ℕ → Asks → ℕ

@@ -1,6 +1,6 @@
 -- What contracts see of the sides of a post, and what they may have done (RM0008, bxCAN, "Transmission handling").
-use Rattle.std.specs.Prelude.{◌≡◌, ℕ, ◌≤◌, Bool, true, false, Option, Some, None, IfSome}
-use Rattle.std.specs.Prelude.{List, [], ◌∷◌, ◌++◌, length, option_to_list, slice_get, map}
+use Rattle.std.specs.Prelude.{◌≡◌, ℕ, ◌+◌, ◌≤◌, Bool, true, false, Option, Some, None, IfSome}
+use Rattle.std.specs.Prelude.{◌-◌, List, [], ◌∷◌, ◌++◌, length, option_to_list, slice_get, slice_index, map}
 use Rattle.atomic_table.specs.Seated.{TableId}
 use Rattle.crossbeam_queue.specs.Fifo.{Held}
 use Rattle.bx_core.specs.declared.waiting.Waiting.{Waiting}
@@ -14,22 +14,26 @@ use Rattle.bx_core.specs.declared.point.Heard.TheVariants.{Posted, Not}
 use Rattle.bx_core.specs.Law.{Law}
 use Rattle.bx_core.specs.Lists.{Each, Has}
 use Rattle.bx_core.specs.RouteTx.{RoutePast}
-use Rattle.bx_core.specs.Stands.{BusStands, RouteStands}
+use Rattle.bx_core.specs.Stands.{BusStands, RouteStands, entries_of, numbers_of}
 use Rattle.bx_core.specs.States.{State}
-use Rattle.bx_core.specs.Ties.{as_left}
+use Rattle.bx_core.specs.Ties.{as_left, left_of}
 use Rattle.bx_core.specs.TxBus.{BusPast}
+use Rattle.bx_shared.specs.declared.closed.RouteCounts.{RouteCounts}
+use Rattle.bx_shared.specs.declared.tally.Tally.{Tally}
+use Rattle.bx_shared.specs.Tallies.{IsTally}
 use Rattle.bx_mail.specs.declared.posting.Posting.{Posting}
 use Rattle.bx_mail.specs.declared.posting.Asks.{Asks}
 use Rattle.bx_mail.specs.Postings.{of, requests_in, aborts_in, lefts_in, IsRequest, AreOrderly}
 
 -- the bus side: its queue, for how many routes it is, the posts that it took, the requests in its mailboxes, the oldest
--- first, and the one aside
+-- first, the one aside, and how many requests of each route were sent and reaped
 pub record BusSide : Type 0 where
   pub queue : TableId
   pub routes : ℕ
   pub got : List Posting
   pub boxes : List Waiting
   pub aside : Option Posting
+  pub tally : Tally
 
 -- the side of a route: its queue, its route, and what it posted
 pub record RouteSide : Type 0 where
@@ -57,8 +61,13 @@ pub record Runs (v : BusSide) (past : BusPast) : Type 0 where
   pub orderly : AreOrderly v.routes v.got
   pub aside : IfSome v.aside (λ (p : Posting). IsRequest p.what)
 
+-- it may have done this, and its counts are of this
+pub record HasRun (v : BusSide) (past : BusPast) : Type 0 where
+  pub runs : Runs v past
+  pub tally : IsTally past.done past.reaped v.tally
+
 abbrev pub IsRunning : BusSide → Type 0
-IsRunning v = (past : BusPast) × Runs v past
+IsRunning v = (past : BusPast) × HasRun v past
 
 -- The side of a route may have done this: what it requested and what it asked to end is what it posted, and nothing was
 -- answered Ended.
@@ -118,6 +127,7 @@ pub record IsNewBus (routes : ℕ) (bus : BusSide) : Type 0 where
   pub none_taken : bus.got ≡ []
   pub none_waits : bus.boxes ≡ []
   pub none_aside : bus.aside ≡ None
+  pub none_counted : IsTally [] [] bus.tally
 
 -- the sides of routes in order, which posted nothing yet
 abbrev pub AreNewSides : TableId → List RouteSide → Type 0
@@ -142,3 +152,37 @@ pub record IsClosed (bus : BusSide) (sides : List RouteSide) (left : List Left) 
   pub all : AreAll bus sides posts
   pub left_is : left ≡ left_with bus posts
   pub few : length left ≤ 12
+
+-- The counts of a route: of what its side requested, and of what the bus side sent and reaped of it, whatever the bus
+-- side did. These, what was aborted and what is left are all that the route requested.
+pub record IsCounted (bus : BusSide) (route : ℕ) (s : RouteSide) (left : List Left) (c : RouteCounts) : Type 0 where
+  pub requested : c.requested ≡ length (requests_in s.sent)
+  pub done : (did : BusPast) → HasRun bus did → c.done ≡ length (entries_of route did.done)
+  pub reaped : (did : BusPast) → HasRun bus did → c.reaped ≡ length (numbers_of route did.reaped)
+  pub all : c.requested ≡ c.done + c.aborted + c.reaped + length (left_of route left)
+
+-- these are the counts of each route, in order
+abbrev pub AreCounted : BusSide → List RouteSide → List Left → List RouteCounts → Type 0
+AreCounted bus sides left counts = (route : ℕ) (s : RouteSide) (c : RouteCounts) → slice_get sides route ≡ Some s →
+    slice_get counts route ≡ Some c → IsCounted bus route s left c
+
+-- the counts that the sides keep
+pub record IsKept (tally : Tally) (route : ℕ) (s : RouteSide) (c : RouteCounts) : Type 0 where
+  pub requested : c.requested ≡ length (requests_in s.sent)
+  pub done : c.done ≡ slice_index tally.done route
+  pub reaped : c.reaped ≡ slice_index tally.reaped route
+
+abbrev pub AreKept : Tally → List RouteSide → List RouteCounts → Type 0
+AreKept tally sides counts = (route : ℕ) (s : RouteSide) (c : RouteCounts) → slice_get sides route ≡ Some s →
+    slice_get counts route ≡ Some c → IsKept tally route s c
+
+-- the same counts, with what was aborted: what is neither sent, reaped nor left
+pub record IsFilled (route : ℕ) (left : List Left) (a c : RouteCounts) : Type 0 where
+  pub requested : c.requested ≡ a.requested
+  pub done : c.done ≡ a.done
+  pub reaped : c.reaped ≡ a.reaped
+  pub aborted : c.aborted ≡ a.requested - a.done - a.reaped - length (left_of route left)
+
+abbrev pub AreFilled : List Left → List RouteCounts → List RouteCounts → Type 0
+AreFilled left kept counts = (route : ℕ) (a c : RouteCounts) → slice_get kept route ≡ Some a →
+    slice_get counts route ≡ Some c → IsFilled route left a c

@@ -4,7 +4,8 @@ ghost use Rattle.std.specs.Prelude.{slice_set, IsTrue, ◌↔◌, IsSome, IfSome
 ghost use Rattle.bx_core.specs.States.{at_mailbox, place_of, of_number, is_pending};
 ghost use Rattle.bx_core.specs.Steps.{may_start};
 ghost use Rattle.bx_mail.specs.Boxes.{IsLowestFree, NoneIsFree, on_bus_now, scheduled_first, may_start_first};
-ghost use Rattle.bx_mail.specs.Boxes.{started_first, starting, left_first, failed_first, reaping, aborted_of, IsSeated};
+ghost use Rattle.bx_mail.specs.Boxes.{started_first, starting, left_first, leaving, failed_first, reaping};
+ghost use Rattle.bx_mail.specs.Boxes.{aborted_of, IsSeated};
 ghost use Rattle.bx_mail.specs.declared.posting.Asks.TheVariants.{Transmit};
 
 use crate::posting::{Asks, Posting};
@@ -139,13 +140,14 @@ pub(crate) fn start(boxes: &mut Boxes) -> Option<(u8, u32, Frame)>
     Some((waiting.route, waiting.number, waiting.frame))
 }
 
-/// The oldest request was sent.
-pub(crate) fn complete(boxes: &mut Boxes)
-    ensures { boxes.new.items ≡ left_first boxes.old.items }
+/// Takes the oldest request, which was sent, out of its mailbox. Returns its route, its number and its frame.
+pub(crate) fn complete(boxes: &mut Boxes) -> Option<(u8, u32, Frame)>
+    ensures boxes { boxes.new.items ≡ left_first boxes.old.items }
+    ensures left { result ≡ leaving boxes.old.items }
 {
-    if !boxes.is_empty() {
-        boxes.remove(0);
-    }
+    let waiting = first(boxes.as_slice())?;
+    boxes.remove(0);
+    Some((waiting.route, waiting.number, waiting.frame))
 }
 
 /// The oldest request failed: it leaves where its abort was asked, else it is scheduled again.

@@ -2,6 +2,7 @@
 #![tactic(auto)]
 
 mod boxes;
+mod closed;
 mod closing;
 mod log;
 mod opening;
@@ -11,6 +12,7 @@ mod post_route;
 mod posting;
 mod rule;
 
+pub use crate::closed::PostClosed;
 pub use crate::post::Post;
 pub use crate::post_bus::PostBus;
 pub use crate::post_route::PostRoute;

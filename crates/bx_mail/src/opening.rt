@@ -7,6 +7,7 @@ use crate::post_bus::PostBus;
 use crate::post_route::PostRoute;
 use crate::rule::{Line, Sides};
 use arrayvec::ArrayVec;
+use bx_shared::Tally;
 use std::alloc::{AllocError, Global};
 use std::sync::Arc;
 
@@ -28,6 +29,7 @@ pub(crate) fn open(alloc: Global, routes: u8) -> Result<(PostBus, Vec<PostRoute>
             pass: posting,
             route,
             last: 0,
+            requested: 0,
         })?;
     }
     let bus = PostBus {
@@ -35,6 +37,7 @@ pub(crate) fn open(alloc: Global, routes: u8) -> Result<(PostBus, Vec<PostRoute>
         pass,
         boxes: ArrayVec::new(),
         aside: None,
+        tally: Tally::new(),
     };
     Ok((bus, sides))
 }

@@ -4,7 +4,7 @@ ghost use Rattle.bx_core.specs.declared.point.Point.TheVariants.{Post, Answered}
 ghost use Rattle.bx_core.specs.Gate.{Passes};
 ghost use Rattle.bx_core.specs.Steps.{greatest_number, last_number};
 ghost use Rattle.bx_mail.specs.declared.posting.Asks.TheVariants.{Transmit, Abort};
-ghost use Rattle.bx_mail.specs.Postings.{requests_in, MayFollow, newest_by};
+ghost use Rattle.bx_mail.specs.Postings.{requests_in, MayFollow, newest_by, count_by};
 ghost use Rattle.bx_mail.specs.Sides.{IsPosted, IsAbortAnswer, is_yes, heard_as};
 
 use crate::log::Log;
@@ -26,6 +26,8 @@ pub struct PostRoute {
     pub(crate) route: u8,
     // the newest number requested, or 0
     pub(crate) last: u32,
+    // how many requests were posted
+    pub(crate) requested: u32,
 }
 
 impl Model for PostRoute {
@@ -109,6 +111,7 @@ impl PostRoute {
             return false;
         };
         self.last = newest(self.last, number, &what);
+        self.requested = counted(self.requested, &what);
         true
     }
 }
@@ -120,6 +123,17 @@ fn newest(last: u32, number: u32, what: &Asks) -> u32
     match what {
         Asks::Transmit(_) => number,
         Asks::Abort => last,
+    }
+}
+
+/// Returns how many requests a route made, once it made this post.
+fn counted(count: u32, what: &Asks) -> u32
+    requires { count ≤ greatest_number }
+    ensures { result ≡ count_by count what.now }
+{
+    match what {
+        Asks::Transmit(_) => count + 1,
+        Asks::Abort => count,
     }
 }
 

@@ -31,3 +31,4 @@ pub use crate::closed::{Closed, RouteCounts};
 pub use crate::mail::Mail;
 pub use crate::request_answer::RequestAnswer;
 pub use crate::route_seat::RouteSeat;
+pub use crate::tally::Tally;

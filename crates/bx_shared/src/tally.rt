@@ -6,16 +6,18 @@ ghost use Rattle.bx_shared.specs.Tallies.{IsTally};
 
 use can_frame::Frame;
 
-/// Of each of eight routes, how many of its requests were sent and how many reaped.
+/// How many requests of each of eight routes the bus side of mailboxes sent, and how many it reaped.
 #[derive(Drop)]
-pub(crate) struct Tally {
-    pub(crate) done: [u32; 8],
-    pub(crate) reaped: [u32; 8],
+pub struct Tally {
+    /// The number of requests that were sent, of each route 0 to 7.
+    pub done: [u32; 8],
+    /// The number of requests that failed after their abort was asked, of each route 0 to 7.
+    pub reaped: [u32; 8],
 }
 
 impl Tally {
-    /// Of none.
-    pub(crate) fn new() -> Tally
+    /// Returns the counts before any request was sent or reaped: all are 0.
+    pub fn new() -> Tally
         ensures { IsTally [] [] result }
     {
         Tally {
@@ -24,8 +26,9 @@ impl Tally {
         }
     }
 
-    /// One more of this route was sent.
-    pub(crate) fn add_done(&mut self, item: (u8, u32, Frame))
+    /// Counts a request that was sent, given its route (0 to 7), its number and its frame. The count of its route is
+    /// at most 16,777,215 before the call.
+    pub fn add_done(&mut self, item: (u8, u32, Frame))
         requires route { item.0 < 8 }
         requires few { slice_index self.old.done item.0 ≤ greatest_number }
         ensures { (done : List Item) (reaped : List (ℕ × ℕ)) → IsTally done reaped self.old
@@ -34,8 +37,9 @@ impl Tally {
         self.done[usize::from(item.0)] += 1;
     }
 
-    /// One more of this route was reaped.
-    pub(crate) fn add_reaped(&mut self, label: (u8, u32))
+    /// Counts a request that was reaped, given its route (0 to 7) and its number. The count of its route is at most
+    /// 16,777,215 before the call.
+    pub fn add_reaped(&mut self, label: (u8, u32))
         requires route { label.0 < 8 }
         requires few { slice_index self.old.reaped label.0 ≤ greatest_number }
         ensures { (done : List Item) (reaped : List (ℕ × ℕ)) → IsTally done reaped self.old

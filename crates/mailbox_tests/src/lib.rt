@@ -10,6 +10,8 @@ mod mailboxes;
 #[cfg(test)]
 mod posts;
 #[cfg(test)]
+mod posts_closing;
+#[cfg(test)]
 mod priority;
 #[cfg(test)]
 mod words;

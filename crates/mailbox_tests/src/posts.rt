@@ -1,7 +1,7 @@
 //! Mailboxes over a post, by hand.
 
 use bx_core::{AbortAnswer, Gate, Heard, NoGate, Point, Sent, TxBus};
-use bx_mail::{Post, PostRoute};
+use bx_mail::{Post, PostRoute, RouteCounts};
 use can_frame::{Frame, Id, Memory};
 use std::sync::Wait;
 use std::test::Fail;
@@ -121,6 +121,11 @@ fn a_number_of_25_bits_is_refused(rt: HostRuntime) -> Result<(), Fail> {
 #[test]
 fn a_set_is_made_and_closed(rt: HostRuntime) -> Result<(), Fail> {
     let (bus, sides) = Post::new(rt.alloc(), 3)?;
-    assert_eq!(rt; Post::close(&rt, rt.alloc(), bus, sides)?.len(), 0);
+    let closed = Post::close(&rt, bus, sides);
+    assert_eq!(rt; closed.left.len(), 0);
+    assert_eq!(rt;
+        closed.routes.as_slice(),
+        [RouteCounts::default(); 3].as_slice()
+    );
     Ok(())
 }

@@ -1,21 +1,23 @@
--- All that the routes posted was taken or is left.
-use Rattle.std.proofs.Common.{◌≡◌, ◌++◌, map, refl, rules}
-use Rattle.std.specs.Prelude.{option_to_list}
-use Rattle.bx_core.specs.Ties.{as_left}
-use Rattle.bx_mail.specs.Postings.{lefts_in}
-use Rattle.bx_mail.specs.Sides.{IsClosed}
-use Rattle.crossbeam_queue.specs.Passes.{view}
-use Rattle.bx_mail.specs.BusParts.{bus_view}
-use Rattle.bx_mail.proofs.Leaving.{closed, all_drained, if_ok-more, left_as}
+-- What is counted and what is left is all.
+use Rattle.std.proofs.Common.{List, map, sym, subst}
+use Rattle.bx_core.specs.TxBus.{Item}
+use Rattle.bx_shared.specs.declared.closed.RouteCounts.{RouteCounts}
+use Rattle.bx_mail.specs.Postings.{item_left}
+use Rattle.bx_mail.specs.Sides.{RouteSide, AreKept, AreFilled}
+use Rattle.bx_mail.proofs.Tallied.{are_counted}
 use Rattle.bx_mail.proofs.closing.close.Goals as goal
 
-pub returns : goal.returns
-returns g c = let v = bus_view c.bus.inside in
-    if_ok-more (λ left. left.items ≡ (map as_left c.as_slice.result.now ++ lefts_in (option_to_list c.bus.inside.aside))
-    ++ lefts_in c.as_slice-2.result.now) (λ left. IsClosed c.args.bus c.args.sides.items left.items) c.leave.result
-    (λ left is. closed c.args.bus v c.args.sides.items c.drain-posts.result.items left.items c.bus.view_is
-    (all_drained v c.args.sides.items (view c.bus.inside.pass) (view c.join_all.new.pass) c.drain-posts.result.items
-    refl refl c.join_all.ensures.view c.drain-posts.ensures) (search rules) (search rules)
-    (left_as left.items c.as_slice.result.now c.bus.inside.boxes.items c.as_slice-2.result.now
-    c.drain-posts.result.items c.bus.inside.aside c.as_slice.ensures.value c.as_slice-2.ensures.value is))
-    c.leave.ensures
+pub returns-clause-counted : goal.returns-clause-counted
+returns-clause-counted g c =
+    let sides = c.args.sides.items in
+    let kept = c.as_slice.result.now in
+    let left = c.end-left.result.items in
+    let counts = c.fill-routes.result.items in
+    let keeps : AreKept c.args.bus.tally sides kept =
+    subst (λ (y : List RouteSide × List RouteCounts). AreKept c.args.bus.tally y.0 y.1)
+    (λ k. (c.deref.ensures.value k, sym c.as_slice.ensures.value k)) c.counts_of-kept.ensures.kept in
+    let fills : AreFilled (map item_left left) kept counts =
+    subst (λ (l : List Item). AreFilled (map item_left l) kept counts) c.as_slice-2.ensures.value
+    c.fill-routes.ensures.filled in
+    are_counted c.args.bus sides (map item_left left) kept counts c.requires.runs c.requires.few
+    c.fill-routes.ensures.size c.end-left.ensures keeps fills

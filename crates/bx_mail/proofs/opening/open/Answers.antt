@@ -21,13 +21,17 @@ invariant_of-bus c = let i = c.loop-route.invariant in let u = view c.loop-route
       log_form u [] c.loop-route.route i.2,
       (
         no_bus_past,
-        opened (record {
-          queue = c.loop-route.pass.table_id;
-          routes = u.made;
-          got = u.got;
-          boxes = c.new-2.result.items;
-          aside = None;
-        }) (omega (arith, few, end, made))
-            (ap (λ v. v.got) i.2) c.new-2.ensures refl,
+        record {
+          runs = opened (record {
+            queue = c.loop-route.pass.table_id;
+            routes = u.made;
+            got = u.got;
+            boxes = c.new-2.result.items;
+            aside = None;
+            tally = c.new-3.result;
+          }) (omega (arith, few, end, made))
+              (ap (λ v. v.got) i.2) c.new-2.ensures refl;
+          tally = c.new-3.ensures;
+        },
       ),
     )

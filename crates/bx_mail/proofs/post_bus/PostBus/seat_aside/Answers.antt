@@ -5,7 +5,7 @@ use Rattle.bx_mail.proofs.Takes.{room, seated-past, seated_now}
 use Rattle.bx_mail.proofs.post_bus.PostBus.seat_aside.Goals as goal
 
 pub seat-requires : goal.seat-requires
-seat-requires c = let i = c.self.invariant in λ m lt none. room (bus_view c.self.inside) i.2.0 i.2.1 m lt none
+seat-requires c = let i = c.self.invariant in λ m lt none. room (bus_view c.self.inside) i.2.0 i.2.1.runs m lt none
 
 pub invariant_of-self : goal.invariant_of-self
 invariant_of-self c = let i = c.self.invariant in let v = bus_view c.self.inside in (
@@ -13,8 +13,11 @@ invariant_of-self c = let i = c.self.invariant in let v = bus_view c.self.inside
   i.1,
   (
     i.2.0,
-    seated-past v v c.in-Some.posting c.seat.new.boxes.items c.seat.result refl c.in-Some.is c.seat.ensures
-        c.if-seat.true i.2.0 i.2.1,
+    record {
+      runs = seated-past v v c.in-Some.posting c.seat.new.boxes.items c.seat.result refl c.in-Some.is c.seat.ensures
+          c.if-seat.true i.2.0 i.2.1.runs;
+      tally = i.2.1.tally;
+    },
   ),
 )
 

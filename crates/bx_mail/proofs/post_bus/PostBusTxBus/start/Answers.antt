@@ -1,6 +1,8 @@
 -- A start is an event of the mailbox core.
-use Rattle.std.proofs.Common.{sym, refl}
+use Rattle.std.proofs.Common.{sym, refl, ap, subst}
+use Rattle.bx_shared.specs.Tallies.{IsTally}
 use Rattle.bx_mail.specs.BusParts.{bus_view}
+use Rattle.bx_mail.specs.Sides.{BusSide}
 use Rattle.bx_mail.proofs.BusSides.{started-past, started-new}
 use Rattle.bx_mail.proofs.post_bus.PostBusTxBus.start.Goals as goal
 
@@ -10,15 +12,21 @@ invariant_of-self g c = let i = c.self.invariant in let v = bus_view c.self.insi
   i.1,
   (
     _,
-    started-past v v c.start.new.boxes.items c.start.result refl c.start.ensures.boxes c.start.ensures.result
-        i.2.0 i.2.1,
+    record {
+      runs = started-past v v c.start.new.boxes.items c.start.result refl c.start.ensures.boxes c.start.ensures.result
+          i.2.0 i.2.1.runs;
+      tally = i.2.1.tally;
+    },
   ),
 )
 
 pub returns-clause-past : goal.returns-clause-past
-returns-clause-past g c = λ past h. started-past c.args.self.now (bus_view c.self.inside) c.start.new.boxes.items
-    c.start.result (sym c.self.view_is) c.start.ensures.boxes c.start.ensures.result past h
+returns-clause-past g c = λ past h. record {
+  runs = started-past c.args.self.now (bus_view c.self.inside) c.start.new.boxes.items c.start.result
+      (sym c.self.view_is) c.start.ensures.boxes c.start.ensures.result past h.runs;
+  tally = subst (IsTally past.done past.reaped) (sym (ap (λ (x : BusSide). x.tally) c.self.view_is)) h.tally;
+}
 
 pub returns-clause-undone : goal.returns-clause-undone
 returns-clause-undone g c = λ past h. started-new c.args.self.now (bus_view c.self.inside) c.start.result
-    (sym c.self.view_is) c.start.ensures.result past h
+    (sym c.self.view_is) c.start.ensures.result past h.runs
