@@ -1,4 +1,4 @@
-//! One bit of a node: what its level makes of state, reader and counters.
+//! One bit of a node: what a level makes of its state, its reader and its counters.
 
 ghost use Rattle.std.specs.Prelude.{◌≡◌, ℕ, Bool, List, true, false, ◌∷◌, ◌++◌, []};
 ghost use Rattle.can_frame.specs.Reading.{StandsAfter, IsReading, IsPush};
@@ -35,7 +35,7 @@ use crate::transitions::{
 use can_confinement::{Counters, ErrorEvent, ErrorState, Role};
 use can_frame::{Reader, Spelling, Step};
 
-/// The level that a node drives in this state, if it sends no frame.
+/// Returns the level that a node in this state drives, if it sends no frame.
 pub(crate) fn level_of(state: State) -> bool
     ensures { result ≡ level_of state }
 {
@@ -46,7 +46,7 @@ pub(crate) fn level_of(state: State) -> bool
     }
 }
 
-/// The level that a node drives in this state.
+/// Returns the level that a node in this state drives, with this wire image if it sends a frame.
 pub(crate) fn level_in(state: State, spelling: &Spelling) -> bool
     ensures { result ≡ level_in state spelling.now }
 {
@@ -56,7 +56,7 @@ pub(crate) fn level_in(state: State, spelling: &Spelling) -> bool
     }
 }
 
-/// Whether a node in this state may begin to send at the next bit.
+/// Returns whether a node in this state may begin to send at the next bit.
 pub(crate) fn may_start(state: State) -> bool
     ensures { result ≡ may_start state }
 {
@@ -67,7 +67,7 @@ pub(crate) fn may_start(state: State) -> bool
     }
 }
 
-/// The number of the SOF of the frame that a node in this state sends.
+/// Returns the number of the SOF of the frame that a node in this state sends.
 pub(crate) fn sof_of(state: State) -> Option<u64>
     ensures { result ≡ sof_of state }
 {
@@ -77,8 +77,8 @@ pub(crate) fn sof_of(state: State) -> Option<u64>
     }
 }
 
-/// Whether a node in this state listens to the line as others may: it sends no frame, and has nothing left to do of one
-/// that it sent.
+/// Returns whether a node in this state may be deferred: it sends no frame, and has nothing left to do of a frame that
+/// it sent.
 pub(crate) fn listens(state: State) -> bool
     ensures { result ≡ listens state }
 {
@@ -95,6 +95,7 @@ pub(crate) fn listens(state: State) -> bool
     }
 }
 
+/// Returns whether this is the role of a receiver.
 pub(crate) fn is_receiver(role: Role) -> bool
     ensures { result ≡ is_receiver role }
 {
@@ -104,7 +105,7 @@ pub(crate) fn is_receiver(role: Role) -> bool
     }
 }
 
-/// Whether a node in this state reads on in the stuffed region of a frame, and may not begin to send instead.
+/// Returns whether a node in this state receives in the stuffed region of a frame, and may not begin to send instead.
 #[inline]
 pub(crate) fn is_in_region(state: State) -> bool
     ensures { result ≡ is_in_region state }
@@ -115,8 +116,8 @@ pub(crate) fn is_in_region(state: State) -> bool
     }
 }
 
-/// Where a node in this state stands behind a level of the end of a frame with which the frame goes on. `None` in the
-/// ACK slot, and where it reads no end of a frame.
+/// Returns the state after a level behind the stuffed region with which the frame continues. `None` in the ACK slot,
+/// and where the node reads no end of a frame.
 pub(crate) fn behind_end(state: State) -> Option<State>
     ensures { result ≡ behind_end state }
 {
@@ -129,15 +130,15 @@ pub(crate) fn behind_end(state: State) -> Option<State>
     }
 }
 
-/// Whether a node in this state reads a frame.
+/// Returns whether a node in this state receives a frame.
 pub(crate) fn is_taking(state: State) -> bool
     ensures { result ≡ is_taking state }
 {
     matches!(state, State::Receiving(_, _, _))
 }
 
-/// Whether what a level makes of a state that neither reads nor sends a frame is the same in each error state. It says
-/// no of a dominant level in any delimiter, and of the intermission behind an own frame.
+/// Returns whether a level makes the same of a state that neither receives nor sends a frame in each error state.
+/// Returns false for a dominant level in any delimiter, and for the intermission after a frame of its own.
 pub(crate) fn steps_alike(state: State, level: bool) -> bool
     ensures { result ≡ steps_alike level state }
 {
@@ -150,7 +151,7 @@ pub(crate) fn steps_alike(state: State, level: bool) -> bool
     }
 }
 
-/// What a level makes of a state that neither reads nor sends a frame.
+/// Returns what a level makes of a state that neither receives nor sends a frame.
 pub(crate) fn transition_of(state: State, now: u64, errors: ErrorState, level: bool) -> Transition
     ensures goes { is_taking state ≡ false → is_sending state ≡ false
         → Goes state now errors level result }
@@ -178,7 +179,7 @@ pub(crate) fn transition_of(state: State, now: u64, errors: ErrorState, level: b
     }
 }
 
-/// A reader of the frame whose SOF was just sampled.
+/// Returns a reader of the frame whose SOF was just sampled.
 #[inline(never)]
 pub(crate) fn reader_after_sof() -> Reader
     ensures stands { StandsAfter result (false ∷ []) }
@@ -189,7 +190,7 @@ pub(crate) fn reader_after_sof() -> Reader
     reader
 }
 
-/// The reader is that of the frame of which these levels were sampled, SOF first, and then this one.
+/// Makes the reader that of the frame of which these levels were sampled, SOF first, and then this one.
 #[inline(never)]
 fn read_behind(reader: &mut Reader, text: &[bool], level: bool)
     ensures { StandsAfter reader.new (text.now ++ level ∷ []) }
@@ -198,7 +199,7 @@ fn read_behind(reader: &mut Reader, text: &[bool], level: bool)
     let _step = reader.push(level);
 }
 
-/// Whether a receiver goes on in the stuffed region as before, which is what most bits of a bus are.
+/// Returns whether a receiver stays in the stuffed region, as at most bits of a bus.
 fn stays_in_region(may_begin: bool, stage: Stage, step: &Step) -> bool
     ensures { result ≡ true → StaysInRegion may_begin stage step.now }
 {
@@ -215,7 +216,7 @@ fn stays_in_region(may_begin: bool, stage: Stage, step: &Step) -> bool
     }
 }
 
-/// Counts an event, if there is one, and tells whether it leads to bus off.
+/// Counts an event, if there is one. Returns whether it leads to bus off.
 fn count(counters: &mut Counters, event: Option<ErrorEvent>) -> bool
     ensures { (events : List ErrorEvent) → Counts counters.old counters.new event result events }
 {
@@ -228,7 +229,7 @@ fn count(counters: &mut Counters, event: Option<ErrorEvent>) -> bool
     }
 }
 
-/// Makes a turn, and tells its outcome: bus off, if its event leads there.
+/// Makes a transition. Returns its outcome: bus off, if its event leads there.
 pub(crate) fn make(transition: &Transition, state: &mut State, counters: &mut Counters) -> Outcome
     ensures { IsMade transition.now counters.old counters.new state.new result }
 {
@@ -241,7 +242,7 @@ pub(crate) fn make(transition: &Transition, state: &mut State, counters: &mut Co
     transition.outcome
 }
 
-/// A turn of a node that reads a frame, by what its reader says of the level.
+/// Makes the transition of a node that receives a frame, by what its reader says of the level.
 #[inline(never)]
 fn transition_receiving(
     state: &mut State,
@@ -260,7 +261,8 @@ fn transition_receiving(
     make(&transition, state, counters)
 }
 
-/// A turn of a node that sends a frame. If it loses arbitration it reads on: what it drove so far is what it has read.
+/// Makes the transition of a node that sends a frame. If it loses arbitration it reads on: what it drove so far is what
+/// it has read.
 #[inline(never)]
 fn transition_sending(
     state: &mut State,
@@ -283,8 +285,8 @@ fn transition_sending(
     make(&transition, state, counters)
 }
 
-/// A turn of a node that neither reads nor sends a frame. Most only count on in a flag, a delimiter or the
-/// intermission.
+/// Makes the transition of a node that neither receives nor sends a frame. Most only count on in a flag, a delimiter or
+/// the intermission.
 #[inline(never)]
 fn transition_outside(
     state: &mut State,
@@ -308,11 +310,12 @@ fn transition_outside(
     make(&transition, state, counters)
 }
 
-/// One bit of a node, at which it samples this level: what it brings to an end. If a frame is read, its reader is
-/// pushed that level. A sender reads only once it has lost arbitration: up to there it samples what it drives.
+/// Simulates one bit of a node, at which it samples this level. Returns what the bit brings to an end. If a frame is
+/// received, the level is pushed to its reader. A sender reads only once it has lost arbitration: up to there it
+/// samples what it drives.
 ///
-/// Most bits of a bus make no turn. They end here, and the calls for the others stay calls, so that these bits
-/// pay for no `Transition`.
+/// At most bits of a bus there is no `Transition`. They end here, and the calls for the others stay calls, so that
+/// these bits do not pay for one.
 #[inline(always)]
 pub(crate) fn advance(
     state: &mut State,
@@ -352,8 +355,8 @@ pub(crate) fn advance(
     }
 }
 
-/// The state of a node that begins to send at this bit. If the third bit of intermission was dominant, SOF
-/// stands on the bus already.
+/// Returns the state of a node that begins to send at this bit. If the third bit of the intermission was dominant, SOF
+/// is on the bus already.
 pub(crate) fn begin(state: State, now: u64) -> State
     ensures { Begins state now result }
 {

@@ -43,7 +43,7 @@ pub struct Node {
 }
 
 impl Node {
-    /// A node that is switched on: its first bit is that of this number.
+    /// Returns a node that is switched on: its first bit has this number.
     pub fn new(from_bit: u64) -> Node
         ensures stands { StandsAfter result (no_past from_bit) }
         ensures bit { bit_of result ≡ from_bit }
@@ -57,14 +57,14 @@ impl Node {
         }
     }
 
-    /// The number of the next bit.
+    /// Returns the number of the next bit.
     pub fn bit(&self) -> u64
         ensures { result ≡ bit_of self.now }
     {
         self.clock
     }
 
-    /// The error counters.
+    /// Returns the error counters.
     pub fn counters(&self) -> Counters
         ensures is { result ≡ counters_in self.now }
         ensures stand { (past : Past) → StandsAfter self.now past → CountersStandAfter result past.events }
@@ -72,8 +72,8 @@ impl Node {
         self.counters
     }
 
-    /// Whether the node may begin to send at the next bit: it is idle, or has just sampled a dominant
-    /// third bit of intermission and need not wait.
+    /// Returns whether the node may begin to send at the next bit: it is idle, or has just sampled a dominant third bit
+    /// of the intermission and need not wait.
     pub fn wants_start(&self) -> bool
         ensures is { result ≡ may_begin self.now }
         ensures wants { (past : Past) → StandsAfter self.now past → IsWanting past result }
@@ -81,7 +81,7 @@ impl Node {
         may_start(self.state)
     }
 
-    /// What is known of its error counts, as much as there is to be known.
+    /// Returns what is known of its error counters, as much as there is to be known.
     pub fn known_counts(&self) -> KnownCounts
         ensures known { Knows result (counters_in self.now) }
         ensures most { result ≡ known_of (counts_of (counters_in self.now)) }
@@ -89,15 +89,15 @@ impl Node {
         KnownCounts::of(self.counters)
     }
 
-    /// Whether a listener may come to stand for it: it sends no frame, and no error or overload frame, suspension or
-    /// intermission behind its own frame.
+    /// Returns whether a shared receiver may stand for the node: it sends no frame, and has no error flag, overload
+    /// flag, delimiter, suspension or intermission behind a frame of its own.
     pub fn is_listening(&self) -> bool
         ensures { result ≡ listens_in self.now }
     {
         listens(self.state)
     }
 
-    /// One that has come as far as this node, and may follow the line for it and others.
+    /// Returns a shared receiver that has come as far as this node.
     pub fn shared_receiver(&self) -> SharedReceiver
         ensures { result ≡ shared_receiver_of self.now }
     {
@@ -107,7 +107,7 @@ impl Node {
         }
     }
 
-    /// That listener comes as far as this node, and may follow the line for it and others.
+    /// Makes this shared receiver one that has come as far as this node.
     pub fn copy_to(&self, shared_receiver: &mut SharedReceiver)
         ensures { shared_receiver.new ≡ shared_receiver_of self.now }
     {
@@ -115,8 +115,8 @@ impl Node {
         shared_receiver.reader.copy_from(&self.reader);
     }
 
-    /// Whether the node has come as far as this listener, so that it may stand for it. It tells so of none that sends
-    /// a frame.
+    /// Returns true only if the node has come as far as this shared receiver, so that the receiver may stand for it.
+    /// Returns false for a node that sends a frame.
     pub fn matches(&self, shared_receiver: &SharedReceiver) -> bool
         ensures { result ≡ true → Matches self.now shared_receiver.now }
     {
@@ -130,7 +130,7 @@ impl Node {
         }
     }
 
-    /// The node, for which this listener stood, catches up with it: its next bit is that of this number.
+    /// Copies the shared receiver into the node, which it stood for: the node's next bit has this number.
     pub fn materialize(&mut self, shared_receiver: &SharedReceiver, bit: u64)
         ensures { self.new ≡ materialized self.old shared_receiver.now bit }
     {
@@ -139,8 +139,8 @@ impl Node {
         self.clock = bit;
     }
 
-    /// The node, for which a listener stood, has taken a frame at this bit (`SharedReceiver::takes`): its next one is
-    /// the last bit of EOF.
+    /// Lets the node, which a shared receiver stood for, receive a frame at this bit (`SharedReceiver::takes`): its
+    /// next bit is the last one of EOF.
     pub fn take_up(&mut self, bit: u64)
         requires { bit < u64.MAX }
         ensures { self.new ≡ taken_up self.old bit }
@@ -149,9 +149,9 @@ impl Node {
         self.clock = bit + 1;
     }
 
-    /// The node, for which a listener stood up to this bit, samples this level of a frame that it reads as each does
-    /// for which that stands (`SharedReceiver::hears`): what `materialize` and `sample` do, in one step. It tells what
-    /// this bit brings to an end.
+    /// Lets the node, which a shared receiver stood for up to this bit, sample this level of a frame that it reads
+    /// (`SharedReceiver::hears`): what `materialize` and `sample` do, in one step. Returns what this bit brings to an
+    /// end.
     pub fn hear(&mut self, heard: &HeardLevel, bit: u64, level: bool) -> Outcome
         requires { bit < u64.MAX }
         ensures bit { bit_of self.new ≡ bit + 1 }
@@ -160,7 +160,7 @@ impl Node {
         ensures history { (past : Past) → StandsAfter self.new past → IsHistory past }
     {
         self.clock = bit + 1;
-        // by reference: a turn that is put together anew is waited for where it is read next
+        // by reference: a transition that is written field by field and read back whole stalls on store forwarding
         match &heard.transition {
             Some(transition) => self.apply_transition(transition, &heard.reader),
             None => {
@@ -170,8 +170,8 @@ impl Node {
         }
     }
 
-    /// The node counts that it received a frame, and all else of it is as it was: so does each for which a listener
-    /// stood at the ACK slot (`SharedReceiver::acknowledge`; Bosch CAN Specification 2.0, part B, 8 FAULT CONFINEMENT).
+    /// Counts that the node received a frame, and changes nothing else: as each node does that a shared receiver stands
+    /// for in the ACK slot (`SharedReceiver::acknowledge`; Bosch CAN Specification 2.0, part B, 8 FAULT CONFINEMENT).
     #[inline(always)]
     pub fn receive(&mut self)
         ensures { Receives self.old self.new }
@@ -179,23 +179,23 @@ impl Node {
         self.counters.apply(ErrorEvent::Received);
     }
 
-    /// Makes this turn of a node that reads a frame, the reader of which is the same as that one then.
+    /// Makes this transition of a node that reads a frame, whose reader is then the same as this one.
     fn apply_transition(&mut self, transition: &Transition, reader: &Reader) -> Outcome
         ensures made { IsMade transition.now self.old.counters self.new.counters self.new.state result }
         ensures reader { is_taking transition.now.state ≡ true → self.new.reader ≡ reader.now }
         ensures spelling { self.new.spelling ≡ self.old.spelling }
         ensures clock { self.new.clock ≡ self.old.clock }
     {
-        // else it has done its work
+        // otherwise the reader is not used any more
         if is_taking(transition.state) {
             self.reader.copy_from(reader);
         }
         make(transition, &mut self.state, &mut self.counters)
     }
 
-    /// The node begins to send this frame at the next bit: with its SOF where the bus is idle, and with its
-    /// first identifier bit where the third bit of intermission was dominant, which is SOF then (Bosch CAN
-    /// Specification 2.0, part B, 3.2.5 INTERFRAME SPACING).
+    /// Begins to send this frame at the next bit: with its SOF where the bus is idle, and with its first identifier bit
+    /// where the third bit of the intermission was dominant, which is SOF then (Bosch CAN Specification 2.0, part B,
+    /// 3.2.5 INTERFRAME SPACING).
     pub fn begin(&mut self, frame: Frame)
         requires { may_begin self.old ≡ true }
         ensures bit { bit_of self.new ≡ bit_of self.old }
@@ -208,8 +208,8 @@ impl Node {
         self.state = begin(self.state, self.clock);
     }
 
-    /// The number of the SOF of the frame that the node sends, also where another node drove it; `None` while
-    /// it sends none.
+    /// Returns the number of the SOF of the frame that the node sends, also where another node drove that SOF; `None`
+    /// while it sends none.
     pub fn sends_from(&self) -> Option<u64>
         ensures is { result ≡ sends_from self.now }
         ensures sends { (past : Past) → StandsAfter self.now past → IsSending past result }
@@ -217,15 +217,14 @@ impl Node {
         sof_of(self.state)
     }
 
-    /// The level that the node drives at the next bit, true being recessive.
+    /// Returns the level that the node drives at the next bit, true being recessive.
     pub fn drive(&self) -> bool
         ensures { result ≡ driven_by self.now }
     {
         level_in(self.state, self.spelling.spelling())
     }
 
-    /// The node samples this level, and has driven the one of `drive`. It tells what this bit brings to
-    /// an end.
+    /// Samples this level; the node has driven the one of `drive`. Returns what this bit brings to an end.
     pub fn sample(&mut self, level: bool) -> Outcome
         requires { bit_of self.old < u64.MAX }
         ensures bit { bit_of self.new ≡ bit_of self.old + 1 }
@@ -244,11 +243,12 @@ impl Node {
         )
     }
 
-    /// Whether the node goes on with its next bit, if that has this level: nothing begins then, and nothing is told or
-    /// counted. So it is where it sends a frame, in the ACK slot with a dominant level and elsewhere with the one that
-    /// it drives, but not at the last bit; where it reads one whose stuffed region goes on with this level; in a flag,
-    /// and behind it up to the end of the intermission and of suspend transmission, with the levels that belong there;
-    /// and in bus off, but at the end of the last run of eleven recessive bits.
+    /// Returns whether the node continues with its next bit, if the bit has this level: nothing begins then, and
+    /// nothing is reported or counted. It does where it sends a frame, in the ACK slot with a dominant level and
+    /// elsewhere with the level that it drives, but not at the last bit; where it receives a frame whose stuffed region
+    /// continues with this level; in a flag, and behind it up to the end of the intermission and of suspend
+    /// transmission, with the levels that belong there; and in bus off, but at the end of the last run of eleven
+    /// recessive bits.
     #[inline(always)]
     pub fn goes_on(&self, level: bool) -> bool
         ensures may { result ≡ true → MayGoOn level self.now }
@@ -261,7 +261,7 @@ impl Node {
         }
     }
 
-    /// One bit with which the node goes on, and at which it samples this level: what `sample` does there.
+    /// Simulates one bit with which the node continues, and at which it samples this level: what `sample` does there.
     #[inline(always)]
     pub fn go_on(&mut self, level: bool)
         requires goes { MayGoOn level self.old }
@@ -281,8 +281,8 @@ impl Node {
         go_plainly(&mut self.state, &self.counters, bit, level);
     }
 
-    /// The levels that the node drives next in a frame that it sends, up to the ACK slot or behind it up to the last
-    /// bit of EOF, and `most` at most: it goes on with them one after another. None where it sends no frame.
+    /// Returns the levels that the node drives next in a frame that it sends, up to the ACK slot or behind it up to the
+    /// last bit of EOF, and at most `most`: it continues with them one after another. None where it sends no frame.
     pub fn ahead(&self, most: usize) -> &[bool]
         ensures few { length result.now ≤ most }
         ensures may { 0 < length result.now → MayGoOnBy true result.now self.now }
@@ -294,12 +294,12 @@ impl Node {
         }
     }
 
-    /// With how many of these levels, one after another, the node goes on without sending: in bus off or in a passive
-    /// error flag, up to the end of the last run of eleven recessive levels or of the flag, or a level that it counts;
-    /// with recessive ones from the end of the flags of others through a delimiter, the intermission and suspend
-    /// transmission up to an idle bus, or up to the end of the intermission behind a frame or a flag of its own as
-    /// sender; in the stuffed region of a frame that it reads, up to the last level or a wrong stuff bit. 0 where it is
-    /// in none of these.
+    /// Returns with how many of these levels, one after another, the node continues without sending: in bus off or in a
+    /// passive error flag, up to the end of the last run of eleven recessive levels or of the flag, or a level that it
+    /// counts; with recessive ones from the end of the flags of others through a delimiter, the intermission and
+    /// suspend transmission up to an idle bus, or up to the end of the intermission behind a frame or a flag of its own
+    /// as sender; in the stuffed region of a frame that it receives, up to the last level or a wrong stuff bit. 0 where
+    /// it is in none of these.
     pub fn stays_out(&self, levels: &[bool]) -> usize
         ensures few { result ≤ length levels.now }
         ensures may { MayGoOnBy false (take result levels.now) self.now }
@@ -311,8 +311,8 @@ impl Node {
         count_out(&self.state, levels)
     }
 
-    /// Bits with which the node goes on, one after another, in a frame that it sends or without sending (`stays_out`):
-    /// what `go_on` does with each of these levels.
+    /// Simulates bits with which the node continues, one after another, in a frame that it sends or without sending
+    /// (`stays_out`): what `go_on` does with each of these levels.
     pub fn go_on_by(&mut self, levels: &[bool])
         requires goes { (is_sender : Bool) × MayGoOnBy is_sender levels.now self.old }
         requires room { bit_of self.old + length levels.now ≤ u64.MAX }

@@ -11,18 +11,18 @@ pub enum ErrorKind {
     /// A stuff bit is wrong: for a receiver a sixth equal level, for a sender a recessive stuff bit
     /// before RTR that is dominant on the bus.
     Stuff,
-    /// A level is wrong where the form is fixed.
+    /// A level is wrong in a field of fixed form.
     Form,
     /// Nobody acknowledged the frame that the node sends.
     Ack,
-    /// The CRC of the frame that the node reads is wrong.
+    /// The CRC of the frame that the node receives is wrong.
     Crc,
 }
 
 /// What a sampled bit brings to an end.
 #[derive(Clone, Copy, Debug, PartialEq, Eq)]
 pub enum Outcome {
-    /// Nothing that is told.
+    /// Nothing that is reported.
     Nothing,
     /// A frame of another node is valid: its last but one bit of EOF was sampled (Bosch CAN
     /// Specification 2.0, part B, 5 MESSAGE VALIDATION).
@@ -34,7 +34,7 @@ pub enum Outcome {
     },
     /// The node's own frame is valid: its last bit of EOF was sampled.
     Completed,
-    /// The node lost arbitration, and reads on the frame that won.
+    /// The node lost arbitration, and receives the frame that won.
     Lost,
     /// The node signals an error from the next bit on.
     Errored(ErrorKind),

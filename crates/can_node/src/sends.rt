@@ -16,8 +16,8 @@ use crate::transitions::{error_flag, plain};
 use can_confinement::{ErrorEvent, ErrorState, Role};
 use can_frame::{SendBit, Spelling};
 
-/// Nobody acknowledged the frame. A node that is error passive owes the error until it samples a dominant
-/// level in its flag.
+/// Nobody acknowledged the frame. An error-passive node counts the error only when it samples a dominant level in its
+/// flag.
 fn unacknowledged(errors: ErrorState) -> Transition
     ensures flags { (text : List Bool) (later : ℕ)
         → Agrees result.state text later (flag_of errors (SenderError ∷ []) Sender) [] [] }
@@ -78,8 +78,8 @@ fn overruled(start: u64, bit: SendBit, errors: ErrorState) -> Transition
     }
 }
 
-/// Sending: the level on the bus is the one that the node drives, but in the ACK slot; the first other one
-/// ends it.
+/// Returns what a level makes of a node that sends a frame: the level is the one that the node drives, but in the ACK
+/// slot; the first other one ends the frame.
 pub(crate) fn after_sending(
     start: u64,
     place: u8,

@@ -1,4 +1,4 @@
-//! What the reader's answer makes of a node that reads a frame.
+//! What the reader's answer makes of a node that receives a frame.
 
 ghost use Rattle.std.specs.Prelude.{◌≡◌, Bool};
 ghost use Rattle.can_frame.specs.declared.step.Step.TheVariants.{Tail};
@@ -11,7 +11,7 @@ use crate::transitions::{counted, error_flag, plain};
 use can_confinement::{ErrorEvent, ErrorState, Role};
 use can_frame::{FaultKind, Step};
 
-/// What a receiver calls its error.
+/// Returns what a receiver calls its error.
 fn error_kind(kind: FaultKind) -> ErrorKind
     ensures { result ≡ name_of kind }
 {
@@ -24,7 +24,7 @@ fn error_kind(kind: FaultKind) -> ErrorKind
     }
 }
 
-/// A level behind the stuffed region with which the frame goes on.
+/// Returns the transition of a level behind the stuffed region with which the frame continues.
 fn after_tail(start: u64, stage: Stage, level: bool) -> Transition
     ensures { (errors : ErrorState) (may_start : Bool)
         → GoesReading (State.Receiving start may_start stage) errors Tail level result }
@@ -44,7 +44,7 @@ fn after_tail(start: u64, stage: Stage, level: bool) -> Transition
     }
 }
 
-/// Reading a frame: what the reader answers to the level decides.
+/// Returns what the reader's answer to a level makes of a node that receives a frame.
 pub(crate) fn after_taking(
     start: u64,
     stage: Stage,

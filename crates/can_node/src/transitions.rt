@@ -1,4 +1,4 @@
-//! What one sampled level makes of a node that reads no frame: one function for each state.
+//! What one sampled level makes of a node that neither receives nor sends a frame: one function for each state.
 
 ghost use Rattle.std.specs.Prelude.{◌≡◌, ◌<◌, ◌≤◌, ℕ, List, Bool, true, false, [], Some, None};
 ghost use Rattle.can_node.specs.Phases.{suspends, flag_of};
@@ -12,7 +12,7 @@ use crate::outcome::{ErrorKind, Outcome};
 use crate::state::{Stage, State, Transition};
 use can_confinement::{ErrorEvent, ErrorState, Role};
 
-/// A turn that counts nothing and ends nothing that is told.
+/// Returns the transition to this state that counts nothing and reports nothing.
 pub(crate) fn plain(state: State) -> Transition
     ensures { result ≡ record { state = state; event = None; outcome = Outcome.Nothing } }
 {
@@ -23,7 +23,7 @@ pub(crate) fn plain(state: State) -> Transition
     }
 }
 
-/// A turn that counts an event and ends nothing that is told.
+/// Returns the transition to this state that counts an event and reports nothing.
 pub(crate) fn counted(state: State, event: ErrorEvent) -> Transition
     ensures { result ≡ record { state = state; event = Some event; outcome = Outcome.Nothing } }
 {
@@ -34,7 +34,7 @@ pub(crate) fn counted(state: State, event: ErrorEvent) -> Transition
     }
 }
 
-/// Switched on: the eleventh recessive level in a row makes the node idle.
+/// Integrating: the eleventh recessive level in a row makes the node idle.
 pub(crate) fn after_sync(ones: u8, level: bool) -> Transition
     ensures { (now : ℕ) (errors : ErrorState) → Goes (State.Integrating ones) now errors level result }
 {
@@ -57,7 +57,7 @@ pub(crate) fn after_idle(now: u64, level: bool) -> Transition
     plain(State::Receiving(now, false, Stage::Region))
 }
 
-/// The last bit of EOF of a frame that was taken.
+/// The last bit of EOF of a frame that was received.
 pub(crate) fn after_last_bit(level: bool) -> Transition
     ensures { (now : ℕ) (errors : ErrorState) → Goes State.LastEofBit now errors level result }
 {
@@ -67,7 +67,7 @@ pub(crate) fn after_last_bit(level: bool) -> Transition
     plain(State::DominantFlag(FlagKind::Overload, Role::Receiver, 0, 14))
 }
 
-/// A flag that drives dominant: a recessive level counts, and the sixth bit is the last one.
+/// An active error flag or overload flag: a recessive level counts an error, and the sixth bit is the last one.
 pub(crate) fn after_flag(kind: FlagKind, role: Role, sent: u8, until: u8, level: bool) -> Transition
     ensures goes { (now : ℕ) (errors : ErrorState)
         → Goes (State.DominantFlag kind role sent until) now errors level result }
@@ -91,7 +91,7 @@ pub(crate) fn after_flag(kind: FlagKind, role: Role, sent: u8, until: u8, level:
     plain(State::AwaitingDelimiter(kind, role, until.saturating_sub(1), true))
 }
 
-/// Whether this level is the first dominant one of a passive error flag that owes an error count for it.
+/// Returns whether this level is the first dominant one of a passive error flag that owes an error for it.
 fn is_due(owes: bool, zeros: u8, level: bool) -> bool
     ensures due { result ≡ true → (owes ≡ true) × (level ≡ false) × (zeros < 5) }
     ensures not_due { result ≡ false → owes ≡ true → level ≡ false → 5 ≤ zeros }
@@ -102,8 +102,8 @@ fn is_due(owes: bool, zeros: u8, level: bool) -> bool
     zeros < 5
 }
 
-/// Where a level of a passive error flag leaves a node that counts nothing for it: the sixth equal level in a row is
-/// the last one.
+/// Returns the state after a level of a passive error flag for which the node counts nothing: the sixth equal level in
+/// a row is the last one.
 pub(crate) fn behind_passive_flag(role: Role, owes: bool, ones: u8, zeros: u8, level: bool) -> State
     ensures goes { (owes ≡ true → level ≡ false → 5 ≤ zeros) → (now : ℕ) (errors : ErrorState)
         → Goes (State.PassiveErrorFlag role owes ones zeros) now errors level (uneventful result) }
@@ -141,7 +141,7 @@ pub(crate) fn after_passive_flag(
     plain(behind_passive_flag(role, owes, ones, zeros, level))
 }
 
-/// The state at the start of an error flag, by the error state before the error.
+/// Returns the state at the start of an error flag, by the error state before the error.
 pub(crate) fn error_flag(role: Role, errors: ErrorState) -> State
     ensures { (text : List Bool) (later : ℕ) → Agrees result text later (flag_of errors [] role) [] [] }
 {
@@ -152,7 +152,7 @@ pub(crate) fn error_flag(role: Role, errors: ErrorState) -> State
     }
 }
 
-/// What a node of this role counts at an error.
+/// Returns what a node of this role counts at an error.
 fn error_event(role: Role) -> ErrorEvent
     ensures { result ≡ error_of role }
 {
@@ -162,7 +162,7 @@ fn error_event(role: Role) -> ErrorEvent
     }
 }
 
-/// A delimiter from its second recessive level on.
+/// An error delimiter or overload delimiter from its second recessive level on.
 pub(crate) fn after_delimiting(role: Role, ones: u8, errors: ErrorState, level: bool) -> Transition
     ensures goes { (now : ℕ) → Goes (State.InDelimiter role ones) now errors level result }
     ensures alike { level ≡ true → (now : ℕ) (other : ErrorState)
@@ -185,7 +185,7 @@ pub(crate) fn after_delimiting(role: Role, ones: u8, errors: ErrorState, level: 
     plain(State::DominantFlag(FlagKind::Overload, role, 0, 14))
 }
 
-/// What a dominant level right behind a flag counts.
+/// Returns what a dominant level right behind a flag counts.
 fn behind(kind: FlagKind, role: Role) -> Option<ErrorEvent>
     ensures { listed result ≡ behind_flag kind role }
 {
@@ -230,7 +230,7 @@ pub(crate) fn after_awaiting(
     plain(State::AwaitingDelimiter(kind, role, until - 1, false))
 }
 
-/// Whether a node waits behind the intermission.
+/// Returns whether a node suspends transmission after the intermission.
 fn is_suspended(role: Role, errors: ErrorState) -> bool
     ensures { result ≡ suspends role errors }
 {
@@ -240,7 +240,7 @@ fn is_suspended(role: Role, errors: ErrorState) -> bool
     }
 }
 
-/// Intermission: what comes behind it is decided at its third bit.
+/// Intermission: its third bit decides what follows it.
 pub(crate) fn after_intermission(
     role: Role,
     ones: u8,
@@ -269,7 +269,7 @@ pub(crate) fn after_intermission(
     plain(State::BusIdle)
 }
 
-/// Suspend transmission: a dominant level is SOF of a frame that is read.
+/// Suspend transmission: a dominant level is the SOF of a frame that is received.
 pub(crate) fn after_suspending(ones: u8, now: u64, level: bool) -> Transition
     ensures goes { (errors : ErrorState) → Goes (State.SuspendTransmission ones) now errors level result }
     ensures plain { level ≡ true → IsPlain result }

@@ -3,7 +3,7 @@ use Rattle.can_node.specs.declared.shared_sample.SharedSample.{SharedSample}
 use Rattle.can_segment.specs.declared.step_outcome.StepOutcome.{StepOutcome}
 use Rattle.can_segment.specs.declared.step_outcome.StepOutcome.TheVariants.{Acknowledged, Shares, Through}
 
--- what stands where the listener followed for them, or they woke,
+-- what holds where the shared receiver followed for them, or they were resumed,
 abbrev pub IfThrough : StepOutcome → Type 0 → Type 0
 IfThrough Through Stands = Stands
 IfThrough step_outcome Stands = Unit {0}

@@ -1,4 +1,4 @@
--- Bits at which no port is needed: nothing is told of any node, and no controller wants to start.
+-- Bits at which no port is needed: nothing is reported of any node, and no controller wants to start.
 use Rattle.std.specs.Prelude.{◌≡◌, ℕ, Bool, true, false, List, [], ◌∷◌, ◌++◌, length}
 use Rattle.can_station.specs.declared.fault_order.FaultOrder.{FaultOrder}
 use Rattle.can_station.specs.declared.member.Member.{Member}
@@ -39,7 +39,7 @@ pub data MakeIdleBits : SegmentValue → SegmentValue → Type 0 where
   no_idle_bit : {segment : SegmentValue} → MakeIdleBits segment segment
   one_idle_bit : {old mid new : SegmentValue} → MakesIdleBit old mid → MakeIdleBits mid new → MakeIdleBits old new
 
--- A record grows by the level of a bit at which nothing is told of any node, and by nothing else. No fault stands at
+-- A record grows by the level of a bit at which nothing is reported of any node, and by nothing else. No fault is at
 -- it.
 pub record GrowsUneventfully (faults : FaultOrder) (old new : Record) (deferred after : Deferred)
     (t0 t1 c0 c1 : List Member) : Type 0 where

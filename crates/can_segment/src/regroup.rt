@@ -36,7 +36,7 @@ impl Deferred {
         if !idles && asks_at_each_bit(controllers.first()) {
             return;
         }
-        // where too few had come as far as the listener, those may that have come as far as another one
+        // where too few match this shared receiver, more may match another one
         if self.defer_matching(plan, talkers, controllers, bit, false, idles) {
             self.defer_matching(plan, talkers, controllers, bit, true, idles);
         }
@@ -116,7 +116,7 @@ impl Deferred {
         if !self.any_deferred || !member.station.node.matches(&self.shared_receiver) {
             return true;
         }
-        // it would wake at once
+        // it would be resumed at once
         if !finished && !idles && self.shared_receiver.wants_start() {
             return true;
         }

@@ -1,4 +1,4 @@
-//! What is told of a node at a bit.
+//! The events of a record: what happened at a node at a bit.
 
 ghost use Rattle.std.specs.Prelude.{◌≡◌, ◌≢◌, true, false};
 ghost use Rattle.can_station.specs.ToldParts.{parts_in};
@@ -18,8 +18,8 @@ pub struct Label {
     pub number: u32,
 }
 
-/// What happened at a node. A start is the number of the SOF bit, also where another node drove it. The label
-/// is that of a controller's request; a talker's frames have none.
+/// What happened at a node. A start is the number of the SOF bit, also where another node drove it. The label is that
+/// of a controller's request; a talker's frames have none.
 #[derive(Clone, Copy, Debug, PartialEq, Eq)]
 pub enum Told {
     /// The bit is the first that the node drives of this frame.
@@ -29,7 +29,7 @@ pub enum Told {
         /// The request that it comes from.
         label: Option<Label>,
     },
-    /// The node took a frame of another node.
+    /// The node received a frame of another node.
     Took {
         /// The frame's start.
         start: u64,
@@ -60,11 +60,11 @@ pub enum Told {
     Reaped(Label),
 }
 
-/// A line of a record.
+/// An event of a record: what happened at one node at one bit.
 #[derive(Clone, Copy, Debug, PartialEq, Eq)]
 pub struct Event {
     bit: u64,
-    // what is told lies here flat, a part that nothing is told by being 0, so that a line has 40 bytes and not 64:
+    // flat, with 0 in each part that this kind of event has not, so that an event has 40 bytes and not 64:
     // lines are most of what a run keeps
     start: u64,
     frame: Frame,
@@ -93,7 +93,8 @@ impl Model for Event {
 }
 
 impl Event {
-    /// The line that tells this of the node at this place in the order of nodes, at the bit of this number.
+    /// Returns the event that this happened at the node with this index in the order of nodes, at the bit of this
+    /// number.
     #[inline(always)]
     pub fn new(bit: u64, node: u16, told: Told) -> Event
         ensures { result ≡ record { bit = bit; node = node; told = told } }
@@ -110,7 +111,7 @@ impl Event {
         }
     }
 
-    /// The number of the bit.
+    /// Returns the number of the bit.
     #[inline(always)]
     pub fn bit(&self) -> u64
         ensures { result ≡ self.now.bit }
@@ -118,7 +119,7 @@ impl Event {
         self.bit
     }
 
-    /// The node's place in the order of nodes.
+    /// Returns the node's index in the order of nodes.
     #[inline(always)]
     pub fn node(&self) -> u32
         ensures { result ≡ self.now.node }
@@ -126,7 +127,7 @@ impl Event {
         u32::from(self.node)
     }
 
-    /// Whether the same happened there as of another line, whatever the nodes and bits of both are.
+    /// Returns whether the same happened as in another event, whatever the nodes and bits of both are.
     #[inline(always)]
     pub fn tells_as(&self, other: &Event) -> bool
         ensures same { result ≡ true → self.now.told ≡ other.now.told }
@@ -140,7 +141,7 @@ impl Event {
             && self.route == other.route
     }
 
-    /// What happened there.
+    /// Returns what happened.
     #[inline(always)]
     pub fn told(&self) -> Told
         ensures { result ≡ self.now.told }
@@ -181,13 +182,13 @@ impl Event {
     }
 }
 
-/// The label of what names no request.
+/// The label of an event without a request.
 const NO_LABEL: Label = Label {
     route: 0,
     number: 0,
 };
 
-/// Which thing this is, its start, its frame and its request.
+/// Returns which kind of event this is, its start, its frame and its request.
 #[inline(always)]
 fn parts_of(told: &Told) -> (Kind, u64, Frame, Label)
     ensures { result ≡ parts_in told.now }

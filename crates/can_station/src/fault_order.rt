@@ -11,8 +11,8 @@ use crate::faults::line_level;
 use crate::plan::{LineFault, NodeFault, SegmentPlan};
 use std::alloc::{AllocError, Global};
 
-/// The faults of a plan, each list in the order of bits, and of two at one bit in the plan's order. A cursor
-/// into each stands at the first fault that is not before the next bit, so that a bit need not search for its own.
+/// The faults of a plan, each list sorted by bits, and of two at one bit in the plan's order. A cursor into each list
+/// is at the first fault that is not before the next bit, so that a bit need not search for its faults.
 #[derive(Drop)]
 pub struct FaultOrder {
     line: Vec<LineFault>,
@@ -23,7 +23,7 @@ pub struct FaultOrder {
     next_bit: u64,
 }
 
-/// Faults of the line in the order of bits.
+/// Returns faults of the line, sorted by bits.
 fn line_in_order(alloc: Global, faults: &[LineFault]) -> Result<Vec<LineFault>, AllocError>
     ensures { IfOk result (λ sorted. IsAhead (λ fault. fault.bit) faults.now 0 sorted.items) }
 {
@@ -32,7 +32,7 @@ fn line_in_order(alloc: Global, faults: &[LineFault]) -> Result<Vec<LineFault>, 
     Ok(sorted)
 }
 
-/// Faults of nodes in the order of bits.
+/// Returns faults of nodes, sorted by bits.
 fn nodes_in_order(alloc: Global, faults: &[NodeFault]) -> Result<Vec<NodeFault>, AllocError>
     ensures { IfOk result (λ sorted. IsAhead (λ fault. fault.bit) faults.now 0 sorted.items) }
 {
@@ -41,21 +41,21 @@ fn nodes_in_order(alloc: Global, faults: &[NodeFault]) -> Result<Vec<NodeFault>,
     Ok(sorted)
 }
 
-/// How many of these faults of the line stand at a bit, up to the first that doesn't.
+/// Returns how many of these faults of the line, from the first on, are at this bit.
 fn line_run(faults: &[LineFault], bit: u64) -> usize
     ensures { result ≡ prefix_len (λ fault. fault.bit == bit) faults.now }
 {
     faults.iter().take_while(|fault| fault.bit == bit).count()
 }
 
-/// How many of these faults of nodes stand at a bit, up to the first that doesn't.
+/// Returns how many of these faults of nodes, from the first on, are at this bit.
 fn node_run(faults: &[NodeFault], bit: u64) -> usize
     ensures { result ≡ prefix_len (λ fault. fault.bit == bit) faults.now }
 {
     faults.iter().take_while(|fault| fault.bit == bit).count()
 }
 
-/// The bit of the first of these faults of the line, or one that no run has.
+/// Returns the bit of the first of these faults of the line, or a bit that no run has.
 fn first_of_line(faults: &[LineFault]) -> u64
     ensures { IsNonDecreasingBy (λ fault. fault.bit) faults.now → All (λ fault. result ≤ fault.bit) faults.now }
 {
@@ -65,7 +65,7 @@ fn first_of_line(faults: &[LineFault]) -> u64
     }
 }
 
-/// The bit of the first of these faults of nodes, or one that no run has.
+/// Returns the bit of the first of these faults of nodes, or a bit that no run has.
 fn first_of_nodes(faults: &[NodeFault]) -> u64
     ensures { IsNonDecreasingBy (λ fault. fault.bit) faults.now → All (λ fault. result ≤ fault.bit) faults.now }
 {
@@ -76,7 +76,7 @@ fn first_of_nodes(faults: &[NodeFault]) -> u64
 }
 
 impl FaultOrder {
-    /// The faults of a plan, with the cursors before each of them. An error where an allocation is refused.
+    /// Returns the faults of a plan, with the cursors before all of them. `AllocError` where an allocation failed.
     pub fn new(alloc: Global, plan: &SegmentPlan) -> Result<FaultOrder, AllocError>
         ensures { IfOk result (λ order. StandsAt plan.now 0 order) }
     {
@@ -91,7 +91,7 @@ impl FaultOrder {
         })
     }
 
-    /// The faults of the line at a bit.
+    /// Returns the faults of the line at a bit.
     fn line_at(&self, bit: u64) -> &[LineFault]
         requires { IsWithin self.now }
         ensures { result.now ≡ take_while (λ fault. fault.bit == bit) (drop self.now.next_line self.now.line.items) }
@@ -100,7 +100,7 @@ impl FaultOrder {
         &ahead[..line_run(ahead, bit)]
     }
 
-    /// The faults of nodes at a bit.
+    /// Returns the faults of nodes at a bit.
     fn nodes_at(&self, bit: u64) -> &[NodeFault]
         requires { IsWithin self.now }
         ensures { result.now ≡ take_while (λ fault. fault.bit == bit) (drop self.now.next_node self.now.nodes.items) }
@@ -109,8 +109,7 @@ impl FaultOrder {
         &ahead[..node_run(ahead, bit)]
     }
 
-    /// The level of the line, true being recessive, at the bit at which the cursors stand, where the nodes make this
-    /// one.
+    /// Returns the level of the line, true being recessive, at the bit of the cursors, where the nodes drive this one.
     pub fn line_level(&self, bit: u64, driven: bool) -> bool
         requires { IsWithin self.now }
         ensures { (plan : SegmentPlan) → StandsAt plan bit self.now
@@ -122,7 +121,7 @@ impl FaultOrder {
         line_level(self.line_at(bit), bit, driven)
     }
 
-    /// Those faults of nodes by which the nodes sample the line at the bit at which the cursors stand.
+    /// Returns the faults of nodes at the bit of the cursors: these nodes sample the opposite of the line.
     pub fn inverting(&self, bit: u64) -> &[NodeFault]
         requires { IsWithin self.now }
         ensures { (plan : SegmentPlan) → StandsAt plan bit self.now → (node : ℕ) (level : Bool)
@@ -134,7 +133,7 @@ impl FaultOrder {
         self.nodes_at(bit)
     }
 
-    /// Whether no fault stands at the bit at which the cursors stand. It may say no where none does.
+    /// Returns true only if there is no fault at the bit of the cursors.
     #[inline]
     pub fn none_at(&self, bit: u64) -> bool
         ensures { result ≡ true → (plan : SegmentPlan) → StandsAt plan bit self.now → IsFaultless plan bit }
@@ -142,8 +141,7 @@ impl FaultOrder {
         bit < self.next_bit
     }
 
-    /// A bit before which no fault stands behind the cursors, `limit` at most: up to it they stand where they do, and
-    /// pass nothing.
+    /// Returns a bit, at most `limit`, before which there is no fault from the cursors on.
     #[inline]
     pub fn faultless_until(&self, limit: u64) -> u64
         ensures limit { result ≤ limit }
@@ -153,7 +151,7 @@ impl FaultOrder {
         limit.min(self.next_bit)
     }
 
-    /// The cursors pass the bit at which they stand, to the next one.
+    /// Moves the cursors past their bit, to the next one.
     #[inline]
     pub fn pass(&mut self, bit: u64)
         requires { IsWithin self.old }
@@ -166,7 +164,7 @@ impl FaultOrder {
         self.move_on(bit);
     }
 
-    /// So where a fault may stand at it.
+    /// Moves the cursors past a bit at which there may be a fault.
     #[inline(never)]
     fn move_on(&mut self, bit: u64)
         requires { IsWithin self.old }
@@ -178,7 +176,7 @@ impl FaultOrder {
         self.next_bit = self.first_ahead();
     }
 
-    /// The bit of the first fault behind the cursors.
+    /// Returns the bit of the first fault from the cursors on.
     fn first_ahead(&self) -> u64
         requires { IsWithin self.now }
         ensures line { IsNonDecreasingBy (λ fault. fault.bit) (drop self.now.next_line self.now.line.items)

@@ -5,8 +5,8 @@ ghost use Rattle.can_station.specs.Faults.{line_level, is_inverted, sampled_leve
 
 use crate::plan::{LineFault, NodeFault};
 
-/// The level of the line at a bit: the one that the nodes make, or that of the last fault in the list which
-/// stands there.
+/// Returns the level of the line at a bit: the one that the nodes make, or that of the last fault in the list at this
+/// bit.
 pub(crate) fn line_level(faults: &[LineFault], bit: u64, made: bool) -> bool
     ensures { result ≡ line_level faults.now bit made }
 {
@@ -19,7 +19,7 @@ pub(crate) fn line_level(faults: &[LineFault], bit: u64, made: bool) -> bool
     level
 }
 
-/// Whether a node samples the opposite of the line at a bit.
+/// Returns whether a node samples the opposite of the line at a bit.
 pub(crate) fn is_inverted(faults: &[NodeFault], node: u32, bit: u64) -> bool
     ensures { result ≡ is_inverted faults.now node bit }
 {
@@ -28,7 +28,7 @@ pub(crate) fn is_inverted(faults: &[NodeFault], node: u32, bit: u64) -> bool
         .any(|fault| fault.node == node && fault.bit == bit)
 }
 
-/// What a node samples at a bit at which the line has this level.
+/// Returns what a node samples at a bit at which the line has this level.
 pub(crate) fn sampled_level(faults: &[NodeFault], node: u32, bit: u64, level: bool) -> bool
     ensures { result ≡ sampled_level faults.now node bit level }
 {

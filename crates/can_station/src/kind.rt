@@ -1,11 +1,11 @@
-//! Which of the things that are told of a node a line tells.
+//! The kinds of events.
 
 ghost use Rattle.std.specs.Prelude.{◌≡◌};
 ghost use Rattle.can_station.specs.ToldParts.{kind_of_error};
 
 use can_node::ErrorKind;
 
-/// Which thing a line tells, a frame of a talker apart from one that a request brought.
+/// The kind of an event. Frames of talkers and frames of requests are different kinds.
 #[derive(Clone, Copy, Debug, PartialEq, Eq)]
 pub(crate) enum Kind {
     Started,
@@ -25,7 +25,7 @@ pub(crate) enum Kind {
 }
 
 impl Kind {
-    /// That of an error.
+    /// Returns the kind of this error.
     pub(crate) fn of_error(error: ErrorKind) -> Kind
         ensures { result ≡ kind_of_error error }
     {

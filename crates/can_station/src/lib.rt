@@ -1,4 +1,4 @@
-//! A node of a segment, bit by bit: what it sends, what its port learns, and what is told of it; and what a segment is
+//! A node of a segment, bit by bit: what it sends, what its port learns, and what is reported of it; and what a segment is
 //! made of.
 #![tactic(auto)]
 

@@ -2,7 +2,7 @@
 
 use can_frame::Frame;
 
-/// A node that only sends and listens: no mailboxes, no filters.
+/// A node that sends its list of frames and receives: it has no mailboxes and no filters.
 #[derive(Drop)]
 pub struct Talker {
     /// The number of its first bit.
@@ -18,18 +18,18 @@ pub struct Controller {
     pub on: u64,
 }
 
-/// A fault at a node: at this bit it samples the opposite of the level on the line. Two at one node and bit
-/// count as one.
+/// A fault at a node: at this bit it samples the opposite of the level on the line. Two at one node and bit count as
+/// one.
 #[derive(Clone, Copy)]
 pub struct NodeFault {
-    /// The node's place in the order of nodes.
+    /// The index of the node in the order of nodes.
     pub node: u32,
     /// The number of the bit.
     pub bit: u64,
 }
 
-/// A fault on the line: at this bit it has this level, true being recessive, whatever the nodes drive. Of two
-/// at one bit the later one in the list counts.
+/// A fault on the line: at this bit it has this level, true being recessive, whatever the nodes drive. Of two at one
+/// bit the later one in the list counts.
 #[derive(Clone, Copy)]
 pub struct LineFault {
     /// The number of the bit.
@@ -38,15 +38,15 @@ pub struct LineFault {
     pub level: bool,
 }
 
-/// The nodes of a segment, in their order: the talkers, and then the controllers; how many bits it makes; and
-/// its faults. A fault on the line stands before faults at nodes.
+/// The nodes of a segment in their order, first the talkers, then the controllers; its number of bits; and its faults.
+/// A fault on the line applies before faults at nodes.
 #[derive(Drop)]
 pub struct SegmentPlan {
-    /// How many bits the segment makes, from bit 0 on.
+    /// The number of bits of the segment, from bit 0 on.
     pub bits: u64,
     /// The first nodes.
     pub talkers: Vec<Talker>,
-    /// The nodes behind them.
+    /// The nodes after the talkers.
     pub controllers: Vec<Controller>,
     /// Faults at nodes.
     pub node_faults: Vec<NodeFault>,

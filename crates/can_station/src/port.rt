@@ -1,4 +1,4 @@
-//! What a controller's node brings to its port.
+//! What a controller's port learns of its node.
 
 ghost use Rattle.std.specs.Prelude.{◌≡◌, ◌++◌, List, Some, None, is_some, IfSome, IsSome};
 ghost use Rattle.can_frame.specs.Frames.{FrameValue};
@@ -11,7 +11,7 @@ use crate::rx_sink::RxSink;
 use crate::transmission::Transmission;
 use can_node::Outcome;
 
-/// Whether a request is on the bus.
+/// Returns whether a request is on the bus.
 fn sends_request(sending: &Option<Transmission>) -> bool
     ensures { result ≡ is_some (item_of sending.now) }
 {
@@ -21,7 +21,7 @@ fn sends_request(sending: &Option<Transmission>) -> bool
     }
 }
 
-/// The transmission on the bus failed. Which request was reaped, if its abort was asked.
+/// Notes in the port that the transmission on the bus failed. Returns which request was reaped, if its abort was asked.
 fn fail<R, P: RxSink<R>>(rt: &R, port: &mut P, sending: Option<Transmission>) -> Option<Label>
     requires { P.transmitting port.old ≡ item_of sending }
     ensures bus { (past : BusPast) → P.bus_after port.old past
@@ -41,8 +41,8 @@ fn fail<R, P: RxSink<R>>(rt: &R, port: &mut P, sending: Option<Transmission>) ->
     }
 }
 
-/// What became of a controller's node at a bit goes to its port: a frame that it took to the sink, the end
-/// of a transmission to the bus side. Which request was reaped, if one was.
+/// Tells a port what became of its node at a bit: the sink is offered a frame that was received, the bus side learns
+/// the end of a transmission. Returns which request was reaped, if one was.
 pub(crate) fn settle<R, P: RxSink<R>>(
     rt: &R,
     port: &mut P,

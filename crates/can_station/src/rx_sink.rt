@@ -4,7 +4,7 @@ use bx_core::TxBus;
 use can_frame::Frame;
 
 /// The receive side of a controller (RM0008, bxCAN, "Reception handling"): it is offered each frame that the
-/// controller takes. A port of a segment is the bus side of transmit mailboxes and such a sink in one.
+/// controller receives. A port of a segment is the bus side of transmit mailboxes and such a sink in one.
 ///
 /// `R` is a runtime, for those sinks whose calls may wait.
 pub trait RxSink<R>: TxBus<R> {
@@ -18,7 +18,7 @@ pub trait RxSink<R>: TxBus<R> {
     // what neither a call of the bus side nor an offer changes
     ghost port_stays: { Self → Self → Type 0 };
 
-    /// The controller has taken this frame.
+    /// Offers the sink a frame that the controller has received.
     fn offer(&mut self, rt: &R, frame: Frame)
         ensures past { (past : List FrameValue) → sink_after self.old past → sink_after self.new (past ++ frame ∷ []) }
         ensures bus { (past : BusPast) → Self.bus_after self.old past → Self.bus_after self.new past }

@@ -25,7 +25,7 @@ pub struct Station {
     pub completed: u64,
 }
 
-/// The number of the SOF bit of what the node sends.
+/// Returns the number of the SOF bit of what the node sends.
 fn sof_of(node: &Node) -> u64
     requires { IsSome (sends_from node.now) }
     ensures { (past : Past) → StandsAfter node.now past → IsSending past (Some result) }
@@ -38,7 +38,7 @@ fn sof_of(node: &Node) -> u64
 }
 
 impl Station {
-    /// A node that is switched on at this bit.
+    /// Returns a node that is switched on at this bit.
     pub(crate) fn new(on: u64) -> Station
         ensures stands { StandsAfter result.node (no_past on) }
         ensures bit { bit_of result.node ≡ on }
@@ -51,7 +51,7 @@ impl Station {
         }
     }
 
-    /// The node begins to send this frame.
+    /// Lets the node begin to send this frame.
     fn begin(&mut self, frame: Frame, label: Option<Label>)
         requires { may_begin self.old.node ≡ true }
         ensures { IsStart self.old self.new frame label }
@@ -65,8 +65,8 @@ impl Station {
         });
     }
 
-    /// A talker takes its next message, if it wants to start and has one left: the first frame that was not
-    /// completed. Whether it began.
+    /// Lets a talker take its next message, if it wants to start and has one left: the first frame that was not
+    /// completed. Returns whether it began.
     pub(crate) fn talk(&mut self, frames: &[Frame]) -> bool
         ensures { IsTalk self.old self.new frames.now result }
     {
@@ -83,8 +83,8 @@ impl Station {
         true
     }
 
-    /// A controller takes its next request, if it wants to start and its mailboxes have one that may. Whether
-    /// it began.
+    /// Lets a controller take its next request, if it wants to start and its mailboxes have one that may. Returns
+    /// whether it began.
     pub(crate) fn request<R, P: RxSink<R>>(&mut self, rt: &R, port: &mut P) -> bool
         requires { P.transmitting port.old ≡ item_of self.old.sending }
         ensures station { IsRequest self.old self.new result }
@@ -110,7 +110,7 @@ impl Station {
         true
     }
 
-    /// What it sends may be over, or sent, with an outcome of its node.
+    /// Notes an outcome of the node: what it sends may be over, or completed.
     pub(crate) fn conclude(&mut self, outcome: &Outcome)
         requires { self.old.completed < u64.MAX }
         ensures node { self.new.node ≡ self.old.node }
@@ -126,7 +126,7 @@ impl Station {
     }
 }
 
-/// Whether a transmission is over with this outcome.
+/// Returns whether a transmission is over with this outcome.
 fn ends_sending(outcome: &Outcome) -> bool
     ensures { result ≡ ends_sending outcome.now }
 {

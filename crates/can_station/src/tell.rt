@@ -1,4 +1,4 @@
-//! The lines of a record: what the nodes' deeds at a bit tell.
+//! Appends the events of a bit to the record: what the nodes did.
 
 ghost use Rattle.std.specs.Prelude.{◌≡◌, ◌+◌, ◌*◌, ◌≤◌, ◌<◌, ◌++◌, ◌∷◌, [], length, vec_len, vec_capacity};
 ghost use Rattle.can_station.specs.Lines.{lines, told_outcome, told_reaped};
@@ -9,8 +9,8 @@ use crate::member::{Action, Member};
 use crate::transmission::Transmission;
 use can_node::Outcome;
 
-/// One line more, for which there is room.
-// here it is known which thing is told, so that no arm but its own is left of `Event::new`
+/// Appends one event, for which there is room.
+// inlined: the kind is known here, so that one arm of `Event::new` is left
 #[inline(always)]
 fn push(events: &mut Vec<Event>, bit: u64, node: u16, told: Told)
     requires { vec_len events.old < vec_capacity events.old }
@@ -21,7 +21,7 @@ fn push(events: &mut Vec<Event>, bit: u64, node: u16, told: Told)
     let _ = events.push(Event::new(bit, node, told));
 }
 
-/// What is told of the beginning of a frame.
+/// Appends the event that the node began to send a frame, if it did.
 fn tell_start(events: &mut Vec<Event>, bit: u64, node: u16, action: &Action)
     requires { vec_len events.old < vec_capacity events.old }
     ensures value { events.new.items ≡ events.old.items ++ lines bit node (start_of action.now) }
@@ -43,7 +43,7 @@ fn tell_start(events: &mut Vec<Event>, bit: u64, node: u16, action: &Action)
     }
 }
 
-/// What is told of an outcome.
+/// Appends the event of an outcome, if there is one.
 fn tell_outcome(
     events: &mut Vec<Event>,
     bit: u64,
@@ -92,7 +92,7 @@ fn tell_outcome(
     }
 }
 
-/// What is told of a request that was reaped.
+/// Appends the event that a request was reaped, if one was.
 fn tell_reaped(events: &mut Vec<Event>, bit: u64, node: u16, reaped: Option<Label>)
     requires { vec_len events.old < vec_capacity events.old }
     ensures value { events.new.items ≡ events.old.items ++ lines bit node (told_reaped reaped) }
@@ -104,7 +104,7 @@ fn tell_reaped(events: &mut Vec<Event>, bit: u64, node: u16, reaped: Option<Labe
     }
 }
 
-/// What is told besides.
+/// Appends what happened besides a start: the outcome and what was reaped.
 fn tell_rest(events: &mut Vec<Event>, bit: u64, node: u16, action: &Action)
     requires { vec_len events.old + 2 ≤ vec_capacity events.old }
     ensures value { events.new.items ≡ events.old.items ++ lines bit node (rest_by action.now) }
@@ -115,8 +115,8 @@ fn tell_rest(events: &mut Vec<Event>, bit: u64, node: u16, action: &Action)
     tell_reaped(events, bit, node, action.reaped);
 }
 
-/// Lines of what starts at these nodes at this bit, the first of which has this number: one a node at most, in their
-/// order. There is room for them.
+/// Appends the starts of these nodes at this bit, at most one for each node, in their order. The first node has the
+/// number `first`. There is room for the events.
 pub fn tell_starts(events: &mut Vec<Event>, bit: u64, first: u32, members: &[Member])
     requires room { vec_len events.old + length members.now ≤ vec_capacity events.old }
     requires few { first + length members.now ≤ 1000 }
@@ -130,8 +130,8 @@ pub fn tell_starts(events: &mut Vec<Event>, bit: u64, first: u32, members: &[Mem
     }
 }
 
-/// Lines of what is told besides of these nodes at this bit, the first of which has this number: two a node at most, in
-/// their order. There is room for them.
+/// Appends what else happened at these nodes at this bit, at most two events for each node, in their order. The first
+/// node has the number `first`. There is room for the events.
 pub fn tell_rests(events: &mut Vec<Event>, bit: u64, first: u32, members: &[Member])
     requires room { vec_len events.old + 2 * length members.now ≤ vec_capacity events.old }
     requires few { first + length members.now ≤ 1000 }
