@@ -222,7 +222,7 @@ pub data Lands (new : State) (outcome : Outcome) (after : List Bool) (at : ℕ) 
       ((later : ℕ) → Agrees new after later next [] []) →
       Lands new outcome after at before phase pairs events
 
--- A node in this state, at this bit and with this error state, that samples this level makes this turn,
+-- A node in this state, at this bit and with this error state, that samples this level makes this transition,
 -- whatever its episode was so far. It reads no frame yet; a reader that begins then has read SOF.
 abbrev pub Goes : State → ℕ → ErrorState → Bool → Transition → Type 0
 Goes state now errors level transition =
@@ -243,14 +243,14 @@ GoesReading state errors step level transition =
     (events ++ listed transition.event)
     × (is_taking transition.state ≡ true → IsReading reader)
 
--- a turn that signals an error with this flag, which is that of the state before it
+-- a transition that signals an error with this flag, which is that of the state before it
 pub record Signals (transition : Transition) (flag : Phase) (event : Option ErrorEvent) (kind : ErrorKind) : Type 0
   where
     pub flags : (text : List Bool) (later : ℕ) → Agrees transition.state text later flag [] []
     pub event_is : transition.event ≡ event
     pub outcome_is : transition.outcome ≡ Errored kind
 
--- A node that sends a frame, with this spelling and this error state, makes this turn of a bit at which it
+-- A node that sends a frame, with this spelling and this error state, makes this transition at a bit at which it
 -- samples this level.
 abbrev pub GoesSending : ℕ → ℕ → Spelling → ErrorState → Bool → Transition → Type 0
 GoesSending start place spelling errors level transition =
@@ -269,7 +269,7 @@ pub record LandsWith (transition : Transition) (reader : Reader) (at : ℕ) (bef
   pub reads : ReaderStands transition.state reader after
 
 -- A node in this state, with this reader and this spelling, at this bit and with this error state, that samples this
--- level makes this turn, and has this reader then.
+-- level makes this transition, and has this reader then.
 abbrev pub Advances : State → Reader → Spelling → ℕ → ErrorState → Bool → Transition → Reader → Type 0
 Advances state old spelling now errors level transition new =
     (text : List Bool) (at : ℕ) (before : List ErrorEvent) (phase : Phase) (part : List Pair)
@@ -279,7 +279,7 @@ Advances state old spelling now errors level transition new =
     LandsWith transition new at before phase (part ++ record { driven = level_in state spelling; sampled = level } ∷ [])
     (events ++ listed transition.event)
 
--- the turn that leads to this state, counts nothing and tells nothing
+-- the transition that leads to this state, counts nothing and reports nothing
 abbrev pub uneventful : State → Transition
 uneventful state = record { state = state; event = None; outcome = Nothing }
 
@@ -312,12 +312,12 @@ pub record Counts (old new : Counters) (event : Option ErrorEvent) (off : Bool)
   pub stands : StandsAfter old events → StandsAfter new (events ++ listed event)
   pub leads : StandsAfter old events → LeadsTo events event off
 
--- where a turn leaves a node, by whether its event leads to bus off: the state, and what is told
+-- where a transition leaves a node, by whether its event leads to bus off: the state, and what is told
 abbrev pub EndsIn : Bool → Transition → State → Outcome → Type 0
 EndsIn true transition state outcome = (state ≡ BusOffRecovery 0 0) × (outcome ≡ WentOff)
 EndsIn false transition state outcome = (state ≡ transition.state) × (outcome ≡ transition.outcome)
 
--- the turn was made: the counters have counted its event, and the node is where that leaves it
+-- the transition was made: the counters have counted its event, and the node is where that leaves it
 pub record IsMade (transition : Transition) (old new : Counters) (state : State) (outcome : Outcome) : Type 0 where
   pub off : Bool
   pub counts : (events : List ErrorEvent) → Counts old new transition.event off events

@@ -1,5 +1,5 @@
-//! Laws of the definitions that the contracts cite. Each function does nothing; its contract is the law, and a proof in a
-//! crate above calls it to use the law.
+//! Laws of the definitions that the contracts cite. Each function does nothing; its contract is the law, and a proof in
+//! a crate above calls it to use the law.
 
 ghost use Rattle.can_node.specs.Attempts.{
   AttemptsStandAlone,

@@ -89,15 +89,15 @@ impl Node {
         KnownCounts::of(self.counters)
     }
 
-    /// Returns whether a shared receiver may stand for the node: it sends no frame, and has no error flag, overload
-    /// flag, delimiter, suspension or intermission behind a frame of its own.
+    /// Returns whether a shared receiver may stand for the node. It may not while the node transmits, is in bus off or
+    /// in suspend transmission, or is in a flag, a delimiter or the intermission with the role of sender.
     pub fn is_listening(&self) -> bool
         ensures { result ≡ listens_in self.now }
     {
         listens(self.state)
     }
 
-    /// Returns a shared receiver that has come as far as this node.
+    /// Returns a shared receiver with the state and the reader of this node.
     pub fn shared_receiver(&self) -> SharedReceiver
         ensures { result ≡ shared_receiver_of self.now }
     {
@@ -107,7 +107,7 @@ impl Node {
         }
     }
 
-    /// Makes this shared receiver one that has come as far as this node.
+    /// Copies the state and the reader of this node into this shared receiver.
     pub fn copy_to(&self, shared_receiver: &mut SharedReceiver)
         ensures { shared_receiver.new ≡ shared_receiver_of self.now }
     {
@@ -115,8 +115,8 @@ impl Node {
         shared_receiver.reader.copy_from(&self.reader);
     }
 
-    /// Returns true only if the node has come as far as this shared receiver, so that the receiver may stand for it.
-    /// Returns false for a node that sends a frame.
+    /// Returns true only if the node has the state of this shared receiver and, in a frame that it receives, has read
+    /// the same: then that may stand for it. Returns false for a node that transmits a frame.
     pub fn matches(&self, shared_receiver: &SharedReceiver) -> bool
         ensures { result ≡ true → Matches self.now shared_receiver.now }
     {
@@ -130,7 +130,8 @@ impl Node {
         }
     }
 
-    /// Copies the shared receiver into the node, which it stood for: the node's next bit has this number.
+    /// Copies the state and the reader of the shared receiver into this deferred node, whose next bit is then `bit`.
+    /// Its error counters and its spelled frame stay as they are.
     pub fn materialize(&mut self, shared_receiver: &SharedReceiver, bit: u64)
         ensures { self.new ≡ materialized self.old shared_receiver.now bit }
     {
@@ -139,8 +140,8 @@ impl Node {
         self.clock = bit;
     }
 
-    /// Lets the node, which a shared receiver stood for, receive a frame at this bit (`SharedReceiver::takes`): its
-    /// next bit is the last one of EOF.
+    /// Lets a node that was deferred up to this bit receive its frame at it (`SharedReceiver::takes`). Its next bit is
+    /// then `bit + 1`, the last bit of EOF.
     pub fn take_up(&mut self, bit: u64)
         requires { bit < u64.MAX }
         ensures { self.new ≡ taken_up self.old bit }
@@ -149,9 +150,8 @@ impl Node {
         self.clock = bit + 1;
     }
 
-    /// Lets the node, which a shared receiver stood for up to this bit, sample this level of a frame that it reads
-    /// (`SharedReceiver::hears`): what `materialize` and `sample` do, in one step. Returns what this bit brings to an
-    /// end.
+    /// Lets a node that was deferred up to this bit sample this level of a frame that it receives
+    /// (`SharedReceiver::hears`): `materialize` and `sample` in one step. Returns what this bit brings to an end.
     pub fn hear(&mut self, heard: &HeardLevel, bit: u64, level: bool) -> Outcome
         requires { bit < u64.MAX }
         ensures bit { bit_of self.new ≡ bit + 1 }
@@ -170,8 +170,8 @@ impl Node {
         }
     }
 
-    /// Counts that the node received a frame, and changes nothing else: as each node does that a shared receiver stands
-    /// for in the ACK slot (`SharedReceiver::acknowledge`; Bosch CAN Specification 2.0, part B, 8 FAULT CONFINEMENT).
+    /// Counts that the node received a frame, and changes nothing else. Each deferred node does so at the ACK slot
+    /// (`SharedReceiver::acknowledge`; Bosch CAN Specification 2.0, part B, 8 FAULT CONFINEMENT).
     #[inline(always)]
     pub fn receive(&mut self)
         ensures { Receives self.old self.new }

@@ -1,4 +1,5 @@
-//! Uneventful bits of a node that neither receives nor sends a frame: nothing begins, nothing is reported, nothing counted.
+//! Uneventful bits of a node that neither receives nor sends a frame: nothing begins, nothing is reported, nothing
+//! counted.
 
 ghost use Rattle.std.specs.Prelude.{◌≡◌, ℕ, Bool, true, false};
 ghost use Rattle.can_confinement.specs.declared.confinement.Role.{Role as RoleValue};

@@ -49,7 +49,7 @@ impl SharedReceiver {
         may_start(self.state)
     }
 
-    /// Whether they are idle: then each recessive bit leaves them so.
+    /// Returns true only if the nodes are in the state bus idle: then each recessive bit leaves them so.
     pub fn is_idle(&self) -> bool
         ensures { result ≡ true → Idles self.now }
     {
@@ -71,9 +71,10 @@ impl SharedReceiver {
         }
     }
 
-    /// Follows a bit at which all of the nodes sample this level. Returns true if none of them reports anything at it
-    /// and no counter changes; `known` says what is known of their counters: where all are 0, a frame that is
-    /// acknowledged changes none. Otherwise nothing is changed, and the nodes have to sample the level themselves.
+    /// Follows a bit at which all of the nodes sample this level. Returns true only if none of them reports anything
+    /// at it and no error counter changes; it may return false there too. `known` holds of the counters of each node:
+    /// with `Zero`, receiving a frame changes none. Where it returns false, nothing is changed, and the nodes have to
+    /// sample the level themselves.
     #[inline(always)]
     pub fn follow(&mut self, bit: u64, level: bool, known: KnownCounts) -> bool
         ensures follows { result ≡ true → Follows known self.old bit level self.new }

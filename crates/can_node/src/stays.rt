@@ -1,4 +1,5 @@
-//! Many levels at once for a node that neither receives nor sends: how many it continues with, and its state after them.
+//! Many levels at once for a node that neither receives nor sends: how many it continues with, and its state after
+//! them.
 
 ghost use Rattle.std.specs.Prelude.{◌≡◌, ◌<◌, ◌≤◌, ◌+◌, ◌*◌, ℕ, true, false, length, not, take, if◌then◌else◌};
 ghost use Rattle.can_confinement.specs.declared.confinement.Role.{Role as RoleValue};

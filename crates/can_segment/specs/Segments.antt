@@ -88,7 +88,7 @@ abbrev pub AreFrom : ℕ → List Member → List Counters → Type 0
 AreFrom first members counters = (k : ℕ) (member : Member) (shown : Counters) → slice_get members k ≡ Some member →
     slice_get counters (first + k) ≡ Some shown → AreOf member shown
 
--- those of these nodes that rest
+-- the same of the deferred ones alone
 abbrev pub AreFromDeferred : ℕ → List Member → List Counters → Type 0
 AreFromDeferred first members counters =
     (k : ℕ) (member : Member) (shown : Counters) → member.is_deferred ≡ true → slice_get members k ≡ Some member →

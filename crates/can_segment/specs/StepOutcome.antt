@@ -1,4 +1,4 @@
--- How nodes that rest come through a bit. Private clauses cite it.
+-- How deferred nodes come through a bit. Private clauses cite it.
 use Rattle.can_node.specs.declared.shared_sample.SharedSample.{SharedSample}
 use Rattle.can_segment.specs.declared.step_outcome.StepOutcome.{StepOutcome}
 use Rattle.can_segment.specs.declared.step_outcome.StepOutcome.TheVariants.{Acknowledged, Shares, Through}

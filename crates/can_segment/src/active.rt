@@ -59,8 +59,9 @@ impl ActiveNodes {
     }
 }
 
-/// Returns whether this controller, if there is one, may start at the next bit: then its port is asked at that bit, and
-/// no node is deferred before it. The caller gives the first controller, or the first that is active.
+/// Returns whether this controller's own node wants to start; false where there is none. It affects speed only: where
+/// it is true, `regroup` defers no node, unless `idles` is set, and no single uneventful bit is simulated. The caller
+/// gives the first controller, or the first that is active. The own node of a deferred controller is stale.
 pub(crate) fn asks_at_each_bit(first: Option<&Member>) -> bool {
     match first {
         Some(member) => member.station.node.wants_start(),

@@ -1,37 +1,56 @@
 //! Deferred nodes: receivers that need not be simulated one by one.
 //!
 //! A node that receives and is in the same state as others on its bus need not be simulated. All such nodes are
-//! *deferred*: one shared receiver (`can_node::SharedReceiver`) is simulated for them. A deferred node means the node that
-//! one gets by copying the shared receiver's state into it. All contracts speak of that node (`materialized`,
+//! *deferred*: one shared receiver (`can_node::SharedReceiver`) is simulated for them. A deferred node means the node
+//! that one gets by copying the shared receiver's state into it. All contracts speak of that node (`materialized`,
 //! specs/DeferredState.antt), so no caller can see which nodes are deferred. A segment that defers none meets every
 //! contract, and takes more time.
 //!
-//! Two things of a deferred node are not shared: its error counters, which stay as they are while nothing is counted, and
-//! what it has to send. So a node is resumed, that is, the shared receiver is copied into it (`Node::materialize`), before
-//! a bit at which it may start or has a fault of its own; and all are resumed where the shared receiver cannot follow.
+//! A deferred node keeps two things of its own: its error counters, and what it has to send. The rest of its own state
+//! is stale. It is resumed, that is, the shared receiver is copied into it (`Node::materialize`), before a bit at which
 //!
-//! What holds between bits is `DeferredHolds`: each deferred node is on, nothing of its last bit is left to report, its
-//! counters are within `known`, and, where `finished`, it has nothing to send; and `talkers` and `controllers` name every
-//! active node. Which nodes are deferred, and from which of them the shared receiver was taken (receiver_choice.rt),
-//! affects speed only.
+//! - it may start (`resume_starters`: each talker with a frame left, and each controller),
+//! - it has a fault of its own (`resume_faulted`),
+//! - the deferred nodes cannot come through the bit together (`step_deferred`, below); where they sample a level
+//!   together, only controllers are resumed, since their ports learn the outcome, or
+//! - more than twice as many listening nodes are active as are deferred (`settle`, regroup.rt): then another shared
+//!   receiver may serve more nodes.
 //!
-//! Ways to simulate bits, in the order in which they are tried (`Segment::uneventful_bits`, `idle_bits` and `bit`):
+//! What holds before each bit is `DeferredHolds` (specs/DeferredState.antt). If a node is deferred, then
+//! `any_deferred` is true, the node is switched on, nothing of its last bit is left to report, its error counters are
+//! within `known`, and the shared receiver transmits no frame. If `finished` is true, no deferred talker has a frame
+//! left, and no controller is deferred. `talkers` and `controllers` contain every active node.
+//!
+//! These affect speed only: which nodes are deferred; from which node the shared receiver was taken
+//! (receiver_choice.rt); `any_deferred` true where no node is deferred; `finished` false; a wider `known`; a deferred
+//! node in `talkers` or `controllers`; `Segment::idles`; `asks_at_each_bit`. The opposite errors would change the
+//! simulated bits, and the prover refuses them: a deferred node that does not match, an active node missing in
+//! `talkers` or `controllers`, `finished` true with a frame left, a `known` that is too narrow.
+//!
+//! The caller chooses among three calls, and each of them among ways to simulate bits:
+//!
+//! - `Segment::idle_bits`, where no request waits for a controller: `Segment::idle_burst`, repeated. It needs an idle
+//!   bus, all nodes deferred, and no talker with a frame left.
+//! - `Segment::uneventful_bits`, where no port is needed: `transmit_burst`, then one `uneventful_level`, and again,
+//!   until `uneventful_level` refuses. Where the shared receiver wants to start, `transmit_burst` calls `idle_burst`
+//!   of idle_burst.rt. That needs all nodes deferred and `finished`, so it simulates no bit if there is a controller.
+//! - `Segment::bit`, always: `make_bit`. It alone asks ports, reports events and makes room in the record.
 //!
 //! | Way | When | Bits at once | Busy | Idle |
 //! |---|---|---|---|---|
-//! | `idle_burst` | all deferred on an idle bus, none has anything to send | up to 256 | | 99.6 % |
-//! | `transmit_burst` | one node transmits or none, all other active nodes wait | to the end of these | 90 % | |
-//! | `uneventful_level` | no fault, none starts, every active node continues | 1 | 5.5 % | 0.4 % |
-//! | `make_bit` | always | 1 | 4.3 % | 16 bits |
+//! | `idle_burst`, either one | as above | up to 256 | | 99.6 % |
+//! | `transmit_burst` | one node transmits or none, each other active node continues | many | 90 % | |
+//! | `uneventful_level` | no fault, none starts, each active node continues | 1 | 5.5 % | 0.4 % |
+//! | `make_bit` | always | 1 | 4.3 % | 0.01 % |
 //!
-//! Busy is a bus of 16 talkers at 90 % load, idle one of 16 idle talkers, 200,000 bits each (bench/draw.py; calls counted
-//! by callgrind on 2026-11-30); the 90 % are both bursts.
+//! Busy is a bus of 16 talkers at 90 % load, idle one of 16 idle talkers, 200,000 bits each (bench/draw.py; calls
+//! counted by callgrind on 2026-11-30); the 90 % are both bursts.
 //!
 //! Both bursts are proved to be a list of single uneventful bits (`AreUneventfulBits`), `uneventful_level` to be one
 //! (`IsUneventfulBit`), and an uneventful bit to be what `make_bit` does with the materialized nodes (`NodesMove`): so
 //! many bits at once equal as many single steps. In `make_bit` the deferred nodes come through the bit in one of four
-//! ways (`step_deferred`): all receive a frame together, the shared receiver follows the bit, all acknowledge, or the bit
-//! means the same to all of them. Otherwise all are resumed.
+//! ways (`step_deferred`): all receive a frame together, the shared receiver follows the bit, all acknowledge, or the
+//! bit means the same to all of them. Otherwise all are resumed.
 
 ghost use Rattle.std.specs.Prelude.{◌≡◌, ◌+◌, ◌<◌, ◌≤◌, true, false, ℕ, length};
 ghost use Rattle.can_node.specs.SharedReceiver.{AllShare};
@@ -189,8 +208,8 @@ impl Deferred {
         self.find_active(talkers, controllers);
     }
 
-    /// Returns whether nodes are deferred and the shared receiver has followed for them a bit at which they sample this
-    /// level. Otherwise nothing is changed.
+    /// Returns true only if `any_deferred` is set and the shared receiver has followed a bit at which the deferred
+    /// nodes, if any is left, sample this level. Otherwise nothing is changed.
     #[inline(always)]
     pub(crate) fn follows(&mut self, bit: u64, level: bool) -> bool
         ensures through { result ≡ true → FollowsThrough bit level self.old self.new }

@@ -16,8 +16,9 @@ pub(crate) fn recessive<'a>(most: usize) -> &'a [bool]
     &RECESSIVE[..most.min(RECESSIVE.len())]
 }
 
-/// Simulates bits of an idle bus on which all nodes are deferred and none has anything to send: up to `most` of them,
-/// and none where that is not so. Appends their levels, for which there is room.
+/// Simulates bits of an idle bus where all nodes are deferred and `finished` is true: up to `most`, and at most 256;
+/// none where that is not so. Appends their levels, for which there is room. On a segment that has a controller it
+/// simulates none, since `finished` says that no controller is deferred: see `Segment::idle_bits`.
 pub(crate) fn idle_burst(
     levels: &mut Vec<bool>,
     talkers: &[Member],

@@ -1,5 +1,5 @@
-//! Chooses the node from which the shared receiver is taken. The choice affects speed only: a node is deferred only where it
-//! matches the shared receiver, whichever node that was taken from.
+//! Chooses the node from which the shared receiver is taken. The choice affects speed only: a node is deferred only
+//! where it matches the shared receiver, whichever node that was taken from.
 
 use can_node::SharedReceiver;
 use can_station::Member;

@@ -36,7 +36,7 @@ impl Deferred {
         if !idles && asks_at_each_bit(controllers.first()) {
             return;
         }
-        // where too few match this shared receiver, more may match another one
+        // where too few match the first shared receiver, more may match one chosen by votes
         if self.defer_matching(plan, talkers, controllers, bit, false, idles) {
             self.defer_matching(plan, talkers, controllers, bit, true, idles);
         }

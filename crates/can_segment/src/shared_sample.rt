@@ -1,6 +1,6 @@
-//! Bits that the shared receiver cannot follow, but that mean the same to all deferred nodes: they receive a frame, count
-//! something, or detect an error. The shared receiver reads the bit once, each talker makes its own transition of it, by its
-//! own counters, and all nodes are active after it.
+//! Bits that the shared receiver cannot follow, but that mean the same to all deferred nodes: they receive a frame,
+//! count something, or detect an error. The shared receiver reads the bit once, each talker makes its own transition of
+//! it, by its own counters, and all nodes are active after it.
 
 ghost use Rattle.std.specs.Prelude.{◌≡◌, ◌≤◌, ◌<◌, ◌+◌, true, false, IfSome, length};
 ghost use Rattle.can_node.specs.SharedReceiver.{AllHear, AllShare, AllTake};

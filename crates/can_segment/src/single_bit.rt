@@ -1,7 +1,7 @@
-//! One uneventful bit: nothing begins, nothing is reported of any node, and no counter changes. Most bits of a bus are such,
-//! and a burst simulates many of them; what is left here are the last bit of a CRC, the ACK slot, contenders that still
-//! drive the same level, flags, and nodes that wait for the flags of others to end. No port is asked at such a bit, since no
-//! controller may start.
+//! One uneventful bit: nothing begins, nothing is reported of any node, and no counter changes. Most bits of a bus are
+//! such, and a burst simulates many of them; what is left here are the last bit of a CRC, the ACK slot, contenders that
+//! still drive the same level, flags, and nodes that wait for the flags of others to end. No port is asked at such a
+//! bit, since no controller may start.
 
 ghost use Rattle.std.specs.Prelude.{◌≡◌, ◌<◌, ◌-◌, true, false, length, IfSome, IfNone};
 ghost use Rattle.std.specs.Prelude.{vec_capacity, vec_len};

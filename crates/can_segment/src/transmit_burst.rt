@@ -1,11 +1,12 @@
 //! Many bits at once of a frame that one node transmits, or of what all nodes wait for behind a frame.
 //!
 //! The shared receiver reads on with the transmitter's next levels in a loop of its own, up to the end of the stuffed
-//! region, the ACK slot or the end of the frame, the next fault, the bits that are asked for and the room of the record.
-//! The record gets the levels that it read by one copy, and each active node continues with all of them: one in bus off, in
-//! a passive error flag, in a delimiter, the intermission or suspend transmission, or one that reads by itself since it
-//! sampled another level than the others. Each node continues with all levels before the next node does; the contract says
-//! that this equals the same bits simulated one after another, of all nodes at a time (`AreUneventfulBits`).
+//! region, the ACK slot or the end of the frame, the next fault, the bits that are asked for and the room of the
+//! record. The record gets the levels that it read by one copy, and each active node continues with all of them: one in
+//! bus off, in a passive error flag, in a delimiter, the intermission or suspend transmission, or one that reads by
+//! itself since it sampled another level than the others. Each node continues with all levels before the next node
+//! does; the contract says that this equals the same bits simulated one after another, of all nodes at a time
+//! (`AreUneventfulBits`).
 
 ghost use Rattle.std.specs.Prelude.{◌≡◌, ◌≤◌, ◌<◌, ◌+◌, ◌-◌, ◌++◌, true, Bool, List, Some, IfSome, length, slice_get};
 ghost use Rattle.std.specs.Prelude.{vec_capacity, vec_len};

@@ -56,7 +56,8 @@ pub enum Told {
     Off,
     /// The node is back from bus off.
     Back,
-    /// The request that failed was asked to end, and ended.
+    /// The transmission of this request failed at this bit, after its abort had been requested (ABRQ): its mailbox is
+    /// empty, and it is not sent again.
     Reaped(Label),
 }
 

@@ -76,7 +76,7 @@ fn first_of_nodes(faults: &[NodeFault]) -> u64
 }
 
 impl FaultOrder {
-    /// Returns the faults of a plan, with the cursors before all of them. `AllocError` where an allocation failed.
+    /// Returns the faults of a plan, with both cursors before the first fault; `AllocError` where an allocation failed.
     pub fn new(alloc: Global, plan: &SegmentPlan) -> Result<FaultOrder, AllocError>
         ensures { IfOk result (λ order. StandsAt plan.now 0 order) }
     {
@@ -109,7 +109,8 @@ impl FaultOrder {
         &ahead[..node_run(ahead, bit)]
     }
 
-    /// Returns the level of the line, true being recessive, at the bit of the cursors, where the nodes drive this one.
+    /// Returns the level of the line, true being recessive, at this bit, at which the cursors stand: that of the last
+    /// line fault in the plan's list at this bit, else `driven`, the AND of what the nodes drive.
     pub fn line_level(&self, bit: u64, driven: bool) -> bool
         requires { IsWithin self.now }
         ensures { (plan : SegmentPlan) → StandsAt plan bit self.now
@@ -121,7 +122,8 @@ impl FaultOrder {
         line_level(self.line_at(bit), bit, driven)
     }
 
-    /// Returns the faults of nodes at the bit of the cursors: these nodes sample the opposite of the line.
+    /// Returns the node faults at this bit, at which the cursors stand. Each node named there samples the opposite of
+    /// the level of the line.
     pub fn inverting(&self, bit: u64) -> &[NodeFault]
         requires { IsWithin self.now }
         ensures { (plan : SegmentPlan) → StandsAt plan bit self.now → (node : ℕ) (level : Bool)
@@ -133,7 +135,8 @@ impl FaultOrder {
         self.nodes_at(bit)
     }
 
-    /// Returns true only if there is no fault at the bit of the cursors.
+    /// Returns true only if no fault stands at this bit, at which the cursors stand. It may return false where there
+    /// is none, as before the first call of `pass`.
     #[inline]
     pub fn none_at(&self, bit: u64) -> bool
         ensures { result ≡ true → (plan : SegmentPlan) → StandsAt plan bit self.now → IsFaultless plan bit }
@@ -141,7 +144,8 @@ impl FaultOrder {
         bit < self.next_bit
     }
 
-    /// Returns a bit, at most `limit`, before which there is no fault from the cursors on.
+    /// Returns a bit, at most `limit`. At each bit before it, from the one at which the cursors stand, there is no
+    /// fault, and `pass` need not be called.
     #[inline]
     pub fn faultless_until(&self, limit: u64) -> u64
         ensures limit { result ≤ limit }
@@ -151,7 +155,7 @@ impl FaultOrder {
         limit.min(self.next_bit)
     }
 
-    /// Moves the cursors past their bit, to the next one.
+    /// Moves the cursors from this bit, at which they stand, to the next one.
     #[inline]
     pub fn pass(&mut self, bit: u64)
         requires { IsWithin self.old }
@@ -164,7 +168,7 @@ impl FaultOrder {
         self.move_on(bit);
     }
 
-    /// Moves the cursors past a bit at which there may be a fault.
+    /// Moves the cursors over the faults of this bit, and looks up the next bit that has one.
     #[inline(never)]
     fn move_on(&mut self, bit: u64)
         requires { IsWithin self.old }

@@ -1,5 +1,5 @@
-//! A node of a segment, bit by bit: what it sends, what its port learns, and what is reported of it; and what a segment is
-//! made of.
+//! A node of a segment, bit by bit: what it sends, what its port learns, and what is reported of it; and what a segment
+//! is made of.
 #![tactic(auto)]
 
 mod event;

@@ -35,7 +35,7 @@ use crate::transmission::Transmission;
 use can_frame::Frame;
 use can_node::{Counters, KnownCounts, Outcome, SharedReceiver, SharedSample};
 
-/// What a node did at the last bit. What it sent is kept up only at bits at which something is reported.
+/// What a node did at the last bit that it sampled. `sent` is up to date only where something is reported.
 #[derive(Clone, Copy)]
 pub struct Action {
     /// It began to send.
@@ -44,7 +44,8 @@ pub struct Action {
     pub sent: Option<Transmission>,
     /// What the bit brought to an end.
     pub outcome: Outcome,
-    /// The request that failed, was asked to end, and ended.
+    /// The request whose transmission failed at this bit, after its abort had been requested (ABRQ): its mailbox is
+    /// empty, and it is not sent again.
     pub reaped: Option<Label>,
 }
 
@@ -317,7 +318,7 @@ impl Member {
         ensures reaped { self.new.action.reaped ≡ None }
         ensures uneventful { result ≡ false → IsUneventful self.new.action }
     {
-        // as at most bits: the deed says so already, and need not name what it sends
+        // as at most bits: the action says so already, and `sent` need not be updated
         if matches!(outcome, Outcome::Nothing) && self.action.is_uneventful() {
             return false;
         }

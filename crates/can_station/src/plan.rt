@@ -39,7 +39,8 @@ pub struct LineFault {
 }
 
 /// The nodes of a segment in their order, first the talkers, then the controllers; its number of bits; and its faults.
-/// A fault on the line applies before faults at nodes.
+/// `can_segment::Segment::new` takes at most 64 nodes, and a script has at most 16 on a segment. A line fault sets the
+/// level of the line first; then a node with a fault samples the opposite of it.
 #[derive(Drop)]
 pub struct SegmentPlan {
     /// The number of bits of the segment, from bit 0 on.

@@ -28,8 +28,8 @@ impl<S, G> Dealing<S, G> for Brand {
     ghost dealt = { [] };
 }
 
-/// A route with its place among those that were dealt, after turns. Contracts see its place, and how many turns its hand
-/// made.
+/// A route with its place among those that were dealt, after turns. Contracts see its place, and how many turns its
+/// hand made.
 pub struct Baton<R, S: RouteTx<R>, G, J: Dealing<S, G>> {
     place: usize,
     courier: Courier<S, G>,

@@ -42,8 +42,8 @@ pub fn make_bit<R, P: RxSink<R>>(
 }
 
 /// Simulates one bit time of a segment with its controllers, as `make_bit` does, and then bits that need no port
-/// (`Segment::uneventful_bits`), up to `limit` bits in all. Returns how many bits the segment has then. `Memory` where the
-/// record could not grow: then segment and ports are unchanged.
+/// (`Segment::uneventful_bits`), up to `limit` bits in all. Returns how many bits the segment has then. `Memory` where
+/// the record could not grow: then segment and ports are unchanged.
 pub fn make_bits<R, P: RxSink<R>>(
     rt: &R,
     segment: &mut Segment,

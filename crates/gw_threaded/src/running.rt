@@ -23,8 +23,8 @@ use std::alloc::Global;
 use std::sync::Wait;
 use std::thread::Threads;
 
-/// Runs what was started: each segment in a thread of its own, and the routes by so many workers. Returns it with the seat
-/// that dealt the clocks.
+/// Runs what was started: each segment in a thread of its own, and the routes by so many workers. Returns it with the
+/// seat that dealt the clocks.
 fn run_started<
     R: Threads + Wait + Copy + Send + Sync + 'static,
     B: TxBus<R> + Drop + Send + 'static,
@@ -90,8 +90,8 @@ fn report_on<R: Wait, B: TxBus<R> + Drop, S: RouteTx<R> + Drop, M: Mailboxes<R, 
 
 /// Runs a script over these mailboxes: each segment in a thread of its own, none of them more than `slack` bits ahead
 /// of another, and the routes by so many workers, 1 to 16, each in a thread of its own; one gate a route, in the order
-/// of the script. Returns the report, and the seat at the clock table that dealt a clock to each segment's thread and lent
-/// a seat to each worker: contracts see by it what slack the table was made for, and how many workers there were.
+/// of the script. Returns the report, and the seat at the clock table that dealt a clock to each segment's thread and
+/// lent a seat to each worker: contracts see by it what slack the table was made for, and how many workers there were.
 ///
 /// `Memory` where an allocation failed, `Spawn` where a thread could not be started: either way there is no report, and
 /// all threads that were started have ended.

@@ -48,7 +48,8 @@ pub record Kept (p : Pace) (s : State (Unit {0}) Pacer) : Type 0 where
 abbrev pub first_pacer : Pace → Pacer
 first_pacer p = pacer 0 p.segments 0 (replicate p.segments 0) 0 false false
 
--- of a seat's clocks: the first of them, all others, and none; the new seat has neither set the stop word nor seen it set
+-- of a seat's clocks: the first of them, all others, and none; the new seat has neither set the stop word nor seen it
+-- set
 abbrev pub one_of : Pacer → Pacer
 one_of v = pacer v.first (v.first + 1) v.made v.seen 0 false false
 
@@ -159,8 +160,8 @@ pub record HasLent (count : ℕ) (old new : ClockPlace) : Type 0 where
 abbrev pub pace_of : ℕ → ℕ → ℕ → Pace
 pace_of segments slack bits = record { segments = segments; slack = slack; bits = bits }
 
--- The seat of a run at the clock table: the table is for this pace, the seat has dealt a clock to each segment and lent a
--- seat to each of so many workers, and it has stopped no thread.
+-- The seat of a run at the clock table: the table is for this pace, the seat has dealt a clock to each segment and lent
+-- a seat to each of so many workers, and it has stopped no thread.
 pub record HasPaced (p : Pace) (workers : ℕ) (c : ClockPlace) : Type 0 where
   pub pace_is : c.pace ≡ p
   pub dealt : c.view.first ≡ p.segments

@@ -58,9 +58,9 @@ fn looks_over(clock: &mut ClockSeat, over: bool, tries: u32) -> Result<bool, Thr
     Ok(clock.all_done())
 }
 
-/// Makes turns of the routes whose batons come, until 32 tries in a row came to nothing or found no baton, each of which
-/// was begun once all segments had made their bits. Returns how many they were. A worker that sees the stop word set
-/// ends with `Memory`, as one does that was refused memory.
+/// Makes turns of the routes whose batons come, until 32 tries in a row came to nothing or found no baton, each of
+/// which was begun once all segments had made their bits. Returns how many they were. A worker that sees the stop word
+/// set ends with `Memory`, as one does that was refused memory.
 fn make_turns<R: Wait, S: RouteTx<R> + Drop, G: Gate + Drop, J: Dealing<S, G>>(
     rt: &R,
     pool: &mut PoolSeat<Baton<R, S, G, J>>,

@@ -27,8 +27,8 @@ pub(crate) type WorkerThread<R, S, G, J> = Running<
     WorkerRun<Baton<R, S, G, J>>,
 >;
 
-/// Starts a worker in a thread of its own, with these seats at the pool and at the clocks. `Spawn` where the thread could
-/// not be started.
+/// Starts a worker in a thread of its own, with these seats at the pool and at the clocks. `Spawn` where the thread
+/// could not be started.
 fn start_worker<
     R: Threads + Wait + Copy + Send + Sync + 'static,
     S: RouteTx<R> + Drop + Send + 'static,
@@ -57,8 +57,8 @@ fn start_worker<
     }
 }
 
-/// Starts one worker more, in a thread of its own, with a part of this seat at the pool and a seat lent from this one at
-/// the clocks.
+/// Starts one worker more, in a thread of its own, with a part of this seat at the pool and a seat lent from this one
+/// at the clocks.
 fn hire<
     R: Threads + Wait + Copy + Send + Sync + 'static,
     S: RouteTx<R> + Drop + Send + 'static,

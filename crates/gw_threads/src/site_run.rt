@@ -56,9 +56,9 @@ fn wait_for_others<R: Wait>(
     unreachable!()
 }
 
-/// Simulates all bits of a segment with its controllers, unless the stop word is seen set: then no bit more is simulated.
-/// After each bit come those that need no port, as far as the clock may go, and then it goes on by all of them. The other
-/// clocks are looked at only where it has come as far as it may go.
+/// Simulates all bits of a segment with its controllers, unless the stop word is seen set: then no bit more is
+/// simulated. After each bit come those that need no port, as far as the clock may go, and then it goes on by all of
+/// them. The other clocks are looked at only where it has come as far as it may go.
 fn make_all_bits<R: Wait, P: RxSink<R>>(
     rt: &R,
     segment: &mut Segment,

@@ -22,7 +22,8 @@ use std::thread::Threads;
 /// A thread in which a segment runs.
 pub(crate) type SiteThread<R, P> = Running<Result<Site<P>, ThreadFault>, SiteRun<R, P>>;
 
-/// Starts a segment in a thread of its own, with this seat for its clock. `Spawn` where the thread could not be started.
+/// Starts a segment in a thread of its own, with this seat for its clock. `Spawn` where the thread could not be
+/// started.
 fn start_site<
     R: Threads + Wait + Copy + Send + Sync + 'static,
     P: RxSink<R> + Drop + Send + 'static,

@@ -114,7 +114,8 @@ fn rooms_for<A, B>(
     }
 }
 
-/// The pace of so many segments, in a run of so many bits, of which none may be further ahead of another than the slack.
+/// The pace of so many segments, in a run of so many bits, of which none may be further ahead of another than the
+/// slack.
 fn pace_of(segments: usize, slack: u32, bits: u32) -> Pace
     ensures { result ≡ pace_of segments slack bits }
 {

@@ -112,8 +112,8 @@ Begins t input old new = IfSome input (λ bytes. (text : List ℕ) × IsAnswer t
     × ((n : ℕ) × Appends old new (take n text)))
 
 -- By what the code answers: a refused input is refused for its first fault, and nothing is written; memory or a thread
--- was wanted, and nothing is written; a read failed, and nothing is written; or a write failed, and a front of the answer
--- is written.
+-- was wanted, and nothing is written; a read failed, and nothing is written; or a write failed, and a front of the
+-- answer is written.
 abbrev pub Ends : Task → Option (List ℕ) → Option (List ℕ) → Option (List ℕ) → Result (Unit {0}) Failure → Type 0
 Ends t input old new (Ok done) = Answers t input old new
 Ends t input old new (Err (failure.Script e)) = IfSome input (λ bytes. UnlessMemory e (IsRefusal t bytes))

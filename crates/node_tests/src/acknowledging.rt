@@ -42,7 +42,8 @@ fn those_that_are_left_alone_count_what_they_acknowledge(rt: HostRuntime) {
         assert!(rt; shared_receiver.follow(alone.bit(), level, KnownCounts::Any));
         assert_eq!(rt; sample(&mut alone, level), Some(Outcome::Nothing));
     }
-    // that it received a frame takes one off, so the shared_receiver does not follow the slot for whatever counts there are
+    // that it received a frame takes one off, so the shared receiver does not follow the slot for whatever counts there
+    // are
     let slot = alone.bit();
     assert!(rt; !shared_receiver.follow(slot, false, KnownCounts::Any));
     // and its own dominant level is missing in a slot that is recessive

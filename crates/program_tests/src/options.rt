@@ -44,8 +44,8 @@ fn bit_and_identifier(words: &[&str], bit: usize, identifier: usize) -> Option<(
 }
 
 /// How many starts on `b` the report has, and whether each came no earlier than the slack allows: a segment makes a bit
-/// only where no other is more than the slack behind afterwards. So once a frame was taken at bit t of `a`, `b` has made
-/// at least t + 1 bits less the slack.
+/// only where no other is more than the slack behind afterwards. So once a frame was taken at bit t of `a`, `b` has
+/// made at least t + 1 bits less the slack.
 fn starts_within(alloc: Global, report: &str, slack: u64) -> Result<(usize, bool), Fail> {
     let mut taken = Vec::new(alloc);
     let mut starts = 0usize;

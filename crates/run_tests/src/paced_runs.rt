@@ -19,8 +19,8 @@ const IDLE_SEGMENT: &str =
 const ROUTE_FROM_IT: &str =
     r#"]}],"controllers":[{"name":"c","segment":"a","on":0,"banks":[{"bank":0,"scale":32,"mode":"mask","fifo":0,"active":true,"r1":0,"r2":0}]},{"name":"d","segment":"b","on":0,"banks":[]}],"routes":[{"name":"r","from":"c","fifo":0,"to":"d"}]}"#;
 
-/// Segment `b` has four talkers that always send: each has 50 frames of at least 111 bits with the intermission, and all
-/// 200 take more than 12,000 bits.
+/// Segment `b` has four talkers that always send: each has 50 frames of at least 111 bits with the intermission, and
+/// all 200 take more than 12,000 bits.
 fn idle_and_busy_segment(alloc: Global) -> Result<String, AllocError> {
     let mut text = String::new(alloc);
     text.push_str(IDLE_SEGMENT)?;
@@ -94,9 +94,10 @@ fn first_start(report: &Report) -> Option<u64> {
     None
 }
 
-/// Where `a` simulates bit t, its clock comes to t + 1 at least. So it has seen the clock of `b` at t + 1 - slack or later,
-/// and `b` had simulated so many bits. A frame that `a` takes at bit t is requested on `b` after that, so no start of it
-/// comes before bit t + 1 - slack. If the slack were ignored, `a` would take its frame while `b` is at its first bits.
+/// Where `a` simulates bit t, its clock comes to t + 1 at least. So it has seen the clock of `b` at t + 1 - slack or
+/// later, and `b` had simulated so many bits. A frame that `a` takes at bit t is requested on `b` after that, so no
+/// start of it comes before bit t + 1 - slack. If the slack were ignored, `a` would take its frame while `b` is at its
+/// first bits.
 #[test]
 fn no_frame_arrives_before_the_slack_lets_it(rt: HostRuntime) -> Result<(), Fail> {
     let text = idle_and_busy_segment(rt.alloc())?;
@@ -122,8 +123,8 @@ fn no_frame_arrives_before_the_slack_lets_it(rt: HostRuntime) -> Result<(), Fail
     Ok(())
 }
 
-/// A worker goes on after the last bit until nothing is left to do. The FIFO holds the three frames that came, and there
-/// are three mailboxes, so all three leave the FIFO in every run: they were sent, or are held in a mailbox.
+/// A worker goes on after the last bit until nothing is left to do. The FIFO holds the three frames that came, and
+/// there are three mailboxes, so all three leave the FIFO in every run: they were sent, or are held in a mailbox.
 #[test]
 fn workers_serve_what_came_before_the_last_bit(rt: HostRuntime) -> Result<(), Fail> {
     for workers in [1u32, 2] {

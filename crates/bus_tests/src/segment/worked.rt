@@ -77,8 +77,8 @@ fn an_error_at_the_last_bit_doubles_a_frame(rt: HostRuntime) -> Result<(), Fail>
     Ok(())
 }
 
-/// Sixteen attempts bring the TEC to 128. From then on the talker is error passive, its ACK errors count no more, and it
-/// waits eight bits more before each attempt.
+/// Sixteen attempts bring the TEC to 128. From then on the talker is error passive, its ACK errors count no more, and
+/// it waits eight bits more before each attempt.
 #[test]
 fn a_talker_alone_never_goes_off(rt: HostRuntime) -> Result<(), Fail> {
     let alloc = rt.alloc();
