@@ -1,5 +1,6 @@
 //! Worked cases of a segment, and what they are made of.
 
+mod due;
 mod many_nodes;
 mod one_fault;
 mod requests;
@@ -14,7 +15,9 @@ ghost use Rattle.can_segment.specs.Segments.{Fit};
 use bx_core::{PlainMail, TxBus};
 use can_frame::{Frame, Id};
 use can_node::ErrorKind;
-use can_segment::{Event, Record, RxSink, SegFault, Segment, SegmentPlan, Talker, Told};
+use can_segment::{
+    DueFrame, Event, EventKind, Record, RxSink, SegFault, Segment, SegmentPlan, Talker,
+};
 use std::alloc::{AllocError, Global};
 use std::test::Fail;
 
@@ -88,11 +91,11 @@ fn data_frame() -> Result<Frame, Fail> {
 
 /// A talker that sends this frame so many times.
 fn talker(alloc: Global, on: u64, frame: Frame, times: u32) -> Result<Talker, AllocError> {
-    let mut frames = Vec::new(alloc);
+    let mut queue = Vec::new(alloc);
     for _ in 0..times {
-        frames.push(frame)?;
+        queue.push(DueFrame { due: 0, frame })?;
     }
-    Ok(Talker { on, frames })
+    Ok(Talker { on, queue })
 }
 
 /// A plan without nodes or faults.
@@ -248,11 +251,11 @@ fn record_of(alloc: Global, plan: SegmentPlan) -> Result<Record, Fail> {
 
 fn started(bit: u64, node: u16, frame: Frame) -> Event {
     let label = None;
-    Event::new(bit, node, Told::Started { frame, label })
+    Event::new(bit, node, EventKind::Started { frame, label })
 }
 
 fn took(bit: u64, node: u16, start: u64, frame: Frame) -> Event {
-    Event::new(bit, node, Told::Took { start, frame })
+    Event::new(bit, node, EventKind::Took { start, frame })
 }
 
 fn completed(bit: u64, node: u16, start: u64, frame: Frame) -> Event {
@@ -260,7 +263,7 @@ fn completed(bit: u64, node: u16, start: u64, frame: Frame) -> Event {
     Event::new(
         bit,
         node,
-        Told::Completed {
+        EventKind::Completed {
             start,
             frame,
             label,
@@ -269,5 +272,5 @@ fn completed(bit: u64, node: u16, start: u64, frame: Frame) -> Event {
 }
 
 fn errored(bit: u64, node: u16, kind: ErrorKind) -> Event {
-    Event::new(bit, node, Told::Error(kind))
+    Event::new(bit, node, EventKind::Error(kind))
 }

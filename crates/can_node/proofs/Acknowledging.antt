@@ -24,7 +24,7 @@ use Rattle.can_node.specs.Histories.{Past}
 use Rattle.can_node.specs.SharedReceiver.{Acknowledges, materialized}
 use Rattle.can_node.specs.Machine.{Agrees, Counts, is_own_slot, is_taking}
 use Rattle.can_node.specs.Machine.Agrees.{in_off}
-use Rattle.can_node.specs.Machine.LeadsTo.{stays_on}
+use Rattle.can_node.specs.Machine.EventEffect.{stays_on}
 use Rattle.can_node.specs.Node.{IsSample, StandsAfter}
 use Rattle.can_node.specs.Pairs.{Pair}
 use Rattle.can_node.specs.Phases.Phase.{BusOff}
@@ -32,7 +32,7 @@ use Rattle.can_node.proofs.Advancing.{reading_advances}
 use Rattle.can_node.proofs.Samples.{on_or_off, samples}
 use Rattle.can_node.proofs.TakeMoves.{tail_own_slot}
 
--- a frame received leads no node to bus off
+-- a received frame causes bus off of no node
 still_on : (counts : ErrorCounts) → is_off counts ≡ false → is_off (after_event counts Received) ≡ false
 still_on counts on = ap (λ b. is_off (cond b counts (effect counts Received))) on ∙ on
 
@@ -42,7 +42,7 @@ counts_received : (old new : Counters) → is_off (counts_of old) ≡ false →
     Counts old new (Some Received) false events
 counts_received old new on counts events = record {
   stands = counts events;
-  leads = λ h. stays_on Received
+  effect = λ h. stays_on Received
       (ap is_off (fold-append after_event no_counts events (Received ∷ []))
       ∙ ap (λ c. is_off (after_event c Received)) (sym h) ∙ still_on (counts_of old) on);
 }

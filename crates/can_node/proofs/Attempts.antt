@@ -1,4 +1,4 @@
--- What is begun and told at the bits of an attempt.
+-- What is begun and reported at the bits of an attempt.
 use Rattle.std.proofs.Common.{◌≡◌, inl, inr, ◌⊎◌, ℕ, ◌+◌, ◌-◌, ◌≤◌, Bool, List, [], ◌∷◌, ◌++◌, length, refl, sym, ap}
 use Rattle.std.proofs.Common.{subst, arith, ◌∙◌}
 use Rattle.std.specs.List.{Contains}
@@ -18,14 +18,14 @@ use Rattle.can_node.specs.Episodes.Course.{completed, lost, stuff_lost, unacknow
 use Rattle.can_node.specs.Episodes.Episode.{ends, off_within, off_at_end}
 use Rattle.can_node.specs.Histories.{Past, Whole, with_episode, noted, begins, IsHistory}
 use Rattle.can_node.specs.Histories.Whole.{switched_on, then}
-use Rattle.can_node.specs.Cuts.{Onward, Leads, HasLast, IsAttempt}
-use Rattle.can_node.specs.Cuts.Onward.{stays, goes_on}
+use Rattle.can_node.specs.Splits.{Onward, Continues, HasLast, IsAttempt}
+use Rattle.can_node.specs.Splits.Onward.{stays, goes_on}
 use Rattle.can_node.specs.Attempts.{first_bit, IsAttemptFrom, IsOpenAttempt, SendsAlone}
 use Rattle.can_node.proofs.Texts.{starts}
-use Rattle.can_node.proofs.Outcomes.{IsEnd, attempt_end, completed_some, leads_tells}
+use Rattle.can_node.proofs.Outcomes.{IsEnd, attempt_end, completed_some, continues_reports}
 use Rattle.can_node.proofs.Outcomes.IsEnd.{is_completed, is_lost, is_error, is_off}
 use Rattle.can_node.proofs.Located.{one_more}
-use Rattle.can_node.proofs.Stamps.{noted_is, begins_is, some_bits, told_before, begun_before, told_behind, begun_behind}
+use Rattle.can_node.proofs.Stamps.{noted_is, begins_is, some_bits, reported_before, begun_before, reported_behind, begun_behind}
 
 -- a send that is over has driven some level
 some_last : (pairs : List Pair) (pair : Pair) → 1 ≤ length (pairs ++ pair ∷ [])
@@ -47,7 +47,7 @@ pub attempt_some : {past : Past} {start end : ℕ} {frame : FrameValue} {state :
     (h : IsAttempt past start frame state end outcome) → 1 ≤ length h.pairs
 attempt_some h = sent_some h.here.episode (λ e. completed_some h.here.episode e (starts h.here.whole).1)
 
--- how a send ends is told
+-- how a send ends is reported
 noted_end : {outcome : Outcome} (at : ℕ) → IsEnd outcome → Contains (noted at outcome) (at, outcome)
 noted_end at is_completed = (0, omega arith, refl)
 noted_end at is_lost = (0, omega arith, refl)
@@ -66,7 +66,7 @@ keeps (goes_on {past = past} {phase = phase} episode onward) =
     let here = begins (past.first + length past.pairs) phase in
     record { more = here ++ h.more; begun_is = h.begun_is ∙ append_assoc past.begun here h.more }
 
-stays_begun : {from past : Past} {phase : Phase} (x : ℕ × FrameValue) → Leads from phase past → Contains from.begun x →
+stays_begun : {from past : Past} {phase : Phase} (x : ℕ × FrameValue) → Continues from phase past → Contains from.begun x →
     Contains past.begun x
 stays_begun {from = from} x h c =
     let k = keeps h.onward in
@@ -74,7 +74,7 @@ stays_begun {from = from} x h c =
     subst (λ bs. Contains bs x) (sym (ap (λ (p : Past). p.begun) h.past_is ∙ ap (λ bs. bs ++ last) k.begun_is))
     (Contains-append_left (from.begun ++ k.more) last x (Contains-append_left from.begun k.more x c))
 
--- an attempt is told as what it became, and in its bits nothing else
+-- the outcome of an attempt is reported, and in its bits nothing else
 pub attempts_stand_alone : (past : Past) (start end : ℕ) (frame : FrameValue) (state : ErrorState) (outcome : Outcome)
     (attempt : IsAttempt past start frame state end outcome) →
     SendsAlone past (first_bit attempt) end frame outcome
@@ -83,15 +83,15 @@ attempts_stand_alone past start end frame state outcome h =
     let size = length-append h.done.pairs h.pairs in
     let some = attempt_some h in
     let last : h.done.first + length (h.done.pairs ++ h.pairs) - 1 ≡ end = omega (arith, h.end_is) in
-    let told : Contains (noted (h.done.first + length (h.done.pairs ++ h.pairs) - 1) outcome) (end, outcome) =
+    let reported : Contains (noted (h.done.first + length (h.done.pairs ++ h.pairs) - 1) outcome) (end, outcome) =
     subst (λ n. Contains (noted n outcome) (end, outcome)) (sym last)
     (noted_end end (attempt_end past start end frame state outcome h)) in
     record {
       in_order = omega (arith, h.end_is, size, some);
-      begun = stays_begun (first, frame) h.here.leads
+      begun = stays_begun (first, frame) h.here.continues
           (Contains-append_right h.done.begun ((first, frame) ∷ []) (first, frame) (0, omega arith, refl));
-      told = leads_tells (end, outcome) h.here.leads (Contains-append_right h.done.outcomes _ (end, outcome) told);
-      none_begun = λ bit other from to c. elim (begun_behind bit other h.here.leads c) [
+      reported = continues_reports (end, outcome) h.here.continues (Contains-append_right h.done.outcomes _ (end, outcome) reported);
+      none_begun = λ bit other from to c. elim (begun_behind bit other h.here.continues c) [
         | inl whole ↦ elim (Contains-append_cases h.done.begun ((first, frame) ∷ []) (bit, other) whole) [
           | inl before ↦ omega (arith, begun_before bit other h.here.whole before, from)
           | inr now ↦ (let b = begins_is first bit (Send start h.given frame) other now in
@@ -99,24 +99,24 @@ attempts_stand_alone past start end frame state outcome h =
         ]
         | inr later ↦ omega (arith, later, h.end_is, to)
       ];
-      none_told = λ bit other from to c. elim (told_behind bit other h.here.leads c) [
+      none_reported = λ bit other from to c. elim (reported_behind bit other h.here.continues c) [
         | inl whole ↦ elim (Contains-append_cases h.done.outcomes
             (noted (h.done.first + length (h.done.pairs ++ h.pairs) - 1) outcome) (bit, other) whole) [
-              | inl before ↦ omega (arith, told_before bit other h.here.whole before, from)
+              | inl before ↦ omega (arith, reported_before bit other h.here.whole before, from)
               | inr now ↦ (let n = noted_is _ bit outcome other now in omega (arith, n.0, last, to))
             ]
         | inr later ↦ omega (arith, later, h.end_is, to)
       ];
     }
 
--- from the first bit of a transmission that goes on nothing is told
-pub open_tells_nothing : (past : Past) (first : ℕ) (frame : FrameValue) → IsOpenAttempt past first frame →
+-- from the first bit of a transmission that goes on, nothing is reported
+pub open_reports_nothing : (past : Past) (first : ℕ) (frame : FrameValue) → IsOpenAttempt past first frame →
     (bit : ℕ) (outcome : Outcome) → first ≤ bit → Contains past.outcomes (bit, outcome) → ⊥
-open_tells_nothing past first frame h bit outcome from c =
+open_reports_nothing past first frame h bit outcome from c =
     let before : Contains h.done.outcomes (bit, outcome) =
     subst (λ os. Contains os (bit, outcome))
     (ap (λ (p : Past). p.outcomes) h.here.past_is ∙ append-nil h.done.outcomes) c in
-    omega (arith, told_before bit outcome h.here.whole before, h.first_is, from)
+    omega (arith, reported_before bit outcome h.here.whole before, h.first_is, from)
 
 -- the send that began with this bit
 record Located (to : Past) (last : Phase) (bit : ℕ) (frame : FrameValue) : Type 0 where
@@ -158,7 +158,7 @@ located_now {past = past} {next = next} {pairs = pairs} {events = events} {outco
 locate : {to : Past} {last : Phase} (bit : ℕ) (frame : FrameValue) → Whole to last → Contains to.begun (bit, frame) →
     Located to last bit frame
 locate bit frame (switched_on first) c = absurd (omega (arith, c.1))
-locate bit frame (then {past = past} {phase = phase} {next = next} {pairs = pairs} {events = events} {outcome = told}
+locate bit frame (then {past = past} {phase = phase} {next = next} {pairs = pairs} {events = events} {outcome = reported}
     whole episode) c =
     elim (Contains-append_cases past.begun (begins (past.first + length past.pairs) phase) (bit, frame) c) [
       | inl before ↦ (let l = locate bit frame whole before in record {
@@ -213,7 +213,7 @@ begun_attempts past bit frame h c =
               here = record {
                 whole = l.whole;
                 episode = l.episode;
-                leads = record {
+                continues = record {
                   to = h.done;
                   last = h.phase;
                   part = h.part;

@@ -21,7 +21,7 @@ use Rattle.can_node.specs.Phases.Phase.{Delimiter, Intermission, Suspend, BusOff
 use Rattle.can_node.specs.Episodes.{Begun, Course, Episode, AreOn, AreOff}
 use Rattle.can_node.specs.Episodes.Course.{synced, resumed, completed, lost, stuff_lost, unacknowledged, bit_differs}
 use Rattle.can_node.specs.Episodes.Course.{took, spoiled, recessive_last_bit, late_overload, flagged, overload_flagged}
-use Rattle.can_node.specs.Episodes.Course.{passive_flagged, delimited, cut_short, overloaded, rested, rested_sender}
+use Rattle.can_node.specs.Episodes.Course.{passive_flagged, delimited, truncated, overloaded, intermission_ended, intermission_suspended}
 use Rattle.can_node.specs.Episodes.Course.{pressed, hurried, waited, overtaken, recovered}
 use Rattle.can_node.specs.Episodes.Begun.{syncing, idling, sending, taking, last_bit, active_flag, overload_flag}
 use Rattle.can_node.specs.Episodes.Begun.{passive_flag, delimiting, in_pause, suspended, recovering}
@@ -87,7 +87,7 @@ uneventful_flag Active owed role = uneventful (ActiveFlag role) refl
 uneventful_flag Passive owed role = uneventful (PassiveFlag owed role) refl
 uneventful_flag Off owed role = uneventful BusOff refl
 
--- a course that a bit ends does not lead to sending
+-- after a course that a bit ends, the node does not send
 pub course_uneventful : {at : ℕ} {before : List ErrorEvent} {phase next : Phase} {pairs : List Pair}
     {events : List ErrorEvent} {outcome : Outcome} →
     Course at before phase pairs events outcome next → IsUneventful next
@@ -107,10 +107,10 @@ course_uneventful (flagged role levels size) = uneventful _ refl
 course_uneventful (overload_flagged role levels size) = uneventful _ refl
 course_uneventful (passive_flagged owed role levels level before six) = uneventful _ refl
 course_uneventful (delimited kind role run n) = uneventful _ refl
-course_uneventful (cut_short kind role run n k some below) = uneventful_flag _ _ _
+course_uneventful (truncated kind role run n k some below) = uneventful_flag _ _ _
 course_uneventful (overloaded kind role run n) = uneventful _ refl
-course_uneventful (rested role goes) = uneventful _ refl
-course_uneventful (rested_sender role waits) = uneventful _ refl
+course_uneventful (intermission_ended role goes) = uneventful _ refl
+course_uneventful (intermission_suspended role waits) = uneventful _ refl
 course_uneventful (pressed role k below) = uneventful _ refl
 course_uneventful (hurried role) = uneventful _ refl
 course_uneventful waited = uneventful _ refl
@@ -253,7 +253,7 @@ lands_on old new spelling text after past pair event outcome st (is_over next co
     stands_over old new spelling text after past pair event outcome next st (course_uneventful course)
     (ends course on) agrees (outside next _ on)
 
--- a turn whose event leads to bus off: in place of what it would have ended, the node went off
+-- a transition whose event causes bus off: in place of what it would have ended, the node went off
 pub lands_off : (old new : State) (spelling : Spelling) (text after : List Bool) (past : Past) (pair : Pair)
     (event : ErrorEvent) (outcome : Outcome) (st : InState old spelling text past) →
     Lands new outcome after (st.done.first + length st.done.pairs) st.done.events st.phase (st.part ++ pair ∷ [])

@@ -20,7 +20,7 @@ use Rattle.can_node.specs.Waits.Recoveries.{no_run}
 use Rattle.can_node.specs.Phases.{flag_of}
 use Rattle.can_node.specs.Phases.Phase.{ActiveFlag, OverloadFlag, PassiveFlag, Intermission, BusOff}
 use Rattle.can_node.specs.Episodes.{error_of}
-use Rattle.can_node.specs.Episodes.Course.{delimited, cut_short, overloaded}
+use Rattle.can_node.specs.Episodes.Course.{delimited, truncated, overloaded}
 use Rattle.can_node.specs.Machine.{Agrees, Goes}
 use Rattle.can_node.specs.Machine.Agrees.{in_active, in_passive, in_delimiter, in_intermission, in_off}
 use Rattle.can_node.specs.Machine.Lands.{goes_on, is_over}
@@ -79,16 +79,16 @@ delimit_ends role k now e full text at before phase part events clock err (in_de
     is_over (Intermission role) (rw (seven, listening_more, append_assoc, append-nil) (delimited kind role run n))
     (λ later. in_intermission {k = 0} (omega arith))
 
-pub delimit_cut : (role : Role) (k now : ℕ) (e : ErrorState) (flag : State) → k < 7 →
+pub delimit_truncated : (role : Role) (k now : ℕ) (e : ErrorState) (flag : State) → k < 7 →
     ((text : List Bool) (later : ℕ) → Agrees flag text later (flag_of e [] role) [] []) →
     Goes (InDelimiter role k) now e false (record {
       state = flag;
       event = Some (error_of role);
       outcome = Errored Form;
     })
-delimit_cut role k now e flag early begins text at before phase part events clock err
+delimit_truncated role k now e flag early begins text at before phase part events clock err
     (in_delimiter kind run n some below) =
-    is_over (flag_of _ [] role) (rw listening_more (cut_short kind role run n k some early))
+    is_over (flag_of _ [] role) (rw listening_more (truncated kind role run n k some early))
     (subst (λ s. (later : ℕ) → Agrees flag (false ∷ []) later (flag_of s [] role) [] []) err (begins (false ∷ [])))
 
 pub delimit_overload : (role : Role) (k now : ℕ) (e : ErrorState) → 7 ≤ k →

@@ -25,7 +25,7 @@ use Rattle.can_node.specs.PlainBits.{StaysBy, StaysNoLonger, stays_out}
 use Rattle.can_node.specs.PlainBits.MayGoOnBy.{reads_on, sends_on, waits_on}
 use Rattle.can_node.proofs.ErrorMoves.{delimit_ends, delimit_on}
 use Rattle.can_node.proofs.FlagMoves.{wait_over}
-use Rattle.can_node.proofs.Moves.{rest_ends, rest_on, suspend_ends, suspend_on}
+use Rattle.can_node.proofs.Moves.{intermission_ends, intermission_on, suspend_ends, suspend_on}
 use Rattle.can_node.proofs.PassiveMoves.{passive_dominant, passive_recessive}
 use Rattle.can_node.proofs.PlainBits.{behind, goes_plainly, goes_sending, not_the_last, off_broken_plain}
 use Rattle.can_node.proofs.PlainBits.{off_counts_plain, off_longer_plain}
@@ -204,18 +204,18 @@ waits_out state next plain drives begins sends next_is sends_then reads goes =
     })
 
 -- in the intermission, behind a frame that it read where that ends
-rests_out : (role : Role) (ones : ℕ) → (nat_le ones 1 ≡ false → role ≡ Receiver) → IsOut (InIntermission role ones) true
-rests_out role ones receiver = elim (leb_tells ones 1) [
+intermission_out : (role : Role) (ones : ℕ) → (nat_le ones 1 ≡ false → role ≡ Receiver) → IsOut (InIntermission role ones) true
+intermission_out role ones receiver = elim (leb_tells ones 1) [
   | inl few ↦
       let least = few.1 in
       waits_out (InIntermission role ones) (InIntermission role (ones + 1)) refl (λ spelling. refl) refl refl
       (ap (λ b. cond b (InIntermission role (ones + 1)) BusIdle) few.0) refl refl
-      (λ now e. rest_on role ones now e (omega (arith, least)))
+      (λ now e. intermission_on role ones now e (omega (arith, least)))
   | inr many ↦
       let more = many.1 in
       waits_out (InIntermission role ones) BusIdle refl (λ spelling. refl) refl refl
       (ap (λ b. cond b (InIntermission role (ones + 1)) BusIdle) many.0) refl refl
-      (λ now e. rest_ends role ones now e (omega (arith, more)) (ap (λ r. suspends r e) (receiver many.0)))
+      (λ now e. intermission_ends role ones now e (omega (arith, more)) (ap (λ r. suspends r e) (receiver many.0)))
 ]
 
 pub is_out : (state : State) (level : Bool) → stays_out level state ≡ true → IsOut state level
@@ -261,9 +261,9 @@ is_out (InDelimiter role ones) true h = elim (leb_tells ones 6) [
       (ap (λ b. cond b (InDelimiter role (ones + 1)) (InIntermission role 0)) many.0) refl refl
       (λ now e. delimit_ends role ones now e (omega (arith, more)))
 ]
-is_out (InIntermission Receiver ones) true h = rests_out Receiver ones (λ more. refl)
+is_out (InIntermission Receiver ones) true h = intermission_out Receiver ones (λ more. refl)
 is_out (InIntermission Sender ones) true h =
-    rests_out Sender ones (λ more. absurd (let on = ap (λ b. b || false) (sym more) ∙ h in cc on))
+    intermission_out Sender ones (λ more. absurd (let on = ap (λ b. b || false) (sym more) ∙ h in cc on))
 is_out (SuspendTransmission ones) true h = elim (leb_tells ones 6) [
   | inl few ↦
       let least = few.1 in
@@ -295,7 +295,7 @@ out_by node (level ∷ levels) out =
       rw later (out_by mid levels out.1),
     )
 
--- whichever it is tells its state
+-- its state determines which it is
 pub sending_by : (node : Node) (start place next n : ℕ) (levels : List Bool) (is_sender : Bool) →
     node.state ≡ Transmitting start place → n ≡ length levels → next ≡ min (place + n) 255 →
     place ≤ 255 → MayGoOnBy is_sender levels node →

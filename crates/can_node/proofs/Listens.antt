@@ -1,6 +1,6 @@
 -- Nodes that are left alone while a listener follows the line for them.
-use Rattle.std.proofs.Common.{◌≡◌, ◌⊎◌, inl, inr, ℕ, ◌+◌, min, Bool, true, false, Option, None, Some, List, [], ◌∷◌}
-use Rattle.std.proofs.Common.{◌++◌, length, refl, sym, ap, subst, ◌∙◌}
+use Rattle.std.proofs.Common.{◌≡◌, ◌⊎◌, inl, inr, ℕ, ◌+◌, Bool, true, false, Option, None, Some, List, [], ◌∷◌}
+use Rattle.std.proofs.Common.{◌++◌, refl, sym, ap, subst, ◌∙◌}
 use Rattle.std.proofs.lemmas.List.Sums.{fold-append}
 use Rattle.can_frame.specs.Reading.{IsPush, ReadsOn, StandsAs, StandsAfter as ReaderStandsAfter, IsReading}
 use Rattle.can_frame.specs.declared.step.Step.{Step}
@@ -18,7 +18,7 @@ use Rattle.can_node.specs.declared.outcome.Outcome.{Outcome}
 use Rattle.can_node.specs.declared.shared_sample.HeardLevel.{HeardLevel}
 use Rattle.can_node.specs.declared.outcome.Outcome.TheVariants.{Nothing, Took}
 use Rattle.can_node.specs.declared.state.State.{State}
-use Rattle.can_node.specs.declared.state.State.TheVariants.{LastEofBit, BusIdle, Receiving, Transmitting}
+use Rattle.can_node.specs.declared.state.State.TheVariants.{LastEofBit, BusIdle, Receiving}
 use Rattle.can_node.specs.declared.state.Stage.{Stage}
 use Rattle.can_node.specs.declared.state.Stage.TheVariants.{Region, AfterRegion, Slot, AfterSlot}
 use Rattle.can_node.specs.declared.state.Transition.{Transition}
@@ -30,8 +30,7 @@ use Rattle.can_confinement.specs.Counters.{StandsAfter as CountersStandAfter, co
 use Rattle.can_node.specs.Machine.{Advances, behind_end, Counts, Goes, GoesReading, IsMade, ReaderStands, Steps}
 use Rattle.can_node.specs.Machine.{is_in_region}
 use Rattle.can_node.specs.Machine.{is_sending, is_taking, level_in, may_start, uneventful}
-use Rattle.can_frame.specs.Sending.{level_at}
-use Rattle.can_node.specs.Machine.LeadsTo.{stays_on}
+use Rattle.can_node.specs.Machine.EventEffect.{stays_on}
 use Rattle.can_node.specs.Node.{IsSample}
 use Rattle.can_node.specs.SharedReceiver.{AllHear, AllTake, Follows, Idles, IsUnseen, ReadsAlong, Matches}
 use Rattle.can_node.specs.SharedReceiver.{materialized, taken_up}
@@ -39,9 +38,7 @@ use Rattle.can_node.proofs.Samples.{counts_none, uneventful_steps, samples}
 use Rattle.can_node.specs.PlainBits.{LeavesPlainly}
 use Rattle.can_node.proofs.PlainSteps.{plain_steps}
 use Rattle.can_node.proofs.Advancing.{idle_advances, other_advances, reading_advances}
-use Rattle.can_node.proofs.Samples.{stands_history}
-use Rattle.can_node.proofs.Advancing.{sending_advances, staying_advances}
-use Rattle.can_node.proofs.SendMoves.{send_echoed}
+use Rattle.can_node.proofs.Advancing.{staying_advances}
 use Rattle.can_node.proofs.TakeMoves.{tail_delimiter, tail_later, take_taken}
 
 abbrev listening : State → Reader → SharedReceiver
@@ -98,7 +95,7 @@ counts_received counters none events =
     let after : CountersStandAfter counters events → counts_after (events ++ Received ∷ []) ≡ no_counts =
     λ h. fold-append after_event no_counts events (Received ∷ [])
     ∙ ap (λ counts. after_event counts Received) (sym h ∙ none) in
-    record { stands = λ h. none ∙ sym (after h); leads = λ h. stays_on Received (ap is_off (after h)) }
+    record { stands = λ h. none ∙ sym (after h); effect = λ h. stays_on Received (ap is_off (after h)) }
 
 counts_unseen : (known : KnownCounts) (counters : Counters) (event : Option ErrorEvent) → Knows known counters →
     (event ≡ None) ⊎ ((known ≡ Zero) × (event ≡ Some Received)) → (events : List ErrorEvent) →
@@ -120,7 +117,7 @@ unseen_follows known old new bit level transition unseen state_is advances =
       is_made = record {
         off = false;
         counts = counts_unseen known node.counters transition.event counts unseen.counts_none;
-        ends_in = (state_is, sym unseen.tells_none);
+        ends_in = (state_is, sym unseen.reports_none);
       };
     })
 
@@ -215,7 +212,7 @@ end_follows : (known : KnownCounts) (start : ℕ) (stage : Stage) (behind : Stat
 end_follows known start stage behind old new bit level sends_none goes push =
     reading_follows known (listening (Receiving start false stage) old) start false stage new bit level Tail
     (uneventful behind) refl push goes
-    (record { tells_none = refl; counts_none = inl refl; sends_none = sends_none })
+    (record { reports_none = refl; counts_none = inl refl; sends_none = sends_none })
 
 -- so is a bit behind it with which the frame goes on, but the ACK slot
 pub along_end : (state behind : State) (old new : Reader) (level : Bool) → behind_end state ≡ Some behind →

@@ -1,4 +1,4 @@
--- Each completion and each frame taken that a history tells is that of an attempt or a take.
+-- Each completion and each frame taken that a history reports is that of an attempt or a take.
 use Rattle.std.proofs.Common.{◌≡◌, inl, inr, ℕ, ◌+◌, ◌-◌, Bool, false, List, ◌++◌, length, refl, ap, subst, arith, ◌∙◌}
 use Rattle.std.specs.List.{Contains}
 use Rattle.std.proofs.lemmas.List.{append-nil, length-append}
@@ -15,13 +15,13 @@ use Rattle.can_node.specs.Phases.Phase.{Send, Take}
 use Rattle.can_node.specs.Episodes.{Course, Episode}
 use Rattle.can_node.specs.Episodes.Course.{synced, resumed, completed, lost, stuff_lost, unacknowledged, bit_differs}
 use Rattle.can_node.specs.Episodes.Course.{took, spoiled, recessive_last_bit, late_overload, flagged, overload_flagged}
-use Rattle.can_node.specs.Episodes.Course.{passive_flagged, delimited, cut_short, overloaded, rested, rested_sender}
+use Rattle.can_node.specs.Episodes.Course.{passive_flagged, delimited, truncated, overloaded, intermission_ended, intermission_suspended}
 use Rattle.can_node.specs.Episodes.Course.{pressed, hurried, waited, overtaken, recovered}
 use Rattle.can_node.specs.Episodes.Episode.{begun, joined, ends, off_within, off_at_end}
 use Rattle.can_node.specs.Histories.{Past, Whole, with_episode, noted, IsHistory}
 use Rattle.can_node.specs.Histories.Whole.{switched_on, then}
-use Rattle.can_node.specs.Cuts.{Onward, HasEpisode, IsAttempt, IsTake}
-use Rattle.can_node.specs.Cuts.Onward.{stays, goes_on}
+use Rattle.can_node.specs.Splits.{Onward, HasEpisode, IsAttempt, IsTake}
+use Rattle.can_node.specs.Splits.Onward.{stays, goes_on}
 use Rattle.can_node.proofs.Texts.{starts}
 use Rattle.can_frame.specs.Fronts.{front_tail}
 use Rattle.can_frame.proofs.FrontLaws.{parts}
@@ -52,9 +52,9 @@ record Located (to : Past) (last : Phase) (end : ℕ) (outcome : Outcome) : Type
 locate : {to : Past} {last : Phase} (end : ℕ) (outcome : Outcome) → Whole to last →
     Contains to.outcomes (end, outcome) → Located to last end outcome
 locate end outcome (switched_on first) c = absurd (omega (arith, c.1))
-locate end outcome (then {past = past} {phase = phase} {next = next} {pairs = pairs} {events = events} {outcome = told}
+locate end outcome (then {past = past} {phase = phase} {next = next} {pairs = pairs} {events = events} {outcome = reported}
     whole episode) c =
-    elim (Contains-append_cases past.outcomes (noted (past.first + length (past.pairs ++ pairs) - 1) told)
+    elim (Contains-append_cases past.outcomes (noted (past.first + length (past.pairs ++ pairs) - 1) reported)
     (end, outcome) c) [
       | inl before ↦ (let l = locate end outcome whole before in
           record {
@@ -69,8 +69,8 @@ locate end outcome (then {past = past} {phase = phase} {next = next} {pairs = pa
             onward = one_more l.onward episode;
             end_is = l.end_is;
           })
-      | inr now ↦ (let n = noted_is (past.first + length (past.pairs ++ pairs) - 1) end told outcome now in
-          subst (Located (with_episode past phase pairs events told) next end) n.1
+      | inr now ↦ (let n = noted_is (past.first + length (past.pairs ++ pairs) - 1) end reported outcome now in
+          subst (Located (with_episode past phase pairs events reported) next end) n.1
           (record {
             done = past;
             phase = phase;
@@ -109,7 +109,7 @@ find past end outcome h c =
       here = record {
         whole = l.whole;
         episode = l.episode;
-        leads =
+        continues =
             record {
               to = h.done;
               last = h.phase;
@@ -150,10 +150,10 @@ course_completed (flagged role levels size) e = absurd (cc e)
 course_completed (overload_flagged role levels size) e = absurd (cc e)
 course_completed (passive_flagged owed role levels level before six) e = absurd (cc e)
 course_completed (delimited kind role run n) e = absurd (cc e)
-course_completed (cut_short kind role run n k some below) e = absurd (cc e)
+course_completed (truncated kind role run n k some below) e = absurd (cc e)
 course_completed (overloaded kind role run n) e = absurd (cc e)
-course_completed (rested role goes) e = absurd (cc e)
-course_completed (rested_sender role waits) e = absurd (cc e)
+course_completed (intermission_ended role goes) e = absurd (cc e)
+course_completed (intermission_suspended role waits) e = absurd (cc e)
 course_completed (pressed role k below) e = absurd (cc e)
 course_completed (hurried role) e = absurd (cc e)
 course_completed waited e = absurd (cc e)
@@ -169,7 +169,7 @@ was_send (ends course on) e = course_completed course e
 was_send (off_within pair event goes on more off) e = absurd (cc e)
 was_send (off_at_end pair event goes on course off) e = absurd (cc e)
 
--- each completion that a history tells is that of an attempt
+-- each completion that a history reports is that of an attempt
 pub completed_attempt : (past : Past) (end : ℕ) → IsHistory past → Contains past.outcomes (end, Completed) →
     (start : ℕ) × (frame : FrameValue) × (state : ErrorState) × IsAttempt past start frame state end Completed
 completed_attempt past end h c =
@@ -221,10 +221,10 @@ course_took (flagged role levels size) e = absurd (cc e)
 course_took (overload_flagged role levels size) e = absurd (cc e)
 course_took (passive_flagged owed role levels level before six) e = absurd (cc e)
 course_took (delimited kind role run n) e = absurd (cc e)
-course_took (cut_short kind role run n k some below) e = absurd (cc e)
+course_took (truncated kind role run n k some below) e = absurd (cc e)
 course_took (overloaded kind role run n) e = absurd (cc e)
-course_took (rested role goes) e = absurd (cc e)
-course_took (rested_sender role waits) e = absurd (cc e)
+course_took (intermission_ended role goes) e = absurd (cc e)
+course_took (intermission_suspended role waits) e = absurd (cc e)
 course_took (pressed role k below) e = absurd (cc e)
 course_took (hurried role) e = absurd (cc e)
 course_took waited e = absurd (cc e)
@@ -240,10 +240,10 @@ was_take (ends course on) e = course_took course e
 was_take (off_within pair event goes on more off) e = absurd (cc e)
 was_take (off_at_end pair event goes on course off) e = absurd (cc e)
 
--- each frame that a history tells as taken is that of a take
-pub told_take : (past : Past) (end start : ℕ) (frame : FrameValue) → IsHistory past →
+-- each frame that a history reports as taken is that of a take
+pub reported_take : (past : Past) (end start : ℕ) (frame : FrameValue) → IsHistory past →
     Contains past.outcomes (end, Took start frame) → IsTake past start end (Took start frame)
-told_take past end start frame h c =
+reported_take past end start frame h c =
     let f = find past end (Took start frame) h c in
     let s = was_take f.here.episode refl in
     let here = subst (λ phase. HasEpisode past f.done phase f.pairs f.events (Took start frame) f.next) s.is f.here in

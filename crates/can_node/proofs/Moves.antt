@@ -22,7 +22,7 @@ use Rattle.can_node.specs.Waits.Broken.{none, again}
 use Rattle.can_node.specs.Waits.Recoveries.{one_more}
 use Rattle.can_node.specs.Phases.{suspends}
 use Rattle.can_node.specs.Phases.Phase.{Idle, Take, OverloadFlag, Intermission, Suspend}
-use Rattle.can_node.specs.Episodes.Course.{synced, resumed, recessive_last_bit, late_overload, rested, rested_sender}
+use Rattle.can_node.specs.Episodes.Course.{synced, resumed, recessive_last_bit, late_overload, intermission_ended, intermission_suspended}
 use Rattle.can_node.specs.Episodes.Course.{pressed}
 use Rattle.can_node.specs.Episodes.Course.{hurried, waited, overtaken, recovered}
 use Rattle.can_node.specs.Machine.{Agrees, Goes}
@@ -30,7 +30,7 @@ use Rattle.can_node.specs.Machine.Agrees.{in_sync, in_idle, in_last, in_overload
 use Rattle.can_node.specs.Machine.Lands.{goes_on, is_over}
 use Rattle.can_node.proofs.Starts.{starts}
 
--- a turn that ends nothing that is told
+-- a transition that ends nothing that is reported
 abbrev pub transition : State → Option ErrorEvent → Transition
 transition state event = record { state = state; event = event; outcome = Nothing }
 
@@ -86,14 +86,14 @@ pub closing_late : (now : ℕ) (e : ErrorState) → Goes LastEofBit now e false 
 closing_late now e text at before phase part events clock err in_last =
     is_over (OverloadFlag Receiver) late_overload (overload_begins Receiver)
 
-pub rest_on : (role : Role) (k now : ℕ) (e : ErrorState) → k < 2 →
+pub intermission_on : (role : Role) (k now : ℕ) (e : ErrorState) → k < 2 →
     Goes (InIntermission role k) now e true (transition (InIntermission role (k + 1)) None)
-rest_on role k now e room text at before phase part events clock err (in_intermission below) =
+intermission_on role k now e room text at before phase part events clock err (in_intermission below) =
     goes_on (rw (listening_more, replicate_more) (in_intermission {k = k + 1} (omega arith))) refl
 
-pub rest_pressed : (role : Role) (k now : ℕ) (e : ErrorState) → k < 2 →
+pub intermission_pressed : (role : Role) (k now : ℕ) (e : ErrorState) → k < 2 →
     Goes (InIntermission role k) now e false (transition (DominantFlag Overload role 0 14) None)
-rest_pressed role k now e room text at before phase part events clock err (in_intermission below) =
+intermission_pressed role k now e room text at before phase part events clock err (in_intermission below) =
     is_over (OverloadFlag role) (rw listening_more (pressed role k room)) (overload_begins role)
 
 -- the error state of an episode that has counted nothing is that before it
@@ -102,22 +102,22 @@ state_before : (role : Role) (e : ErrorState) (b : Bool) (state : List ErrorEven
     e ≡ state (before ++ []) → suspends role e ≡ b → suspends role (state before) ≡ b
 state_before role e b state before err h = ap (suspends role) (ap state (sym (append-nil before)) ∙ sym err) ∙ h
 
-pub rest_ends : (role : Role) (k now : ℕ) (e : ErrorState) → 2 ≤ k → suspends role e ≡ false →
+pub intermission_ends : (role : Role) (k now : ℕ) (e : ErrorState) → 2 ≤ k → suspends role e ≡ false →
     Goes (InIntermission role k) now e true (transition BusIdle None)
-rest_ends role k now e full goes text at before phase part events clock err (in_intermission below) =
+intermission_ends role k now e full goes text at before phase part events clock err (in_intermission below) =
     let two : k ≡ 2 = omega arith in
-    rw two (is_over Idle (rested role (state_before role e false state_after before err goes)) (λ later. in_idle 0))
+    rw two (is_over Idle (intermission_ended role (state_before role e false state_after before err goes)) (λ later. in_idle 0))
 
 pub intermission_waits : (role : Role) (k now : ℕ) (e : ErrorState) → 2 ≤ k → suspends role e ≡ true →
     Goes (InIntermission role k) now e true (transition (SuspendTransmission 0) None)
 intermission_waits role k now e full waits text at before phase part events clock err (in_intermission below) =
     let two : k ≡ 2 = omega arith in
-    rw two (is_over Suspend (rested_sender role (state_before role e true state_after before err waits))
+    rw two (is_over Suspend (intermission_suspended role (state_before role e true state_after before err waits))
     (λ later. in_suspend {k = 0} (omega arith)))
 
-pub rest_hurried : (role : Role) (k now : ℕ) (e : ErrorState) → 2 ≤ k → (b : Bool) → suspends role e ≡ b →
+pub intermission_hurried : (role : Role) (k now : ℕ) (e : ErrorState) → 2 ≤ k → (b : Bool) → suspends role e ≡ b →
     Goes (InIntermission role k) now e false (transition (Receiving now (not b) Region) None)
-rest_hurried role k now e full b is text at before phase part events clock err (in_intermission below) =
+intermission_hurried role k now e full b is text at before phase part events clock err (in_intermission below) =
     let two : k ≡ 2 = omega arith in
     let here : at + 2 ≡ now = omega (arith, clock, length-listening (recessive k), length-replicate k true) in
     let said = state_before role e b state_after before err is in

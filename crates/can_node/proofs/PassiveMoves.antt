@@ -63,7 +63,7 @@ six_counted : (w : List Bool) → EndsInSix w → (6 ≤ suffix_len (λ level. l
 six_counted w (v, true, e) = inl (rw (e, reverse-append v (replicate 6 true)) (omega arith))
 six_counted w (v, false, e) = inr (rw (e, reverse-append v (replicate 6 false)) (omega arith))
 
--- where a text and one more level is cut
+-- where a text and one more level is split
 pub split_last : (xs beginning more : List Bool) (b : Bool) → xs ++ b ∷ [] ≡ beginning ++ more →
     (beginning ≡ xs ++ b ∷ []) ⊎ ((m : List Bool) × (xs ≡ beginning ++ m))
 split_last xs [] more b e = inr (xs, refl)

@@ -198,7 +198,7 @@ goes_sending node start place next level here on next_is = record {
   counts_none = refl;
 }
 
--- which of these it is tells its state
+-- its state determines which of these it is
 pub in_plain : (node : Node) (level : Bool) → ((start place : ℕ) → node.state ≡ Transmitting start place → ⊥) →
     is_in_region node.state ≡ false → MayGoOn level node → is_plain level node.state ≡ true
 in_plain node level not outside (is_in is) = is

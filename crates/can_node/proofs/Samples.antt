@@ -33,12 +33,12 @@ use Rattle.can_node.specs.Episodes.Course.{recovered}
 use Rattle.can_node.specs.Episodes.Episode.{ends}
 use Rattle.can_node.specs.Histories.{Past, no_past, IsHistory, IsOnOutside}
 use Rattle.can_node.specs.Histories.Whole.{switched_on}
-use Rattle.can_node.specs.Machine.{Agrees, Lands, Advances, LeadsTo, Counts, InState, ReaderStands, listed, uneventful}
+use Rattle.can_node.specs.Machine.{Agrees, Lands, Advances, EventEffect, Counts, InState, ReaderStands, listed, uneventful}
 use Rattle.can_node.specs.Machine.{EndsIn, Steps, level_in, may_start, sof_of, with_bit}
 use Rattle.can_node.specs.Machine.Agrees.{in_sync, in_idle, in_take, in_send, in_last, in_active, in_overload}
 use Rattle.can_node.specs.Machine.Agrees.{in_passive, in_wait, in_delimiter, in_intermission, in_suspend, in_off}
 use Rattle.can_node.specs.Machine.Lands.{goes_on, is_over}
-use Rattle.can_node.specs.Machine.LeadsTo.{no_event, stays_on, goes_off}
+use Rattle.can_node.specs.Machine.EventEffect.{no_event, stays_on, goes_off}
 use Rattle.can_node.specs.Node.{StandsAfter, IsSample, IsWanting, IsSending}
 use Rattle.can_node.proofs.Starts.{sof_inside}
 use Rattle.can_node.proofs.Bits.{agrees_begun, in_state_history, course_uneventful, stands_on, stands_over, outside}
@@ -104,12 +104,12 @@ so_far : (old : State) (spelling : Spelling) (text : List Bool) (past : Past) (s
     past.events ++ event ∷ [] ≡ (st.done.events ++ st.counting) ++ event ∷ []
 so_far old spelling text past st event = ap (λ p. p.events ++ event ∷ []) st.past_is
 
--- a bit that does not lead to bus off
+-- a bit that does not cause bus off
 bit_on : (old new : State) (spelling : Spelling) (text after : List Bool) (past : Past) (pair : Pair)
     (event : Option ErrorEvent) (outcome : Outcome) (st : InState old spelling text past) →
     Lands new outcome after (st.done.first + length st.done.pairs) st.done.events st.phase (st.part ++ pair ∷ [])
     (st.counting ++ listed event) →
-    LeadsTo past.events event false → InState new spelling after (with_bit past pair event outcome)
+    EventEffect past.events event false → InState new spelling after (with_bit past pair event outcome)
 bit_on old new spelling text after past pair event outcome st lands no_event =
     uneventful_bit old new spelling text after past pair outcome st lands
 bit_on old new spelling text after past pair event outcome st lands (stays_on counted on) =
@@ -124,7 +124,7 @@ recovered_on events off =
     let is : true ≡ false = sym off ∙ ap is_off counts in
     cc
 
--- no event of bus off leads to bus off
+-- no event of bus off causes bus off
 not_again : (old new : State) (spelling : Spelling) (text after : List Bool) (past : Past) (pair : Pair)
     (event : ErrorEvent) (outcome : Outcome) (st : InState old spelling text past) →
     Lands new outcome after (st.done.first + length st.done.pairs) st.done.events st.phase (st.part ++ pair ∷ [])
@@ -143,12 +143,12 @@ not_again old new spelling text after past pair event outcome st (is_over next c
     (subst AreOff (append_assoc st.done.events st.counting (event ∷ []) ∙ ap (λ es. st.done.events ++ es) one)
     counts)
 
--- a bit that leads to bus off
+-- a bit that causes bus off
 bit_off : (old new : State) (spelling : Spelling) (text after : List Bool) (past : Past) (pair : Pair)
     (event : Option ErrorEvent) (outcome : Outcome) (st : InState old spelling text past) →
     Lands new outcome after (st.done.first + length st.done.pairs) st.done.events st.phase (st.part ++ pair ∷ [])
     (st.counting ++ listed event) →
-    LeadsTo past.events event true → InState (BusOffRecovery 0 0) spelling after (with_bit past pair event WentOff)
+    EventEffect past.events event true → InState (BusOffRecovery 0 0) spelling after (with_bit past pair event WentOff)
 bit_off old new spelling text after past pair event outcome st lands (goes_off counted off) =
     let counts : AreOff ((st.done.events ++ st.counting) ++ counted ∷ []) =
     subst AreOff (so_far old spelling text past st counted) off in
@@ -197,7 +197,7 @@ samples_on old new level transition errors shows advances counts state_is same c
             (sym same)
             (bit_on old.state transition.state old.spelling h.text left.after past pair transition.event
             transition.outcome st left.lands
-            ((counts past.events).leads h.counted)));
+            ((counts past.events).effect h.counted)));
         reads = subst (λ s. ReaderStands s new.reader left.after) (sym state_is) left.reads;
         clock_is = clock_is ∙ clock_next old past pair h;
         counted = (counts past.events).stands h.counted;
@@ -225,7 +225,7 @@ samples_off old new level transition errors shows advances counts state_is same 
             same)
             (bit_off old.state transition.state old.spelling h.text left.after past pair transition.event
             transition.outcome st left.lands
-            ((counts past.events).leads h.counted)));
+            ((counts past.events).effect h.counted)));
         reads = subst (λ s. ReaderStands s new.reader left.after) (sym state_is)
             (record { stands = λ is. absurd (cc is); reading = λ is. absurd (cc is) });
         clock_is = clock_is ∙ clock_next old past pair h;
@@ -326,9 +326,9 @@ stands_history node past h = in_state_history node.state node.spelling h.text pa
 pub counts_none : (counters : Counters) (event : Option ErrorEvent) → event ≡ None → (events : List ErrorEvent) →
     Counts counters counters event false events
 counts_none counters event is events = subst (λ e. Counts counters counters e false events) (sym is)
-    (record { stands = λ h. h ∙ ap counts_after (sym (append-nil events)); leads = λ h. no_event })
+    (record { stands = λ h. h ∙ ap counts_after (sym (append-nil events)); effect = λ h. no_event })
 
--- a bit that counts nothing and tells nothing
+-- a bit that counts nothing and reports nothing
 pub uneventful_steps_now : (state next : State) (counters : Counters) (old new : Reader) (spelling : Spelling) (now : ℕ)
     (level : Bool) →
     Advances state old spelling now (state_of (counts_of counters)) level (uneventful next) new →
@@ -348,10 +348,10 @@ pub uneventful_steps : (state next : State) (counters : Counters) (old new : Rea
 uneventful_steps state next counters old new spelling now level advances =
     uneventful_steps_now state next counters old new spelling now level (advances (state_of (counts_of counters)))
 
-leads_by : (events : List ErrorEvent) (event : ErrorEvent) (off b : Bool) → off ≡ b →
-    is_off (counts_after (events ++ event ∷ [])) ≡ b → LeadsTo events (Some event) off
-leads_by events event off true e is = subst (LeadsTo events (Some event)) (sym e) (goes_off event is)
-leads_by events event off false e is = subst (LeadsTo events (Some event)) (sym e) (stays_on event is)
+effect_by : (events : List ErrorEvent) (event : ErrorEvent) (off b : Bool) → off ≡ b →
+    is_off (counts_after (events ++ event ∷ [])) ≡ b → EventEffect events (Some event) off
+effect_by events event off true e is = subst (EventEffect events (Some event)) (sym e) (goes_off event is)
+effect_by events event off false e is = subst (EventEffect events (Some event)) (sym e) (stays_on event is)
 
 pub counts_some : (old new : Counters) (given : Option ErrorEvent) (event : ErrorEvent) (off : Bool) →
     given ≡ Some event →
@@ -360,7 +360,7 @@ pub counts_some : (old new : Counters) (given : Option ErrorEvent) (event : Erro
     (events : List ErrorEvent) → Counts old new given off events
 counts_some old new given event off is applies e events = subst (λ g. Counts old new g off events) (sym is) (record {
   stands = applies events;
-  leads = λ h. leads_by events event off (is_off (counts_of new)) e (ap is_off (sym (applies events h)));
+  effect = λ h. effect_by events event off (is_off (counts_of new)) e (ap is_off (sym (applies events h)));
 })
 
 -- the SOF of the frame that the node sends

@@ -19,17 +19,17 @@ use Rattle.can_node.specs.Waits.Recoveries.{no_run, one_more}
 use Rattle.can_node.specs.Episodes.{Course, Episode}
 use Rattle.can_node.specs.Episodes.Course.{synced, resumed, completed, lost, stuff_lost, unacknowledged, bit_differs}
 use Rattle.can_node.specs.Episodes.Course.{took, spoiled, recessive_last_bit, late_overload, flagged, overload_flagged}
-use Rattle.can_node.specs.Episodes.Course.{passive_flagged, delimited, cut_short, overloaded, rested, rested_sender}
+use Rattle.can_node.specs.Episodes.Course.{passive_flagged, delimited, truncated, overloaded, intermission_ended, intermission_suspended}
 use Rattle.can_node.specs.Episodes.Course.{pressed, hurried, waited, overtaken, recovered}
 use Rattle.can_node.specs.Episodes.Episode.{begun, joined, ends, off_within, off_at_end}
 use Rattle.can_node.specs.Histories.{Past, Whole, begins}
 use Rattle.can_node.specs.Histories.Whole.{switched_on, then}
 use Rattle.can_node.specs.Node.{with_begin, IsSending}
-use Rattle.can_node.specs.Cuts.{IsAttempt}
+use Rattle.can_node.specs.Splits.{IsAttempt}
 use Rattle.can_node.specs.Copies.{sampled_in}
 use Rattle.can_node.specs.Attempts.{first_bit}
 use Rattle.can_node.proofs.Texts.{sampled_append, sampled_listening, sof_place}
-use Rattle.can_node.proofs.Heard.{leads_grows}
+use Rattle.can_node.proofs.Heard.{continues_grows}
 
 -- the last level that was sampled
 abbrev EndsIn : List Pair → Bool → Type 0
@@ -128,10 +128,10 @@ course_sofs past (flagged role levels size) = tt
 course_sofs past (overload_flagged role levels size) = tt
 course_sofs past (passive_flagged owed role levels level before six) = tt
 course_sofs past (delimited kind role run n) = tt
-course_sofs past {pairs = all} (cut_short kind role run n k some below) = flag_sofs past.first (past.pairs ++ all) _ _ _
+course_sofs past {pairs = all} (truncated kind role run n k some below) = flag_sofs past.first (past.pairs ++ all) _ _ _
 course_sofs past (overloaded kind role run n) = tt
-course_sofs past (rested role goes) = ends_recessive past.pairs [] 2
-course_sofs past (rested_sender role waits) = tt
+course_sofs past (intermission_ended role goes) = ends_recessive past.pairs [] 2
+course_sofs past (intermission_suspended role waits) = tt
 course_sofs past (pressed role k below) = tt
 course_sofs past (hurried role) =
     λ e. (
@@ -169,7 +169,7 @@ one_sof past other start sof first same (inl a) (inr b) =
 one_sof past other start sof first same (inr a) (inl b) =
     absurd (let there : EndsIn other.pairs false = subst (λ p. EndsIn p false) same a.0 in cc (there, b.0))
 
--- a node that tells an SOF sends
+-- a node that reports an SOF sends
 record SendsFrom (phase : Phase) (sof : ℕ) : Type 0 where
   given : List Bool
   frame : FrameValue
@@ -204,7 +204,7 @@ no_more : {X : Type 0} (xs ys : List X) → length (xs ++ ys) ≡ length xs → 
 no_more xs [] e = append-nil xs
 no_more xs (y ∷ ys) e = absurd (omega (arith, e, length-append xs (y ∷ ys)))
 
--- the SOF that a node tells when it begins to send
+-- the SOF that a node reports when it begins to send
 begun_sof : (before : Past) (frame : FrameValue) (sof : ℕ) → IsSending (with_begin before frame) (Some sof) →
     IsSof before.first before.pairs sof
 begun_sof before frame sof h =
@@ -253,7 +253,7 @@ pub starts_are_sofs : (past before : Past) (more : List Pair) (start sof end : �
     first_bit attempt ≡ before.first + length before.pairs → IsSending (with_begin before given) (Some sof) →
     sof ≡ start
 starts_are_sofs past before more start sof end frame given state outcome attempt first pairs place sending =
-    let g = leads_grows attempt.here.leads in
+    let g = continues_grows attempt.here.continues in
     let done : attempt.done.first ≡ before.first = sym g.first_is ∙ first in
     let whole : attempt.done.pairs ++ (attempt.pairs ++ g.more) ≡ before.pairs ++ more =
     sym (append_assoc attempt.done.pairs attempt.pairs g.more) ∙ sym g.pairs_are ∙ pairs in

@@ -1,4 +1,4 @@
--- The bits with which a history notes what it begins and what it tells: each stands inside of its episode.
+-- The bits with which a history notes what it begins and what it reports: each is within its episode.
 use Rattle.std.proofs.Common.{◌≡◌, inl, inr, ◌⊎◌, ℕ, zero, suc, ◌+◌, ◌-◌, ◌≤◌, Bool, true, List, [], ◌∷◌, ◌++◌, length}
 use Rattle.std.proofs.Common.{sym, ap, subst, arith, ◌∙◌}
 use Rattle.std.specs.List.{Contains}
@@ -18,8 +18,8 @@ use Rattle.can_node.specs.Episodes.Course.{synced}
 use Rattle.can_node.specs.Episodes.Episode.{ends, off_within, off_at_end}
 use Rattle.can_node.specs.Histories.{Past, Whole, noted, begins}
 use Rattle.can_node.specs.Histories.Whole.{switched_on, then}
-use Rattle.can_node.specs.Cuts.{Onward, Leads}
-use Rattle.can_node.specs.Cuts.Onward.{stays, goes_on}
+use Rattle.can_node.specs.Splits.{Onward, Continues}
+use Rattle.can_node.specs.Splits.Onward.{stays, goes_on}
 
 pub one_noted : {X : Type 0} (x y : X) → Contains (x ∷ []) y → x ≡ y
 one_noted x y (zero, within, e) = e
@@ -93,15 +93,15 @@ some_bits (switched_on first) episode = sync_some episode
 some_bits {pairs = more} (then {past = past} {pairs = pairs} whole episode) last =
     omega (arith, some_bits whole episode, length-append (past.pairs ++ pairs) more)
 
--- what whole episodes tell stands before their end
-pub told_before : {past : Past} {phase : Phase} (bit : ℕ) (outcome : Outcome) → Whole past phase →
+-- what whole episodes report has a bit before their end
+pub reported_before : {past : Past} {phase : Phase} (bit : ℕ) (outcome : Outcome) → Whole past phase →
     Contains past.outcomes (bit, outcome) → bit + 1 ≤ past.first + length past.pairs
-told_before bit outcome (switched_on first) c = absurd (omega (arith, c.1))
-told_before bit outcome (then {past = past} {pairs = pairs} {outcome = told} whole episode) c =
-    elim (Contains-append_cases past.outcomes (noted (past.first + length (past.pairs ++ pairs) - 1) told)
+reported_before bit outcome (switched_on first) c = absurd (omega (arith, c.1))
+reported_before bit outcome (then {past = past} {pairs = pairs} {outcome = reported} whole episode) c =
+    elim (Contains-append_cases past.outcomes (noted (past.first + length (past.pairs ++ pairs) - 1) reported)
     (bit, outcome) c) [
-      | inl before ↦ omega (arith, told_before bit outcome whole before, length-append past.pairs pairs)
-      | inr now ↦ (let n = noted_is (past.first + length (past.pairs ++ pairs) - 1) bit told outcome now in
+      | inl before ↦ omega (arith, reported_before bit outcome whole before, length-append past.pairs pairs)
+      | inr now ↦ (let n = noted_is (past.first + length (past.pairs ++ pairs) - 1) bit reported outcome now in
           omega (arith, n.0, some_bits whole episode))
     ]
 
@@ -116,17 +116,17 @@ begun_before bit frame (then {past = past} {phase = phase} {pairs = pairs} whole
           omega (arith, b.bit_is, length-append past.pairs pairs))
     ]
 
--- what is told behind a place of the history comes no earlier than the bit before that place
-told_onward : {from to : Past} {phase last : Phase} (bit : ℕ) (outcome : Outcome) → Onward from phase to last →
+-- what is reported after a place of the history comes no earlier than the bit before that place
+reported_onward : {from to : Past} {phase last : Phase} (bit : ℕ) (outcome : Outcome) → Onward from phase to last →
     Contains to.outcomes (bit, outcome) →
     Contains from.outcomes (bit, outcome) ⊎ (from.first + length from.pairs ≤ bit + 1)
-told_onward bit outcome stays c = inl c
-told_onward bit outcome (goes_on {past = past} {pairs = pairs} {outcome = told} episode onward) c =
-    elim (told_onward bit outcome onward c) [
+reported_onward bit outcome stays c = inl c
+reported_onward bit outcome (goes_on {past = past} {pairs = pairs} {outcome = reported} episode onward) c =
+    elim (reported_onward bit outcome onward c) [
       | inl here ↦ elim (Contains-append_cases past.outcomes
-          (noted (past.first + length (past.pairs ++ pairs) - 1) told) (bit, outcome) here) [
+          (noted (past.first + length (past.pairs ++ pairs) - 1) reported) (bit, outcome) here) [
             | inl before ↦ inl before
-            | inr now ↦ (let n = noted_is (past.first + length (past.pairs ++ pairs) - 1) bit told outcome now in
+            | inr now ↦ (let n = noted_is (past.first + length (past.pairs ++ pairs) - 1) bit reported outcome now in
                 inr (omega (arith, n.0, length-append past.pairs pairs)))
           ]
       | inr later ↦ inr (omega (arith, later, length-append past.pairs pairs))
@@ -156,15 +156,15 @@ longer (goes_on {past = past} {pairs = pairs} episode onward) =
     omega (arith, longer onward, length-append past.pairs pairs)
 
 -- the same of a whole history behind a place of it
-pub told_behind : {from past : Past} {phase : Phase} (bit : ℕ) (outcome : Outcome) → Leads from phase past →
+pub reported_behind : {from past : Past} {phase : Phase} (bit : ℕ) (outcome : Outcome) → Continues from phase past →
     Contains past.outcomes (bit, outcome) →
     Contains from.outcomes (bit, outcome) ⊎ (from.first + length from.pairs ≤ bit + 1)
-told_behind bit outcome h c =
-    told_onward bit outcome h.onward
+reported_behind bit outcome h c =
+    reported_onward bit outcome h.onward
     (subst (λ os. Contains os (bit, outcome)) (ap (λ (p : Past). p.outcomes) h.past_is ∙ append-nil h.to.outcomes)
     c)
 
-pub begun_behind : {from past : Past} {phase : Phase} (bit : ℕ) (frame : FrameValue) → Leads from phase past →
+pub begun_behind : {from past : Past} {phase : Phase} (bit : ℕ) (frame : FrameValue) → Continues from phase past →
     Contains past.begun (bit, frame) →
     Contains from.begun (bit, frame) ⊎ (from.first + length from.pairs ≤ bit)
 begun_behind bit frame h c =

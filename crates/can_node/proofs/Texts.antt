@@ -19,7 +19,7 @@ use Rattle.can_node.specs.Phases.Phase.{Send, Take}
 use Rattle.can_node.specs.Episodes.{Course, Episode}
 use Rattle.can_node.specs.Episodes.Course.{synced, resumed, completed, lost, stuff_lost, unacknowledged, bit_differs}
 use Rattle.can_node.specs.Episodes.Course.{took, spoiled, recessive_last_bit, late_overload, flagged, overload_flagged}
-use Rattle.can_node.specs.Episodes.Course.{passive_flagged, delimited, cut_short, overloaded, rested, rested_sender}
+use Rattle.can_node.specs.Episodes.Course.{passive_flagged, delimited, truncated, overloaded, intermission_ended, intermission_suspended}
 use Rattle.can_node.specs.Episodes.Course.{pressed, hurried, waited, overtaken, recovered}
 use Rattle.can_node.specs.Episodes.Episode.{begun, joined, ends, off_within, off_at_end}
 use Rattle.can_node.specs.Histories.{Past, Whole, with_episode}
@@ -123,7 +123,7 @@ sof_behind past n after first is = record {
   start_is = sof_place past.first n past.pairs after.first first;
 }
 
--- where an episode leads to the beginning of a send or a take, that is what it sampled from there on
+-- where a send or a take begins after an episode, that is what it sampled from there on
 course_starts : (past : Past) {phase next : Phase} {pairs : List Pair} {events : List ErrorEvent} {outcome : Outcome} →
     Starts past phase →
     Course (past.first + length past.pairs) past.events phase pairs events outcome next →
@@ -149,10 +149,10 @@ course_starts past h (flagged role levels size) = tt
 course_starts past h (overload_flagged role levels size) = tt
 course_starts past h (passive_flagged owed role levels level before six) = tt
 course_starts past h (delimited kind role run n) = tt
-course_starts past h (cut_short kind role run n k some below) = flag_starts _ _ _ _
+course_starts past h (truncated kind role run n k some below) = flag_starts _ _ _ _
 course_starts past h (overloaded kind role run n) = tt
-course_starts past h (rested role goes) = tt
-course_starts past h (rested_sender role waits) = tt
+course_starts past h (intermission_ended role goes) = tt
+course_starts past h (intermission_suspended role waits) = tt
 course_starts past h (pressed role k below) = tt
 course_starts past h (hurried role) = sof_behind past 2 _ refl refl
 course_starts past h waited = tt

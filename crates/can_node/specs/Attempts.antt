@@ -1,4 +1,4 @@
--- The attempts of a history: at which bits they stand, and what is begun and told there.
+-- The attempts of a history: their bits, and what is begun and reported at them.
 use Rattle.std.specs.Prelude.{◌≡◌, ℕ, ◌+◌, ◌<◌, ◌≤◌, ◌⊎◌, Bool, Some, List, ◌++◌, length}
 use Rattle.std.specs.List.{Contains}
 use Rattle.can_frame.specs.Frames.{FrameValue}
@@ -9,7 +9,7 @@ use Rattle.can_node.specs.Pairs.{Pair}
 use Rattle.can_node.specs.Phases.Phase.{Send}
 use Rattle.can_node.specs.Histories.{Past, IsHistory}
 use Rattle.can_node.specs.Node.{with_begin, IsSending}
-use Rattle.can_node.specs.Cuts.{HasLast, IsAttempt}
+use Rattle.can_node.specs.Splits.{HasLast, IsAttempt}
 
 -- the bit at which an attempt drives its first level
 abbrev pub first_bit : {past : Past} {start : ℕ} {frame : FrameValue} {state : ErrorState} {end : ℕ}
@@ -36,24 +36,23 @@ pub record IsOpenAttempt (past : Past) (bit : ℕ) (frame : FrameValue) : Type 0
   pub here : HasLast past done (Send start given frame) part counting
   pub first_is : done.first + length done.pairs ≡ bit
 
--- From one bit to another a node does nothing but send one frame: it is begun at the first of these bits, what becomes
--- of
--- it is told at the last, and nothing else is begun or told between.
+-- From one bit to another a node does nothing but send one frame: the frame is begun at the first of these bits, its
+-- outcome is reported at the last, and nothing else is begun or reported between them.
 pub record SendsAlone (past : Past) (first end : ℕ) (frame : FrameValue) (outcome : Outcome) : Type 0 where
   pub in_order : first ≤ end
   pub begun : Contains past.begun (first, frame)
-  pub told : Contains past.outcomes (end, outcome)
+  pub reported : Contains past.outcomes (end, outcome)
   pub none_begun : (bit : ℕ) (other : FrameValue) → first < bit → bit ≤ end → Contains past.begun (bit, other) → ⊥
-  pub none_told : (bit : ℕ) (other : Outcome) → first ≤ bit → bit < end → Contains past.outcomes (bit, other) → ⊥
+  pub none_reported : (bit : ℕ) (other : Outcome) → first ≤ bit → bit < end → Contains past.outcomes (bit, other) → ⊥
 
--- so it is with each attempt
+-- each attempt of a history is sent alone
 abbrev pub AttemptsStandAlone : Type 0
 AttemptsStandAlone = (past : Past) (start end : ℕ) (frame : FrameValue) (state : ErrorState) (outcome : Outcome) →
     (attempt : IsAttempt past start frame state end outcome) → SendsAlone past (first_bit attempt) end frame outcome
 
--- and from the first bit of one that goes on nothing is told
-abbrev pub OpenAttemptsTellNothing : Type 0
-OpenAttemptsTellNothing = (past : Past) (first : ℕ) (frame : FrameValue) → IsOpenAttempt past first frame →
+-- from the first bit of an attempt that goes on, nothing is reported
+abbrev pub OpenAttemptsReportNothing : Type 0
+OpenAttemptsReportNothing = (past : Past) (first : ℕ) (frame : FrameValue) → IsOpenAttempt past first frame →
     (bit : ℕ) (outcome : Outcome) → first ≤ bit → Contains past.outcomes (bit, outcome) → ⊥
 
 -- what a node begins to send becomes an attempt, or goes on where the history ends
@@ -62,7 +61,7 @@ FramesBegunAreAttempts = (past : Past) (bit : ℕ) (frame : FrameValue) → IsHi
     Contains past.begun (bit, frame) →
     IsAttemptFrom past bit frame ⊎ IsOpenAttempt past bit frame
 
--- The start of an attempt is the SOF that the node told when it began, in whatever cutting of its history up to there.
+-- The start of an attempt is the SOF that the node reported when it began, however its history up to there is split.
 abbrev pub StartsAreSofs : Type 0
 StartsAreSofs = (past before : Past) (more : List Pair) (start sof end : ℕ) (frame begun : FrameValue)
     (state : ErrorState) (outcome : Outcome) →

@@ -157,7 +157,7 @@ pub data Course : (at : ℕ) (before : List ErrorEvent) → Phase → List Pair 
       Course at before (Delimiter kind role run) (listening (dominant n ++ recessive 8))
       (dominant_events kind role run n) Nothing (Intermission role)
   -- a dominant level in the place of the second to the seventh of these is an error
-  cut_short : {at : ℕ} {before : List ErrorEvent} (kind : FlagKind) (role : Role) (run n k : ℕ) → 0 < k → k < 7 →
+  truncated : {at : ℕ} {before : List ErrorEvent} (kind : FlagKind) (role : Role) (run n k : ℕ) → 0 < k → k < 7 →
       Course at before (Delimiter kind role run) (listening (dominant n ++ recessive k ++ false ∷ []))
       (dominant_events kind role run n ++ error_of role ∷ [])
       (Errored Form) (flag_of (state_after (before ++ dominant_events kind role run n)) [] role)
@@ -167,9 +167,9 @@ pub data Course : (at : ℕ) (before : List ErrorEvent) → Phase → List Pair 
       (dominant_events kind role run n)
       Nothing (OverloadFlag role)
   -- intermission: three recessive levels, behind which an error-passive sender waits and the bus is free else
-  rested : {at : ℕ} {before : List ErrorEvent} (role : Role) → suspends role (state_after before) ≡ false →
+  intermission_ended : {at : ℕ} {before : List ErrorEvent} (role : Role) → suspends role (state_after before) ≡ false →
       Course at before (Intermission role) (listening (recessive 3)) [] Nothing Idle
-  rested_sender : {at : ℕ} {before : List ErrorEvent} (role : Role) → suspends role (state_after before) ≡ true →
+  intermission_suspended : {at : ℕ} {before : List ErrorEvent} (role : Role) → suspends role (state_after before) ≡ true →
       Course at before (Intermission role) (listening (recessive 3)) [] Nothing Suspend
   -- a dominant first or second bit begins an overload frame
   pressed : {at : ℕ} {before : List ErrorEvent} (role : Role) (k : ℕ) → k < 2 →

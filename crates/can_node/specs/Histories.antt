@@ -10,7 +10,7 @@ use Rattle.can_node.specs.Phases.{Phase, wants_start}
 use Rattle.can_node.specs.Phases.Phase.{Sync, Send, BusOff}
 use Rattle.can_node.specs.Episodes.{Begun, Episode, AreOn}
 
--- an outcome with its bit, where there is something to tell
+-- an outcome with its bit, where there is something to report
 abbrev pub noted : ℕ → Outcome → List (ℕ × Outcome)
 noted at Nothing = []
 noted at (Took start frame) = (at, Took start frame) ∷ []
@@ -40,7 +40,7 @@ pub record Past : Type 0 where
   pub events : List ErrorEvent
   -- the frames that it began to send, each with the first bit that it drives of it
   pub begun : List (ℕ × FrameValue)
-  -- what it told, each with its bit
+  -- what it reported, each with its bit
   pub outcomes : List (ℕ × Outcome)
 
 -- a node that has just been switched on
@@ -57,7 +57,7 @@ with_episode past phase pairs events outcome = record {
   outcomes = past.outcomes ++ noted (past.first + length (past.pairs ++ pairs) - 1) outcome;
 }
 
--- whole episodes from the node's first bit on, and the phase that they lead to
+-- whole episodes from the node's first bit on, and the phase after them
 pub data Whole : Past → Phase → Type 0 where
   switched_on : (first : ℕ) → Whole (no_past first) Sync
   then : {past : Past} {phase next : Phase} {pairs : List Pair} {events : List ErrorEvent} {outcome : Outcome} →

@@ -9,8 +9,8 @@ pub mod Histories
 pub mod Machine
 pub mod Node
 pub mod SharedReceiver
-pub mod Cuts
+pub mod Splits
 pub mod Copies
 pub mod Attempts
-pub mod Cuttings
+pub mod UniqueSplits
 pub mod PlainBits

@@ -212,7 +212,7 @@ abbrev pub listed : Option ErrorEvent → List ErrorEvent
 listed None = []
 listed (Some event) = event ∷ []
 
--- Where a bit leaves a node, if its event does not lead to bus off: the episode goes on, or it has run its
+-- Where a bit leaves a node, if its event does not cause bus off: the episode goes on, or it has run its
 -- course. A reader has read the text `after` then.
 pub data Lands (new : State) (outcome : Outcome) (after : List Bool) (at : ℕ) (before : List ErrorEvent)
     (phase : Phase) (pairs : List Pair) (events : List ErrorEvent) : Type 0 where
@@ -279,7 +279,7 @@ Advances state old spelling now errors level transition new =
     LandsWith transition new at before phase (part ++ record { driven = level_in state spelling; sampled = level } ∷ [])
     (events ++ listed transition.event)
 
--- the transition that leads to this state, counts nothing and reports nothing
+-- the transition to this state that counts nothing and reports nothing
 abbrev pub uneventful : State → Transition
 uneventful state = record { state = state; event = None; outcome = Nothing }
 
@@ -300,19 +300,19 @@ pub record LosesAt (place : ℕ) (spelling : Spelling) : Type 0 where
   pub drives : level_at spelling place ≡ true
   pub elsewhere : place + 9 ≡ length spelling.levels.items → ⊥
 
--- what an event leads to behind the events before it, and whether that is bus off
-pub data LeadsTo (events : List ErrorEvent) : Option ErrorEvent → Bool → Type 0 where
-  no_event : LeadsTo events None false
-  stays_on : (event : ErrorEvent) → AreOn (events ++ event ∷ []) → LeadsTo events (Some event) false
-  goes_off : (event : ErrorEvent) → AreOff (events ++ event ∷ []) → LeadsTo events (Some event) true
+-- the effect of an event after the events before it: whether the node is then in bus off
+pub data EventEffect (events : List ErrorEvent) : Option ErrorEvent → Bool → Type 0 where
+  no_event : EventEffect events None false
+  stays_on : (event : ErrorEvent) → AreOn (events ++ event ∷ []) → EventEffect events (Some event) false
+  goes_off : (event : ErrorEvent) → AreOff (events ++ event ∷ []) → EventEffect events (Some event) true
 
 -- the counters have counted the event too, if there is one
 pub record Counts (old new : Counters) (event : Option ErrorEvent) (off : Bool)
     (events : List ErrorEvent) : Type 0 where
   pub stands : StandsAfter old events → StandsAfter new (events ++ listed event)
-  pub leads : StandsAfter old events → LeadsTo events event off
+  pub effect : StandsAfter old events → EventEffect events event off
 
--- where a transition leaves a node, by whether its event leads to bus off: the state, and what is told
+-- the state and the outcome after a transition, by whether its event causes bus off
 abbrev pub EndsIn : Bool → Transition → State → Outcome → Type 0
 EndsIn true transition state outcome = (state ≡ BusOffRecovery 0 0) × (outcome ≡ WentOff)
 EndsIn false transition state outcome = (state ≡ transition.state) × (outcome ≡ transition.outcome)
@@ -323,8 +323,8 @@ pub record IsMade (transition : Transition) (old new : Counters) (state : State)
   pub counts : (events : List ErrorEvent) → Counts old new transition.event off events
   pub ends_in : EndsIn off transition state outcome
 
--- What a bit at which a node samples this level makes of its state, its counters and its reader, and what it
--- tells.
+-- What a bit at which a node samples this level makes of its state, its counters and its reader, and what the node
+-- reports at it.
 pub record Steps (state : State) (counters : Counters) (reader : Reader) (spelling : Spelling) (now : ℕ)
     (level : Bool) (outcome : Outcome) (new_state : State) (new_counters : Counters)
     (new_reader : Reader) : Type 0 where

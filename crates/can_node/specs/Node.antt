@@ -50,7 +50,7 @@ with_begin past frame = record {
 }
 
 -- What a bit does, whatever past the node stands after: it stands after that past and one more bit, at which
--- it drove this level and sampled that one, counted an event or none, and told this outcome.
+-- it drove this level and sampled that one, counted an event or none, and reported this outcome.
 pub record IsSample (old : Node) (level : Bool) (outcome : Outcome) (new : Node) : Type 0 where
   pub event : Option ErrorEvent
   pub stands : (past : Past) → StandsAfter old past →

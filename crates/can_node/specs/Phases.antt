@@ -1,4 +1,4 @@
--- What a node does next: the episodes into which its history is cut.
+-- What a node does next: the episodes into which its history is split.
 use Rattle.std.specs.Prelude.{ℕ, Bool, true, false, Option, Some, None, List, []}
 use Rattle.can_frame.specs.Frames.{FrameValue}
 use Rattle.can_node.specs.Pairs.{Pair}

@@ -1,12 +1,12 @@
 -- The shared receiver: one state and one reader in place of nodes that listen to one line and have come equally far.
-use Rattle.std.specs.Prelude.{◌≡◌, ◌⊎◌, ℕ, ◌+◌, ◌||◌, nat_eq, Bool, true, false, None, Some, IfSome, List, [], ◌∷◌}
+use Rattle.std.specs.Prelude.{◌≡◌, ◌⊎◌, ℕ, ◌+◌, ◌||◌, Bool, true, false, None, Some, IfSome, List, [], ◌∷◌}
 use Rattle.std.specs.Prelude.{◌++◌}
 use Rattle.can_confinement.specs.Counters.{StandsAfter as CountersStandAfter}
 use Rattle.can_confinement.specs.declared.confinement.ErrorEvent.{ErrorEvent}
 use Rattle.can_confinement.specs.declared.confinement.ErrorEvent.TheVariants.{Received}
 use Rattle.can_node.specs.declared.outcome.Outcome.TheVariants.{Nothing, Took}
 use Rattle.can_node.specs.declared.state.State.{State}
-use Rattle.can_node.specs.declared.state.State.TheVariants.{LastEofBit, InDelimiter, Receiving}
+use Rattle.can_node.specs.declared.state.State.TheVariants.{LastEofBit, Receiving}
 use Rattle.can_node.specs.declared.state.Stage.TheVariants.{AfterSlot}
 use Rattle.can_node.specs.declared.shared_sample.HeardLevel.{HeardLevel}
 use Rattle.can_node.specs.declared.shared_sample.SharedSample.{SharedSample}
@@ -19,7 +19,7 @@ use Rattle.can_node.specs.declared.shared_receiver.SharedReceiver.{SharedReceive
 use Rattle.can_confinement.specs.KnownCounts.{Knows}
 use Rattle.can_confinement.specs.declared.known_counts.KnownCounts.{KnownCounts}
 use Rattle.can_confinement.specs.declared.known_counts.KnownCounts.TheVariants.{Zero}
-use Rattle.can_node.specs.Histories.{Past, IsHistory}
+use Rattle.can_node.specs.Histories.{Past}
 use Rattle.can_confinement.specs.declared.confinement.ErrorState.{ErrorState}
 use Rattle.can_node.specs.Machine.{GoesReading, is_in_region, is_sending, listens}
 use Rattle.can_node.specs.Node.{StandsAfter, IsSample, bit_of, counters_in, driven_by, may_begin}
@@ -88,7 +88,7 @@ pub record Matches (node : Node) (shared_receiver : SharedReceiver) : Type 0 whe
 -- A transition that reports nothing, and changes no counter of a node of whose counters `known` holds: that a frame was
 -- received changes no counter that is 0.
 pub record IsUnseen (known : KnownCounts) (transition : Transition) : Type 0 where
-  pub tells_none : transition.outcome ≡ Nothing
+  pub reports_none : transition.outcome ≡ Nothing
   pub counts_none : (transition.event ≡ None) ⊎ ((known ≡ Zero) × (transition.event ≡ Some Received))
   pub sends_none : is_sending transition.state ≡ false
 

@@ -3,7 +3,7 @@
 
 ghost use Rattle.can_node.specs.Attempts.{
   AttemptsStandAlone,
-  OpenAttemptsTellNothing,
+  OpenAttemptsReportNothing,
   FramesBegunAreAttempts,
   StartsAreSofs,
 };
@@ -15,7 +15,7 @@ ghost use Rattle.can_node.specs.Copies.{
   CompletionsAreAttempts,
   FramesTakenAreTakes,
 };
-ghost use Rattle.can_node.specs.Cuttings.{OneCutting, OneEpisode, OneWanting, OneSending};
+ghost use Rattle.can_node.specs.UniqueSplits.{OneSplit, OneEpisode, OneWanting, OneSending};
 
 /// A sender and a receiver on one line. An error of a sender that is error active comes not before the bit at
 /// which the receiver took the frame of that attempt, or any frame that it was reading then, if the
@@ -32,29 +32,30 @@ pub fn completed_sends_are_taken()
     ensures none_open { CompletedLeaveNoTakeOpen }
 {}
 
-/// What a history tells has its episode, however it is cut: a completion an attempt, a frame taken a take.
+/// Each completion that a history reports is the end of an attempt, and each received frame the end of a take.
 pub fn outcomes_have_episodes()
     ensures completed { CompletionsAreAttempts }
     ensures taken { FramesTakenAreTakes }
 {}
 
-/// What a node begins to send becomes an attempt, however its history is cut, or goes on where the history ends. From
-/// the first bit of an attempt to its last nothing else is begun or told; of one that goes on nothing is told.
+/// Each frame that a node begins to send becomes an attempt, or is still being sent where the history ends. From the
+/// first bit of an attempt to its last, nothing else is begun or reported. Nothing is reported of an attempt that goes
+/// on.
 pub fn attempts_stand_alone()
     ensures attempts { AttemptsStandAlone }
-    ensures goes_on { OpenAttemptsTellNothing }
+    ensures goes_on { OpenAttemptsReportNothing }
     ensures begun { FramesBegunAreAttempts }
 {}
 
-/// The start of an attempt, however a history is cut, is the SOF that its node told when it began to send.
+/// The start of an attempt is the SOF that its node reported when it began to send.
 pub fn attempts_start_at_their_sof()
     ensures { StartsAreSofs }
 {}
 
-/// A past is cut into episodes in one way only: it ends in one, and no bit stands in two. So it tells whether
-/// its node wants to start, and the SOF of the frame that it sends.
-pub fn histories_are_cut_in_one_way()
-    ensures cutting { OneCutting }
+/// A past is split into episodes in one way only: it ends in one episode, and no bit belongs to two. The past alone
+/// determines whether its node wants to start, and the SOF of the frame that it sends.
+pub fn histories_are_split_in_one_way()
+    ensures split { OneSplit }
     ensures episode { OneEpisode }
     ensures wanting { OneWanting }
     ensures sending { OneSending }

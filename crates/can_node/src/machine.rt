@@ -2,154 +2,21 @@
 
 ghost use Rattle.std.specs.Prelude.{◌≡◌, ℕ, Bool, List, true, false, ◌∷◌, ◌++◌, []};
 ghost use Rattle.can_frame.specs.Reading.{StandsAfter, IsReading, IsPush};
-ghost use Rattle.can_node.specs.Machine.{
-  Goes,
-  Begins,
-  Counts,
-  IsMade,
-  StaysInRegion,
-  Steps,
-  behind_end,
-  is_in_region,
-  is_receiver,
-  is_taking,
-  is_sending,
-  level_in,
-  level_of,
-  listens,
-  may_start,
-  sof_of,
-  steps_alike,
-};
+ghost use Rattle.can_node.specs.Machine.{Goes, Begins, Counts, IsMade, StaysInRegion, Steps};
+ghost use Rattle.can_node.specs.Machine.{is_sending, is_taking, steps_alike};
 ghost use Rattle.can_node.specs.PlainBits.{IsPlain, steps_plainly};
 
 use crate::outcome::Outcome;
 use crate::plain_bits::count_on;
-use crate::sends::after_sending;
+use crate::sends::{SendPosition, after_sending};
 use crate::state::{Stage, State, Transition};
 use crate::takes::after_taking;
 use crate::transitions::{
     after_awaiting, after_bus_off, after_delimiting, after_flag, after_idle, after_intermission,
     after_last_bit, after_passive_flag, after_suspending, after_sync, plain,
 };
-use can_confinement::{Counters, ErrorEvent, ErrorState, Role};
+use can_confinement::{Counters, ErrorEvent, ErrorState};
 use can_frame::{Reader, Spelling, Step};
-
-/// Returns the level that a node in this state drives, if it sends no frame.
-pub(crate) fn level_of(state: State) -> bool
-    ensures { result ≡ level_of state }
-{
-    match state {
-        State::DominantFlag(_, _, _, _) => false,
-        State::Receiving(_, _, stage) => !stage.is_own_slot(),
-        _ => true,
-    }
-}
-
-/// Returns the level that a node in this state drives, with this wire image if it sends a frame.
-pub(crate) fn level_in(state: State, spelling: &Spelling) -> bool
-    ensures { result ≡ level_in state spelling.now }
-{
-    match state {
-        State::Transmitting(_, place) => spelling.level(place),
-        _ => level_of(state),
-    }
-}
-
-/// Returns whether a node in this state may begin to send at the next bit.
-pub(crate) fn may_start(state: State) -> bool
-    ensures { result ≡ may_start state }
-{
-    match state {
-        State::BusIdle => true,
-        State::Receiving(_, may_begin, _) => may_begin,
-        _ => false,
-    }
-}
-
-/// Returns the number of the SOF of the frame that a node in this state sends.
-pub(crate) fn sof_of(state: State) -> Option<u64>
-    ensures { result ≡ sof_of state }
-{
-    match state {
-        State::Transmitting(start, _) => Some(start),
-        _ => None,
-    }
-}
-
-/// Returns whether a node in this state may be deferred: it sends no frame, and has nothing left to do of a frame that
-/// it sent.
-pub(crate) fn listens(state: State) -> bool
-    ensures { result ≡ listens state }
-{
-    match state {
-        State::Transmitting(_, _) => false,
-        State::SuspendTransmission(_) => false,
-        State::BusOffRecovery(_, _) => false,
-        State::DominantFlag(_, role, _, _) => is_receiver(role),
-        State::PassiveErrorFlag(role, _, _, _) => is_receiver(role),
-        State::AwaitingDelimiter(_, role, _, _) => is_receiver(role),
-        State::InDelimiter(role, _) => is_receiver(role),
-        State::InIntermission(role, _) => is_receiver(role),
-        _ => true,
-    }
-}
-
-/// Returns whether this is the role of a receiver.
-pub(crate) fn is_receiver(role: Role) -> bool
-    ensures { result ≡ is_receiver role }
-{
-    match role {
-        Role::Receiver => true,
-        Role::Sender => false,
-    }
-}
-
-/// Returns whether a node in this state receives in the stuffed region of a frame, and may not begin to send instead.
-#[inline]
-pub(crate) fn is_in_region(state: State) -> bool
-    ensures { result ≡ is_in_region state }
-{
-    match state {
-        State::Receiving(_, may_begin, stage) => !may_begin && stage == Stage::Region,
-        _ => false,
-    }
-}
-
-/// Returns the state after a level behind the stuffed region with which the frame continues. `None` in the ACK slot,
-/// and where the node reads no end of a frame.
-pub(crate) fn behind_end(state: State) -> Option<State>
-    ensures { result ≡ behind_end state }
-{
-    match state {
-        State::Receiving(start, false, Stage::AfterRegion(right)) => {
-            Some(State::Receiving(start, false, Stage::Slot(right)))
-        }
-        State::Receiving(_, false, Stage::AfterSlot) => Some(state),
-        _ => None,
-    }
-}
-
-/// Returns whether a node in this state receives a frame.
-pub(crate) fn is_taking(state: State) -> bool
-    ensures { result ≡ is_taking state }
-{
-    matches!(state, State::Receiving(_, _, _))
-}
-
-/// Returns whether a level makes the same of a state that neither receives nor sends a frame in each error state.
-/// Returns false for a dominant level in any delimiter, and for the intermission after a frame of its own.
-pub(crate) fn steps_alike(state: State, level: bool) -> bool
-    ensures { result ≡ steps_alike level state }
-{
-    match state {
-        State::Receiving(_, _, _) => false,
-        State::Transmitting(_, _) => false,
-        State::InDelimiter(_, _) => level,
-        State::InIntermission(role, _) => is_receiver(role),
-        _ => true,
-    }
-}
 
 /// Returns what a level makes of a state that neither receives nor sends a frame.
 pub(crate) fn transition_of(state: State, now: u64, errors: ErrorState, level: bool) -> Transition
@@ -159,23 +26,34 @@ pub(crate) fn transition_of(state: State, now: u64, errors: ErrorState, level: b
     ensures plain { steps_plainly level state ≡ true → IsPlain result }
 {
     match state {
-        State::Integrating(ones) => after_sync(ones, level),
+        State::Integrating { ones } => after_sync(ones, level),
         State::BusIdle => after_idle(now, level),
         // for its reader to say, and for its spelling
-        State::Receiving(_, _, _) => plain(state),
-        State::Transmitting(_, _) => plain(state),
+        State::Receiving { .. } => plain(state),
+        State::Transmitting { .. } => plain(state),
         State::LastEofBit => after_last_bit(level),
-        State::DominantFlag(kind, role, sent, until) => after_flag(kind, role, sent, until, level),
-        State::PassiveErrorFlag(role, owes, ones, zeros) => {
-            after_passive_flag(role, owes, ones, zeros, level)
-        }
-        State::AwaitingDelimiter(kind, role, until, first) => after_awaiting(
-            kind, role, until, first, level,
-        ),
-        State::InDelimiter(role, ones) => after_delimiting(role, ones, errors, level),
-        State::InIntermission(role, ones) => after_intermission(role, ones, now, errors, level),
-        State::SuspendTransmission(ones) => after_suspending(ones, now, level),
-        State::BusOffRecovery(runs, ones) => after_bus_off(runs, ones, level),
+        State::DominantFlag {
+            kind,
+            role,
+            sent,
+            until,
+        } => after_flag(kind, role, sent, until, level),
+        State::PassiveErrorFlag {
+            role,
+            owes,
+            ones,
+            zeros,
+        } => { after_passive_flag(role, owes, ones, zeros, level) }
+        State::AwaitingDelimiter {
+            kind,
+            role,
+            until,
+            first,
+        } => after_awaiting(kind, role, until, first, level),
+        State::InDelimiter { role, ones } => after_delimiting(role, ones, errors, level),
+        State::InIntermission { role, ones } => after_intermission(role, ones, now, errors, level),
+        State::SuspendTransmission { ones } => after_suspending(ones, now, level),
+        State::BusOffRecovery { runs, ones } => after_bus_off(runs, ones, level),
     }
 }
 
@@ -216,7 +94,7 @@ fn stays_in_region(may_begin: bool, stage: Stage, step: &Step) -> bool
     }
 }
 
-/// Counts an event, if there is one. Returns whether it leads to bus off.
+/// Counts an event, if there is one. Returns whether it causes bus off.
 fn count(counters: &mut Counters, event: Option<ErrorEvent>) -> bool
     ensures { (events : List ErrorEvent) → Counts counters.old counters.new event result events }
 {
@@ -229,13 +107,13 @@ fn count(counters: &mut Counters, event: Option<ErrorEvent>) -> bool
     }
 }
 
-/// Makes a transition. Returns its outcome: bus off, if its event leads there.
+/// Makes a transition. Returns its outcome, or `WentOff` if its event causes bus off.
 pub(crate) fn make(transition: &Transition, state: &mut State, counters: &mut Counters) -> Outcome
     ensures { IsMade transition.now counters.old counters.new state.new result }
 {
     let went_off = count(counters, transition.event);
     if went_off {
-        *state = State::BusOffRecovery(0, 0);
+        *state = State::BusOffRecovery { runs: 0, ones: 0 };
         return Outcome::WentOff;
     }
     *state = transition.state;
@@ -269,17 +147,16 @@ fn transition_sending(
     counters: &mut Counters,
     reader: &mut Reader,
     spelling: &Spelling,
-    start: u64,
-    place: u8,
+    position: SendPosition,
     level: bool,
 ) -> Outcome
-    ensures { (now : ℕ) → Steps (State.Transmitting start place) counters.old reader.old spelling.now now level
-        result state.new counters.new reader.new }
+    ensures { (now : ℕ) → Steps (State.Transmitting position.start position.place) counters.old reader.old spelling.now
+        now level result state.new counters.new reader.new }
 {
     let errors = counters.state();
-    let transition = after_sending(start, place, spelling, errors, level);
-    if is_taking(transition.state) {
-        read_behind(reader, spelling.before(place), level);
+    let transition = after_sending(position, spelling, errors, level);
+    if transition.state.is_taking() {
+        read_behind(reader, spelling.before(position.place), level);
         return make(&transition, state, counters);
     }
     make(&transition, state, counters)
@@ -303,7 +180,7 @@ fn transition_outside(
     }
     let errors = counters.state();
     let transition = transition_of(*state, now, errors, level);
-    if is_taking(transition.state) {
+    if transition.state.is_taking() {
         *reader = reader_after_sof();
         return make(&transition, state, counters);
     }
@@ -328,27 +205,38 @@ pub(crate) fn advance(
     ensures { Steps state.old counters.old reader.old spelling.now now level result state.new counters.new reader.new }
 {
     match *state {
-        State::Receiving(start, may_begin, stage) => {
+        State::Receiving {
+            start,
+            may_begin,
+            stage,
+        } => {
             let step = reader.push(level);
             if stays_in_region(may_begin, stage, &step) {
                 return Outcome::Nothing;
             }
             transition_receiving(state, counters, start, stage, step, level)
         }
-        State::Transmitting(start, place) => {
+        State::Transmitting { start, place } => {
             if spelling.is_echo(place, level) {
-                *state = State::Transmitting(start, place.saturating_add(1));
+                *state = State::Transmitting {
+                    start,
+                    place: place.saturating_add(1),
+                };
                 return Outcome::Nothing;
             }
-            transition_sending(state, counters, reader, spelling, start, place, level)
+            let position = SendPosition { start, place };
+            transition_sending(state, counters, reader, spelling, position, level)
         }
         State::BusIdle if level => Outcome::Nothing,
-        State::BusOffRecovery(runs, _) if !level => {
-            *state = State::BusOffRecovery(runs, 0);
+        State::BusOffRecovery { runs, .. } if !level => {
+            *state = State::BusOffRecovery { runs, ones: 0 };
             Outcome::Nothing
         }
-        State::BusOffRecovery(runs, ones) if ones < 10 => {
-            *state = State::BusOffRecovery(runs, ones + 1);
+        State::BusOffRecovery { runs, ones } if ones < 10 => {
+            *state = State::BusOffRecovery {
+                runs,
+                ones: ones + 1,
+            };
             Outcome::Nothing
         }
         _ => transition_outside(state, counters, reader, now, level),
@@ -360,8 +248,11 @@ pub(crate) fn advance(
 pub(crate) fn begin(state: State, now: u64) -> State
     ensures { Begins state now result }
 {
-    if let State::Receiving(start, _, _) = state {
-        return State::Transmitting(start, 1);
+    if let State::Receiving { start, .. } = state {
+        return State::Transmitting { start, place: 1 };
     }
-    State::Transmitting(now, 0)
+    State::Transmitting {
+        start: now,
+        place: 0,
+    }
 }

@@ -13,9 +13,7 @@ ghost use Rattle.can_node.specs.PlainBits.{EndsOut, GoesOn, GoesOnBy, MayGoOn, M
 ghost use Rattle.can_node.specs.Node.{StandsAfter, IsSample, IsWanting, IsSending, bit_of, counters_in};
 ghost use Rattle.can_node.specs.Node.{driven_by, may_begin, sends_from, with_begin};
 
-use crate::machine::{
-    advance, begin, is_in_region, is_taking, level_in, listens, make, may_start, sof_of,
-};
+use crate::machine::{advance, begin, make};
 use crate::outcome::Outcome;
 use crate::plain_bits::{go_plainly, is_plain};
 use crate::shared_receiver::SharedReceiver;
@@ -49,7 +47,7 @@ impl Node {
         ensures bit { bit_of result ≡ from_bit }
     {
         Node {
-            state: State::Integrating(0),
+            state: State::Integrating { ones: 0 },
             reader: Reader::new(),
             spelling: Spelled::empty(),
             counters: Counters::new(),
@@ -78,7 +76,7 @@ impl Node {
         ensures is { result ≡ may_begin self.now }
         ensures wants { (past : Past) → StandsAfter self.now past → IsWanting past result }
     {
-        may_start(self.state)
+        self.state.may_start()
     }
 
     /// Returns what is known of its error counters, as much as there is to be known.
@@ -94,7 +92,7 @@ impl Node {
     pub fn is_listening(&self) -> bool
         ensures { result ≡ listens_in self.now }
     {
-        listens(self.state)
+        self.state.listens()
     }
 
     /// Returns a shared receiver with the state and the reader of this node.
@@ -124,8 +122,8 @@ impl Node {
             return false;
         }
         match self.state {
-            State::Transmitting(_, _) => false,
-            State::Receiving(_, _, _) => self.reader.reads_as(&shared_receiver.reader),
+            State::Transmitting { .. } => false,
+            State::Receiving { .. } => self.reader.reads_as(&shared_receiver.reader),
             _ => true,
         }
     }
@@ -187,7 +185,7 @@ impl Node {
         ensures clock { self.new.clock ≡ self.old.clock }
     {
         // otherwise the reader is not used any more
-        if is_taking(transition.state) {
+        if transition.state.is_taking() {
             self.reader.copy_from(reader);
         }
         make(transition, &mut self.state, &mut self.counters)
@@ -214,14 +212,14 @@ impl Node {
         ensures is { result ≡ sends_from self.now }
         ensures sends { (past : Past) → StandsAfter self.now past → IsSending past result }
     {
-        sof_of(self.state)
+        self.state.sof()
     }
 
     /// Returns the level that the node drives at the next bit, true being recessive.
     pub fn drive(&self) -> bool
         ensures { result ≡ driven_by self.now }
     {
-        level_in(self.state, self.spelling.spelling())
+        self.state.level_in(self.spelling.spelling())
     }
 
     /// Samples this level; the node has driven the one of `drive`. Returns what this bit brings to an end.
@@ -255,8 +253,8 @@ impl Node {
         ensures all { (past : Past) → StandsAfter self.now past → MayGoOn level self.now → result ≡ true }
     {
         match self.state {
-            State::Transmitting(_, place) => self.spelling.spelling().goes_on(place, level),
-            state if is_in_region(state) => self.reader.would_read_on(level),
+            State::Transmitting { place, .. } => self.spelling.spelling().goes_on(place, level),
+            state if state.is_in_region() => self.reader.would_read_on(level),
             state => is_plain(state, level),
         }
     }
@@ -270,11 +268,15 @@ impl Node {
     {
         let bit = self.clock;
         self.clock = bit + 1;
-        if let State::Transmitting(_start, sent) = &mut self.state {
+        if let State::Transmitting {
+            start: _start,
+            place: sent,
+        } = &mut self.state
+        {
             *sent = sent.saturating_add(1);
             return;
         }
-        if is_in_region(self.state) {
+        if self.state.is_in_region() {
             self.reader.read_on(level);
             return;
         }
@@ -289,7 +291,7 @@ impl Node {
         ensures all { length result.now ≡ min most (count_ahead self.now) }
     {
         match self.state {
-            State::Transmitting(_, place) => self.spelling.spelling().ahead(place, most),
+            State::Transmitting { place, .. } => self.spelling.spelling().ahead(place, most),
             _ => &[],
         }
     }
@@ -305,7 +307,7 @@ impl Node {
         ensures may { MayGoOnBy false (take result levels.now) self.now }
         ensures all { EndsOut self.now levels.now result }
     {
-        if is_in_region(self.state) {
+        if self.state.is_in_region() {
             return self.reader.would_read_on_by(levels);
         }
         count_out(&self.state, levels)
@@ -320,11 +322,15 @@ impl Node {
             → GoesOnBy is_sender self.old levels.now self.new }
     {
         self.clock += levels.len() as u64;
-        if let State::Transmitting(_start, place) = &mut self.state {
+        if let State::Transmitting {
+            start: _start,
+            place,
+        } = &mut self.state
+        {
             *place = place.saturating_add(levels.len() as u8);
             return;
         }
-        if is_in_region(self.state) {
+        if self.state.is_in_region() {
             let _ = self.reader.reads_on_by(levels);
             return;
         }

@@ -7,8 +7,8 @@ ghost use Rattle.can_confinement.specs.declared.counters.Counters.{Counters as C
 ghost use Rattle.can_node.specs.PlainBits.{LeavesPlainly, is_plain, out_behind, overlooks, stays_out};
 ghost use Rattle.can_node.specs.Machine.{is_sending};
 
-use crate::machine::{is_receiver, transition_of};
-use crate::state::State;
+use crate::machine::transition_of;
+use crate::state::{State, is_receiver};
 use crate::transitions::behind_passive_flag;
 use can_confinement::{Counters, Role};
 
@@ -28,13 +28,18 @@ pub(crate) fn is_plain(state: State, level: bool) -> bool
     ensures { result ≡ is_plain level state }
 {
     match state {
-        State::BusOffRecovery(runs, ones) => ones <= 9 || !level || runs <= 126,
-        State::PassiveErrorFlag(_, owes, _, _) => level || !owes,
-        State::DominantFlag(_, _, _, _) => !level,
-        State::AwaitingDelimiter(_, role, until, first) => level || overlooks(role, until, first),
-        State::InDelimiter(_, _) => level,
-        State::InIntermission(_, _) => level,
-        State::SuspendTransmission(_) => level,
+        State::BusOffRecovery { runs, ones } => ones <= 9 || !level || runs <= 126,
+        State::PassiveErrorFlag { owes, .. } => level || !owes,
+        State::DominantFlag { .. } => !level,
+        State::AwaitingDelimiter {
+            role,
+            until,
+            first,
+            ..
+        } => level || overlooks(role, until, first),
+        State::InDelimiter { .. } => level,
+        State::InIntermission { .. } => level,
+        State::SuspendTransmission { .. } => level,
         _ => false,
     }
 }
@@ -47,7 +52,13 @@ fn flag_on(state: &mut State) -> bool
     ensures sends_none { result ≡ true → is_sending state.new ≡ false }
     ensures other { result ≡ false → state.new ≡ state.old }
 {
-    if let State::DominantFlag(_kind, _role, sent, until) = state {
+    if let State::DominantFlag {
+        kind: _kind,
+        role: _role,
+        sent,
+        until,
+    } = state
+    {
         if *sent < 5 {
             *sent += 1;
             *until = until.saturating_sub(1);
@@ -56,7 +67,13 @@ fn flag_on(state: &mut State) -> bool
         return false;
     }
     // where it waits for the flags of others to end
-    if let State::AwaitingDelimiter(_kind, _role, until, first) = state {
+    if let State::AwaitingDelimiter {
+        kind: _kind,
+        role: _role,
+        until,
+        first,
+    } = state
+    {
         if !*first && *until >= 2 {
             *until -= 1;
             return true;
@@ -71,12 +88,12 @@ pub(crate) fn waits_on(state: State) -> bool
     ensures { result ≡ stays_out true state }
 {
     match state {
-        State::BusOffRecovery(runs, ones) => ones <= 9 || runs <= 126,
-        State::PassiveErrorFlag(_, _, ones, _) => ones <= 4,
-        State::AwaitingDelimiter(_, _, _, _) => true,
-        State::InDelimiter(_, _) => true,
-        State::InIntermission(role, ones) => ones <= 1 || is_receiver(role),
-        State::SuspendTransmission(_) => true,
+        State::BusOffRecovery { runs, ones } => ones <= 9 || runs <= 126,
+        State::PassiveErrorFlag { ones, .. } => ones <= 4,
+        State::AwaitingDelimiter { .. } => true,
+        State::InDelimiter { .. } => true,
+        State::InIntermission { role, ones } => ones <= 1 || is_receiver(role),
+        State::SuspendTransmission { .. } => true,
         _ => false,
     }
 }
@@ -117,15 +134,18 @@ fn wait_on(state: &mut State) -> bool
     ensures ends { result ≡ false → stays_out true state.old ≡ false }
     ensures other { result ≡ false → state.new ≡ state.old }
 {
-    if let State::InDelimiter(role, ones) = state {
+    if let State::InDelimiter { role, ones } = state {
         if *ones <= 6 {
             *ones += 1;
             return true;
         }
-        *state = State::InIntermission(*role, 0);
+        *state = State::InIntermission {
+            role: *role,
+            ones: 0,
+        };
         return true;
     }
-    if let State::InIntermission(role, ones) = state {
+    if let State::InIntermission { role, ones } = state {
         if *ones <= 1 {
             *ones += 1;
             return true;
@@ -136,11 +156,20 @@ fn wait_on(state: &mut State) -> bool
         }
         return false;
     }
-    if let State::AwaitingDelimiter(_kind, role, _until, _first) = state {
-        *state = State::InDelimiter(*role, 1);
+    if let State::AwaitingDelimiter {
+        kind: _kind,
+        role,
+        until: _until,
+        first: _first,
+    } = state
+    {
+        *state = State::InDelimiter {
+            role: *role,
+            ones: 1,
+        };
         return true;
     }
-    if let State::SuspendTransmission(ones) = state {
+    if let State::SuspendTransmission { ones } = state {
         if *ones <= 6 {
             *ones += 1;
             return true;
@@ -159,10 +188,16 @@ pub(crate) fn stay_on(state: &mut State, level: bool) -> bool
     ensures ends { result ≡ false → stays_out level state.old ≡ false }
     ensures other { result ≡ false → state.new ≡ state.old }
 {
-    if let State::BusOffRecovery(runs, ones) = state {
+    if let State::BusOffRecovery { runs, ones } = state {
         return stay_off(runs, ones, level);
     }
-    if let State::PassiveErrorFlag(_role, owes, ones, zeros) = state {
+    if let State::PassiveErrorFlag {
+        role: _role,
+        owes,
+        ones,
+        zeros,
+    } = state
+    {
         if level && *ones <= 4 {
             *ones += 1;
             *zeros = 0;
@@ -209,9 +244,12 @@ pub(crate) fn go_plainly(state: &mut State, counters: &Counters, now: u64, level
         return;
     }
     *state = match *state {
-        State::PassiveErrorFlag(role, owes, ones, zeros) => {
-            behind_passive_flag(role, owes, ones, zeros, level)
-        }
+        State::PassiveErrorFlag {
+            role,
+            owes,
+            ones,
+            zeros,
+        } => { behind_passive_flag(role, owes, ones, zeros, level) }
         other => transition_of(other, now, counters.state(), level).state,
     };
 }

@@ -16,6 +16,15 @@ use crate::transitions::{error_flag, plain};
 use can_confinement::{ErrorEvent, ErrorState, Role};
 use can_frame::{SendBit, Spelling};
 
+/// How far a node has transmitted a frame.
+#[derive(Clone, Copy)]
+pub(crate) struct SendPosition {
+    /// The number of the frame's SOF bit.
+    pub(crate) start: u64,
+    /// The index of the next level in the frame's wire image.
+    pub(crate) place: u8,
+}
+
 /// Nobody acknowledged the frame. An error-passive node counts the error only when it samples a dominant level in its
 /// flag.
 fn unacknowledged(errors: ErrorState) -> Transition
@@ -29,17 +38,22 @@ fn unacknowledged(errors: ErrorState) -> Transition
     let owed = None;
     match errors {
         ErrorState::Active => Transition {
-            state: State::DominantFlag(FlagKind::ActiveError, Role::Sender, 0, 14),
+            state: State::dominant_flag(FlagKind::ActiveError, Role::Sender),
             event: Some(ErrorEvent::SenderError),
             outcome,
         },
         ErrorState::Passive => Transition {
-            state: State::PassiveErrorFlag(Role::Sender, true, 0, 0),
+            state: State::PassiveErrorFlag {
+                role: Role::Sender,
+                owes: true,
+                ones: 0,
+                zeros: 0,
+            },
             event: owed,
             outcome,
         },
         ErrorState::Off => Transition {
-            state: State::BusOffRecovery(0, 0),
+            state: State::BusOffRecovery { runs: 0, ones: 0 },
             event: None,
             outcome,
         },
@@ -65,7 +79,7 @@ fn overruled(start: u64, bit: SendBit, errors: ErrorState) -> Transition
 {
     match bit {
         SendBit::Arbitration => Transition {
-            state: State::Receiving(start, false, Stage::Region),
+            state: State::receiving(start, Stage::Region),
             event: None,
             outcome: Outcome::Lost,
         },
@@ -81,31 +95,40 @@ fn overruled(start: u64, bit: SendBit, errors: ErrorState) -> Transition
 /// Returns what a level makes of a node that sends a frame: the level is the one that the node drives, but in the ACK
 /// slot; the first other one ends the frame.
 pub(crate) fn after_sending(
-    start: u64,
-    place: u8,
+    position: SendPosition,
     spelling: &Spelling,
     errors: ErrorState,
     level: bool,
 ) -> Transition
-    ensures goes { GoesSending start place spelling.now errors level result }
-    ensures lost { is_taking result.state ≡ true → LosesAt place spelling.now }
+    ensures goes { GoesSending position.start position.place spelling.now errors level result }
+    ensures lost { is_taking result.state ≡ true → LosesAt position.place spelling.now }
 {
+    let SendPosition { start, place } = position;
     if spelling.is_slot(place) {
         if level {
             return unacknowledged(errors);
         }
-        return plain(State::Transmitting(start, place.saturating_add(1)));
+        return plain(State::Transmitting {
+            start,
+            place: place.saturating_add(1),
+        });
     }
     let driven = spelling.level(place);
     if level == driven {
         if spelling.is_last(place) {
             return Transition {
-                state: State::InIntermission(Role::Sender, 0),
+                state: State::InIntermission {
+                    role: Role::Sender,
+                    ones: 0,
+                },
                 event: Some(ErrorEvent::Sent),
                 outcome: Outcome::Completed,
             };
         }
-        return plain(State::Transmitting(start, place.saturating_add(1)));
+        return plain(State::Transmitting {
+            start,
+            place: place.saturating_add(1),
+        });
     }
     if driven {
         return overruled(start, spelling.bit(place), errors);

@@ -10,17 +10,14 @@ ghost use Rattle.can_node.specs.SharedReceiver.{Idles, materialized, may_follow_
 ghost use Rattle.can_confinement.specs.declared.known_counts.KnownCounts.{KnownCounts as KnownCountsValue};
 ghost use Rattle.can_confinement.specs.declared.confinement.ErrorState.{ErrorState as ErrorStateValue};
 
-use crate::machine::{
-    behind_end, is_in_region, is_taking, level_of, may_start, reader_after_sof, steps_alike,
-    transition_of,
-};
+use crate::machine::{reader_after_sof, transition_of};
 use crate::outcome::Outcome;
 use crate::plain_bits::{count_on, waits_on};
 use crate::shared_sample::HeardLevel;
 use crate::state::{Stage, State, Transition};
 use crate::stays::stay_by;
 use crate::taken_frame::TakenFrame;
-use crate::takes::after_taking;
+use crate::takes::{after_taking, behind_end};
 use can_confinement::{ErrorEvent, ErrorState, KnownCounts};
 use can_frame::{Reader, Step};
 
@@ -39,14 +36,14 @@ impl SharedReceiver {
     pub fn drive(&self) -> bool
         ensures { IsListening self.now → (node : Node) (bit : ℕ) → result ≡ driven_by (materialized node self.now bit) }
     {
-        level_of(self.state)
+        self.state.level()
     }
 
     /// Returns whether each of the nodes may begin to send at the next bit.
     pub fn wants_start(&self) -> bool
         ensures { (node : Node) (bit : ℕ) → result ≡ may_begin (materialized node self.now bit) }
     {
-        may_start(self.state)
+        self.state.may_start()
     }
 
     /// Returns true only if the nodes are in the state bus idle: then each recessive bit leaves them so.
@@ -64,9 +61,11 @@ impl SharedReceiver {
         ensures { result ≡ may_follow_by self.now.state }
     {
         match self.state {
-            State::Receiving(_, may_begin, stage) => {
-                !may_begin && (stage == Stage::Region || stage == Stage::AfterSlot)
-            }
+            State::Receiving {
+                may_begin,
+                stage,
+                ..
+            } => { !may_begin && (stage == Stage::Region || stage == Stage::AfterSlot) }
             state => waits_on(state),
         }
     }
@@ -84,7 +83,7 @@ impl SharedReceiver {
         if level && is_idle(self.state) {
             return true;
         }
-        if is_in_region(self.state) {
+        if self.state.is_in_region() {
             if self.reader.reads_on(level) {
                 return true;
             }
@@ -102,13 +101,18 @@ impl SharedReceiver {
         ensures listens { result ≡ true → IsListening self.new }
         ensures other { result ≡ false → self.new ≡ self.old }
     {
-        let State::Receiving(start, _may_begin, stage) = self.state else {
+        let State::Receiving {
+            start,
+            may_begin: _may_begin,
+            stage,
+        } = self.state
+        else {
             return false;
         };
         if !stage.is_own_slot() || !self.reader.reads_tail(level) {
             return false;
         }
-        self.state = State::Receiving(start, false, Stage::AfterSlot);
+        self.state = State::receiving(start, Stage::AfterSlot);
         true
     }
 
@@ -120,10 +124,10 @@ impl SharedReceiver {
         ensures few { result ≤ length levels.now }
         ensures along { ReadsAlongBy self.old (take result levels.now) self.new }
     {
-        if is_in_region(self.state) {
+        if self.state.is_in_region() {
             return self.reader.reads_on_by(levels);
         }
-        if is_taking(self.state) {
+        if self.state.is_taking() {
             return self.reads_end_by(levels);
         }
         self.waits_by(levels)
@@ -156,7 +160,12 @@ impl SharedReceiver {
     pub fn takes(&self, level: bool) -> Option<TakenFrame>
         ensures { IfSome result (AllTake self.now level) }
     {
-        let State::Receiving(start, _, Stage::AfterSlot) = self.state else {
+        let State::Receiving {
+            start,
+            stage: Stage::AfterSlot,
+            ..
+        } = self.state
+        else {
             return None;
         };
         let frame = self.reader.takes(level)?;
@@ -170,7 +179,7 @@ impl SharedReceiver {
         ensures some { IfSome result (AllHear self.now level) }
         ensures none { IfNone result (is_taking self.now.state ≡ false) }
     {
-        let State::Receiving(start, _, stage) = self.state else {
+        let State::Receiving { start, stage, .. } = self.state else {
             return None;
         };
         Some(HeardLevel::of(start, stage, &self.reader, level))
@@ -201,7 +210,7 @@ impl SharedReceiver {
         ensures other { result ≡ false → self.new ≡ self.old }
     {
         match self.state {
-            State::Receiving(start, _, stage) => {
+            State::Receiving { start, stage, .. } => {
                 if self.reads_end(level) {
                     return true;
                 }
@@ -211,7 +220,7 @@ impl SharedReceiver {
                     _ => self.read_tail(start, stage, level, known),
                 }
             }
-            State::Transmitting(_, _) => false,
+            State::Transmitting { .. } => false,
             _ => {
                 if self.counts_on(level) {
                     return true;
@@ -274,7 +283,7 @@ impl SharedReceiver {
         ensures listens { IsListening self.old → IsListening self.new }
         ensures other { result ≡ false → self.new ≡ self.old }
     {
-        if !steps_alike(self.state, level) {
+        if !self.state.steps_alike(level) {
             return false;
         }
         // any other error state would do
@@ -282,7 +291,7 @@ impl SharedReceiver {
         if !is_unseen(&transition, known) {
             return false;
         }
-        if is_taking(transition.state) {
+        if transition.state.is_taking() {
             self.reader = reader_after_sof();
         }
         self.state = transition.state;
@@ -320,7 +329,7 @@ fn is_idle(state: State) -> bool
 fn is_unseen(transition: &Transition, known: KnownCounts) -> bool
     ensures { result ≡ true → IsUnseen known transition.now }
 {
-    if matches!(transition.state, State::Transmitting(_, _)) {
+    if matches!(transition.state, State::Transmitting { .. }) {
         return false;
     }
     if !matches!(transition.outcome, Outcome::Nothing) {

@@ -17,7 +17,7 @@ struct FlagStay {
     zeros: u8,
 }
 
-/// So many whole runs of eleven recessive levels, and so many levels of the next.
+/// A number of whole runs of eleven recessive levels, and a number of levels of the next run.
 #[derive(Clone, Copy)]
 struct Runs {
     whole: u8,
@@ -52,7 +52,7 @@ fn off_behind_all(runs: u8, ones: u8, levels: &[bool]) -> Runs
     let mut whole = runs;
     let mut run = ones;
     for level in levels {
-        // seldom, so that no branch on a level is foretold wrongly
+        // rare, so that no branch on a level is mispredicted
         if run > 9 && *level {
             whole += 1;
             run = 0;
@@ -122,7 +122,13 @@ pub(crate) fn stay_by(state: &mut State, levels: &[bool]) -> usize
     ensures ends { StaysNoLonger state.old levels.now result }
 {
     // in place: a state that is written field by field and read back whole stalls on store forwarding
-    if let State::PassiveErrorFlag(_role, owes, ones, zeros) = state {
+    if let State::PassiveErrorFlag {
+        role: _role,
+        owes,
+        ones,
+        zeros,
+    } = state
+    {
         let stay = stay_flagging(*owes, *ones, *zeros, levels);
         *ones = stay.ones;
         *zeros = stay.zeros;
@@ -139,10 +145,13 @@ pub(crate) fn count_out(state: &State, levels: &[bool]) -> usize
     ensures ends { StaysNoLonger state.now levels.now result }
 {
     match *state {
-        State::BusOffRecovery(runs, ones) if is_far(runs, ones, levels.len()) => levels.len(),
-        State::PassiveErrorFlag(_, owes, ones, zeros) => {
-            stay_flagging(owes, ones, zeros, levels).count
-        }
+        State::BusOffRecovery { runs, ones } if is_far(runs, ones, levels.len()) => levels.len(),
+        State::PassiveErrorFlag {
+            owes,
+            ones,
+            zeros,
+            ..
+        } => { stay_flagging(owes, ones, zeros, levels).count }
         state => {
             let mut next = state;
             stay_waiting(&mut next, levels)
@@ -154,7 +163,7 @@ pub(crate) fn count_out(state: &State, levels: &[bool]) -> usize
 pub(crate) fn go_out(state: &mut State, levels: &[bool])
     ensures { StaysOut state.old levels.now → state.new ≡ out_behind_all state.old levels.now }
 {
-    if let State::BusOffRecovery(runs, ones) = state {
+    if let State::BusOffRecovery { runs, ones } = state {
         if is_far(*runs, *ones, levels.len()) {
             let behind = off_behind_all(*runs, *ones, levels);
             *runs = behind.whole;

@@ -2,7 +2,7 @@
 
 ghost use Rattle.std.specs.Prelude.{◌≡◌, Bool};
 ghost use Rattle.can_frame.specs.declared.step.Step.TheVariants.{Tail};
-ghost use Rattle.can_node.specs.Machine.{GoesReading};
+ghost use Rattle.can_node.specs.Machine.{GoesReading, behind_end};
 ghost use Rattle.can_node.specs.Takes.{name_of};
 
 use crate::outcome::{ErrorKind, Outcome};
@@ -24,23 +24,43 @@ fn error_kind(kind: FaultKind) -> ErrorKind
     }
 }
 
+/// Returns the state after a level behind the stuffed region with which the frame continues. `None` in the ACK slot,
+/// and where the node reads no end of a frame.
+pub(crate) fn behind_end(state: State) -> Option<State>
+    ensures { result ≡ behind_end state }
+{
+    match state {
+        State::Receiving {
+            start,
+            may_begin: false,
+            stage: Stage::AfterRegion(right),
+        } => Some(State::receiving(start, Stage::Slot(right))),
+        State::Receiving {
+            may_begin: false,
+            stage: Stage::AfterSlot,
+            ..
+        } => Some(state),
+        _ => None,
+    }
+}
+
 /// Returns the transition of a level behind the stuffed region with which the frame continues.
 fn after_tail(start: u64, stage: Stage, level: bool) -> Transition
     ensures { (errors : ErrorState) (may_start : Bool)
         → GoesReading (State.Receiving start may_start stage) errors Tail level result }
 {
     match stage {
-        Stage::AfterRegion(right) => plain(State::Receiving(start, false, Stage::Slot(right))),
+        Stage::AfterRegion(right) => plain(State::receiving(start, Stage::Slot(right))),
         Stage::Slot(right) => {
-            let behind = State::Receiving(start, false, Stage::AfterSlot);
+            let next = State::receiving(start, Stage::AfterSlot);
             if right {
-                return counted(behind, ErrorEvent::Received);
+                return counted(next, ErrorEvent::Received);
             }
-            plain(behind)
+            plain(next)
         }
-        Stage::AfterSlot => plain(State::Receiving(start, false, Stage::AfterSlot)),
+        Stage::AfterSlot => plain(State::receiving(start, Stage::AfterSlot)),
         // the reader answers otherwise within the region
-        Stage::Region => plain(State::Receiving(start, false, Stage::AfterSlot)),
+        Stage::Region => plain(State::receiving(start, Stage::AfterSlot)),
     }
 }
 
@@ -58,9 +78,9 @@ pub(crate) fn after_taking(
         → GoesReading (State.Receiving start may_start stage) other step.now level result }
 {
     match *step {
-        Step::More => plain(State::Receiving(start, false, Stage::Region)),
-        Step::StuffBit => plain(State::Receiving(start, false, Stage::Region)),
-        Step::Body(_, right) => plain(State::Receiving(start, false, Stage::AfterRegion(right))),
+        Step::More => plain(State::receiving(start, Stage::Region)),
+        Step::StuffBit => plain(State::receiving(start, Stage::Region)),
+        Step::Body(_, right) => plain(State::receiving(start, Stage::AfterRegion(right))),
         Step::Tail => after_tail(start, stage, level),
         Step::Taken(frame) => Transition {
             state: State::LastEofBit,

@@ -39,10 +39,10 @@ pub(crate) fn after_sync(ones: u8, level: bool) -> Transition
     ensures { (now : ℕ) (errors : ErrorState) → Goes (State.Integrating ones) now errors level result }
 {
     if !level {
-        return plain(State::Integrating(0));
+        return plain(State::Integrating { ones: 0 });
     }
     if ones < 10 {
-        return plain(State::Integrating(ones + 1));
+        return plain(State::Integrating { ones: ones + 1 });
     }
     plain(State::BusIdle)
 }
@@ -54,7 +54,7 @@ pub(crate) fn after_idle(now: u64, level: bool) -> Transition
     if level {
         return plain(State::BusIdle);
     }
-    plain(State::Receiving(now, false, Stage::Region))
+    plain(State::receiving(now, Stage::Region))
 }
 
 /// The last bit of EOF of a frame that was received.
@@ -62,9 +62,12 @@ pub(crate) fn after_last_bit(level: bool) -> Transition
     ensures { (now : ℕ) (errors : ErrorState) → Goes State.LastEofBit now errors level result }
 {
     if level {
-        return plain(State::InIntermission(Role::Receiver, 0));
+        return plain(State::InIntermission {
+            role: Role::Receiver,
+            ones: 0,
+        });
     }
-    plain(State::DominantFlag(FlagKind::Overload, Role::Receiver, 0, 14))
+    plain(State::dominant_flag(FlagKind::Overload, Role::Receiver))
 }
 
 /// An active error flag or overload flag: a recessive level counts an error, and the sixth bit is the last one.
@@ -76,19 +79,26 @@ pub(crate) fn after_flag(kind: FlagKind, role: Role, sent: u8, until: u8, level:
     if level {
         if sent < 5 {
             return counted(
-                State::DominantFlag(kind, role, sent + 1, 14),
+                State::DominantFlag {
+                    kind,
+                    role,
+                    sent: sent + 1,
+                    until: 14,
+                },
                 ErrorEvent::FlagBit(role),
             );
         }
-        return counted(
-            State::AwaitingDelimiter(kind, role, 14, true),
-            ErrorEvent::FlagBit(role),
-        );
+        return counted(State::awaiting(kind, role, 14), ErrorEvent::FlagBit(role));
     }
     if sent < 5 {
-        return plain(State::DominantFlag(kind, role, sent + 1, until.saturating_sub(1)));
+        return plain(State::DominantFlag {
+            kind,
+            role,
+            sent: sent + 1,
+            until: until.saturating_sub(1),
+        });
     }
-    plain(State::AwaitingDelimiter(kind, role, until.saturating_sub(1), true))
+    plain(State::awaiting(kind, role, until.saturating_sub(1)))
 }
 
 /// Returns whether this level is the first dominant one of a passive error flag that owes an error for it.
@@ -111,14 +121,24 @@ pub(crate) fn behind_passive_flag(role: Role, owes: bool, ones: u8, zeros: u8, l
 {
     if level {
         if ones < 5 {
-            return State::PassiveErrorFlag(role, owes, ones + 1, 0);
+            return State::PassiveErrorFlag {
+                role,
+                owes,
+                ones: ones + 1,
+                zeros: 0,
+            };
         }
-        return State::AwaitingDelimiter(FlagKind::PassiveError, role, 8, true);
+        return State::awaiting(FlagKind::PassiveError, role, 8);
     }
     if zeros < 5 {
-        return State::PassiveErrorFlag(role, false, 0, zeros + 1);
+        return State::PassiveErrorFlag {
+            role,
+            owes: false,
+            ones: 0,
+            zeros: zeros + 1,
+        };
     }
-    State::AwaitingDelimiter(FlagKind::PassiveError, role, 8, true)
+    State::awaiting(FlagKind::PassiveError, role, 8)
 }
 
 /// A passive error flag, whose first dominant level may count an error.
@@ -134,7 +154,12 @@ pub(crate) fn after_passive_flag(
 {
     if is_due(owes, zeros, level) {
         return counted(
-            State::PassiveErrorFlag(role, false, 0, zeros + 1),
+            State::PassiveErrorFlag {
+                role,
+                owes: false,
+                ones: 0,
+                zeros: zeros + 1,
+            },
             ErrorEvent::SenderError,
         );
     }
@@ -146,9 +171,14 @@ pub(crate) fn error_flag(role: Role, errors: ErrorState) -> State
     ensures { (text : List Bool) (later : ℕ) → Agrees result text later (flag_of errors [] role) [] [] }
 {
     match errors {
-        ErrorState::Active => State::DominantFlag(FlagKind::ActiveError, role, 0, 14),
-        ErrorState::Passive => State::PassiveErrorFlag(role, false, 0, 0),
-        ErrorState::Off => State::BusOffRecovery(0, 0),
+        ErrorState::Active => State::dominant_flag(FlagKind::ActiveError, role),
+        ErrorState::Passive => State::PassiveErrorFlag {
+            role,
+            owes: false,
+            ones: 0,
+            zeros: 0,
+        },
+        ErrorState::Off => State::BusOffRecovery { runs: 0, ones: 0 },
     }
 }
 
@@ -171,9 +201,12 @@ pub(crate) fn after_delimiting(role: Role, ones: u8, errors: ErrorState, level: 
 {
     if level {
         if ones < 7 {
-            return plain(State::InDelimiter(role, ones + 1));
+            return plain(State::InDelimiter {
+                role,
+                ones: ones + 1,
+            });
         }
-        return plain(State::InIntermission(role, 0));
+        return plain(State::InIntermission { role, ones: 0 });
     }
     if ones < 7 {
         return Transition {
@@ -182,7 +215,7 @@ pub(crate) fn after_delimiting(role: Role, ones: u8, errors: ErrorState, level: 
             outcome: Outcome::Errored(ErrorKind::Form),
         };
     }
-    plain(State::DominantFlag(FlagKind::Overload, role, 0, 14))
+    plain(State::dominant_flag(FlagKind::Overload, role))
 }
 
 /// Returns what a dominant level right behind a flag counts.
@@ -212,22 +245,37 @@ pub(crate) fn after_awaiting(
     ensures plain { steps_plainly level (State.AwaitingDelimiter kind role until first) ≡ true → IsPlain result }
 {
     if level {
-        return plain(State::InDelimiter(role, 1));
+        return plain(State::InDelimiter { role, ones: 1 });
     }
     if until <= 1 {
         return counted(
-            State::AwaitingDelimiter(kind, role, 8, false),
+            State::AwaitingDelimiter {
+                kind,
+                role,
+                until: 8,
+                first: false,
+            },
             ErrorEvent::DominantRun(role),
         );
     }
     if first {
         return Transition {
-            state: State::AwaitingDelimiter(kind, role, until - 1, false),
+            state: State::AwaitingDelimiter {
+                kind,
+                role,
+                until: until - 1,
+                first: false,
+            },
             event: behind(kind, role),
             outcome: Outcome::Nothing,
         };
     }
-    plain(State::AwaitingDelimiter(kind, role, until - 1, false))
+    plain(State::AwaitingDelimiter {
+        kind,
+        role,
+        until: until - 1,
+        first: false,
+    })
 }
 
 /// Returns whether a node suspends transmission after the intermission.
@@ -255,16 +303,23 @@ pub(crate) fn after_intermission(
 {
     if ones < 2 {
         if level {
-            return plain(State::InIntermission(role, ones + 1));
+            return plain(State::InIntermission {
+                role,
+                ones: ones + 1,
+            });
         }
-        return plain(State::DominantFlag(FlagKind::Overload, role, 0, 14));
+        return plain(State::dominant_flag(FlagKind::Overload, role));
     }
     let waits = is_suspended(role, errors);
     if !level {
-        return plain(State::Receiving(now, !waits, Stage::Region));
+        return plain(State::Receiving {
+            start: now,
+            may_begin: !waits,
+            stage: Stage::Region,
+        });
     }
     if waits {
-        return plain(State::SuspendTransmission(0));
+        return plain(State::SuspendTransmission { ones: 0 });
     }
     plain(State::BusIdle)
 }
@@ -275,10 +330,10 @@ pub(crate) fn after_suspending(ones: u8, now: u64, level: bool) -> Transition
     ensures plain { level ≡ true → IsPlain result }
 {
     if !level {
-        return plain(State::Receiving(now, false, Stage::Region));
+        return plain(State::receiving(now, Stage::Region));
     }
     if ones < 7 {
-        return plain(State::SuspendTransmission(ones + 1));
+        return plain(State::SuspendTransmission { ones: ones + 1 });
     }
     plain(State::BusIdle)
 }
@@ -288,13 +343,19 @@ pub(crate) fn after_bus_off(runs: u8, ones: u8, level: bool) -> Transition
     ensures { (now : ℕ) (errors : ErrorState) → Goes (State.BusOffRecovery runs ones) now errors level result }
 {
     if !level {
-        return plain(State::BusOffRecovery(runs, 0));
+        return plain(State::BusOffRecovery { runs, ones: 0 });
     }
     if ones < 10 {
-        return plain(State::BusOffRecovery(runs, ones + 1));
+        return plain(State::BusOffRecovery {
+            runs,
+            ones: ones + 1,
+        });
     }
     if runs < 127 {
-        return plain(State::BusOffRecovery(runs + 1, 0));
+        return plain(State::BusOffRecovery {
+            runs: runs + 1,
+            ones: 0,
+        });
     }
     Transition {
         state: State::BusIdle,

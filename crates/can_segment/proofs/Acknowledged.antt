@@ -8,6 +8,7 @@ use Rattle.bx_core.specs.TxBus.{Item, BusPast, BusCall}
 use Rattle.can_frame.specs.Frames.{FrameValue}
 use Rattle.can_node.specs.declared.shared_receiver.SharedReceiver.{SharedReceiver}
 use Rattle.can_station.specs.declared.member.Member.{Member}
+use Rattle.can_station.specs.Queues.{due_at}
 use Rattle.can_station.specs.declared.place_set.PlaceSet.{PlaceSet}
 use Rattle.can_station.specs.declared.plan.NodeFault.{NodeFault}
 use Rattle.can_station.specs.declared.plan.Talker.{Talker}
@@ -19,11 +20,11 @@ use Rattle.can_station.specs.DeferredNodes.{ActiveAreUneventful, ActiveWithin, C
 use Rattle.can_station.specs.DeferredNodes.{KnowsDeferred, LeavesDeferred, NoneDeferred, TransmitsAll, Unfaulted}
 use Rattle.can_station.specs.DeferredNodes.{materialized_member, resumed}
 use Rattle.can_segment.specs.declared.deferred.Deferred.{Deferred}
-use Rattle.can_segment.specs.DeferredState.{AreDeferred, AreFinished, IsDeferred, IsSameButCounts, DeferredHolds}
+use Rattle.can_segment.specs.DeferredState.{AreDeferred, AreNotDue, IsDeferred, IsSameButCounts, DeferredHolds}
 use Rattle.can_segment.specs.DeferredState.{FollowsAck}
 use Rattle.can_segment.specs.DeferredState.{materialized}
 use Rattle.can_station.proofs.Places.{some_there}
-use Rattle.can_segment.proofs.Holds.{left_active, left_deferred, left_finished}
+use Rattle.can_segment.proofs.Holds.{left_active, left_deferred, left_not_due}
 use Rattle.can_segment.proofs.DeferredState.{Sleeps, all_uneventful, deferred_samples, deferred_settles}
 use Rattle.can_segment.proofs.DeferredState.{unfaulted_level}
 use Rattle.can_segment.proofs.Shown.{map_at}
@@ -36,7 +37,7 @@ behind_slot level old mid new h same = record {
   any_deferred_is = same.any_deferred_is ∙ h.any_deferred_is;
   talkers_is = same.talkers_is ∙ h.talkers_is;
   controllers_is = same.controllers_is ∙ h.controllers_is;
-  finished_is = same.finished_is ∙ h.finished_is;
+  next_start_is = same.next_start_is ∙ h.next_start_is;
   acknowledges = rw same.shared_receiver_is h.acknowledges;
   listens = rw same.shared_receiver_is h.listens;
 }
@@ -54,7 +55,7 @@ sleeps_counting old new bit level a b h is_deferred is counts = record {
   samples = h.acknowledges a.station.node b.station.node bit (counts.receives is);
 }
 
--- The steps of those that are awake, and those of the ones for which such stand that count, are the steps of all.
+-- The steps of the active nodes, and those of the ones for which such stand that count, are the steps of all.
 count_step : (Step : Member → Member → Type 0) (one other : SharedReceiver) (bit next : ℕ) (a b c : Member) →
     (a.is_deferred ≡ true → CountsReceived a c → Step (materialized_member one bit a) (materialized_member other next
     c)) → IfActive Step a b →
@@ -166,7 +167,7 @@ counting_settle after asked transmitting sink stays old new bit first level faul
     (sleeps_counting old new bit level a c h (is_deferred k a e is) is counted) (sends k a p e f) (same p))) steps
     counts
 
--- one that rests behind it rested before
+-- a node that is deferred after it was deferred before
 pub record WasDeferred (mid : List Member) (k : ℕ) (m : Member) : Type 0 where
   pub from : Member
   pub from_is : slice_get mid k ≡ Some from
@@ -180,7 +181,7 @@ was_deferred mid new k m counts e is =
     let counted = counts.at k b.0 m b.1 e in
     record { from = b.0; from_is = b.1; is_deferred = sym counted.stays_deferred ∙ is; counts = counted }
 
--- those that rest do so behind it too,
+-- the deferred nodes do so behind it too,
 counting_deferred : (old new : Deferred) (bit : ℕ) (level : Bool) (mid after : List Member) → FollowsAck level old new →
     AtPlaces (λ k. CountsReceived) mid after → AtPlaces (λ k. KnowsDeferred new.known) mid after →
     AreDeferred old bit mid → AreDeferred new (bit + 1) after
@@ -195,12 +196,13 @@ counting_deferred old new bit level mid after h counts known is_deferred k m e i
       listening = h.listens;
     }
 
-counting_finished : (old new : Deferred) (plan : List Talker) (mid after : List Member) → new.finished ≡ old.finished →
-    AtPlaces (λ k. CountsReceived) mid after → AreFinished old plan mid → AreFinished new plan after
-counting_finished old new plan mid after same counts finished s k m talker e f is =
+counting_not_due : (old new : Deferred) (plan : List Talker) (mid after : List Member) →
+    new.next_start ≡ old.next_start → AtPlaces (λ k. CountsReceived) mid after → AreNotDue old plan mid →
+    AreNotDue new plan after
+counting_not_due old new plan mid after same counts h k m talker e f is bit before =
     let was = was_deferred mid after k m counts e is in
-    ap (slice_get talker.frames.items) was.counts.completed_is
-    ∙ finished (sym same ∙ s) k was.from talker was.from_is f was.is_deferred
+    ap (λ n. due_at talker.queue.items n bit) was.counts.completed_is
+    ∙ h k was.from talker was.from_is f was.is_deferred bit (omega (arith, before, same))
 
 counting_active : (mid after : List Member) → AtPlaces (λ k. CountsReceived) mid after → NoneDeferred mid → NoneDeferred
     after
@@ -214,7 +216,7 @@ counting_active mid after counts none k m e = by m.is_deferred refl
         ))
     by false off = off
 
--- those that are awake are so at the same places,
+-- the active nodes are so at the same places,
 counting_within : (set : PlaceSet) (mid after : List Member) → AtPlaces (λ k. CountsReceived) mid after →
     ActiveWithin set mid → ActiveWithin set after
 counting_within set mid after counts h = record {
@@ -255,11 +257,11 @@ counting_holds old new bit level plan t0 t1 t2 c0 c1 c2 h left left_too w w_too 
           counting_deferred old new bit level t1 t2 h t known (left_deferred old bit t0 t1 left holds.talkers_deferred);
       controllers_deferred = counting_deferred old new bit level c1 c2 h c known_too
           (left_deferred old bit c0 c1 left_too holds.controllers_deferred);
-      talkers_finished =
-          counting_finished old new plan t1 t2 h.finished_is t (left_finished old plan t0 t1 left
-          holds.talkers_finished);
+      talkers_not_due =
+          counting_not_due old new plan t1 t2 h.next_start_is t (left_not_due old plan t0 t1 left
+          holds.talkers_not_due);
       controllers_active = λ s. counting_active c1 c2 c
-          (left_active c0 c1 left_too (holds.controllers_active (sym h.finished_is ∙ s)));
+          (left_active c0 c1 left_too (holds.controllers_active (omega (arith, s, h.next_start_is))));
       talkers_within = subst (λ set. ActiveWithin set t2) (sym h.talkers_is) (counting_within old.talkers t1 t2 t w);
       controllers_within =
           subst (λ set. ActiveWithin set c2) (sym h.controllers_is) (counting_within old.controllers c1 c2 c w_too);

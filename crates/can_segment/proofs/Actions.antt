@@ -7,13 +7,13 @@ use Rattle.can_node.specs.Histories.{no_past, IsHistory}
 use Rattle.can_node.specs.Node.{StandsAfter, bit_of, driven_by}
 use Rattle.can_station.specs.declared.event.Label.{Label}
 use Rattle.can_station.specs.declared.transmission.Transmission.{Transmission}
-use Rattle.can_station.specs.declared.member.Action.{Action}
+use Rattle.can_station.specs.declared.action.Action.{Action}
 use Rattle.can_station.specs.declared.member.Member.{Member}
 use Rattle.can_segment.specs.Traces.{Act, Bit, act_of, with_start, with_act, past_of, sending_now, sending_behind}
 use Rattle.can_segment.specs.Traces.{sending_of, completed_in, completed_of}
 use Rattle.can_station.specs.Outcomes.{sending_after}
 use Rattle.can_station.specs.Members.{SamplesOn}
-use Rattle.can_station.specs.Lines.{told_outcome}
+use Rattle.can_station.specs.Lines.{outcome_kinds}
 use Rattle.can_station.specs.Actions.{begun_by, Names}
 use Rattle.can_segment.specs.Kept.{StandsBehind}
 
@@ -43,7 +43,7 @@ stays_off on k trace bit member h early none_there = record {
   uneventful = λ still. h.uneventful (omega (arith, early));
 }
 
--- what a node sent is named where a start or a reaping is told
+-- what a node sent is named where a start or a reaping is reported
 pub named_start : (action : Action) (sent : Option Transmission) → Names action sent → action.began ≡ true → action.sent
     ≡ sent
 named_start action sent names began = elim names [
@@ -57,20 +57,20 @@ pub named_reaping : (action : Action) (sent : Option Transmission) (label : Labe
 named_reaping action sent label names reaped =
     elim names [ inl uneventful ↦ absurd (cc (reaped, uneventful.no_reaping)) | inr named ↦ named ]
 
--- and nothing is told of an outcome where it is not
-told_named : (action : Action) (sent : Option Transmission) → Names action sent →
-    told_outcome sent action.outcome ≡ told_outcome action.sent action.outcome
-told_named action sent names = elim names [
-  | inl uneventful ↦ ap (told_outcome sent) uneventful.no_end ∙ sym (ap (told_outcome action.sent) uneventful.no_end)
-  | inr named ↦ ap (λ s. told_outcome s action.outcome) (sym named)
+-- and nothing is reported of an outcome where it is not
+reported_named : (action : Action) (sent : Option Transmission) → Names action sent →
+    outcome_kinds sent action.outcome ≡ outcome_kinds action.sent action.outcome
+reported_named action sent names = elim names [
+  | inl uneventful ↦ ap (outcome_kinds sent) uneventful.no_end ∙ sym (ap (outcome_kinds action.sent) uneventful.no_end)
+  | inr named ↦ ap (λ s. outcome_kinds s action.outcome) (sym named)
 ]
 
 -- what a node makes of a bit at which it is on: the start, and the sample
 pub record Done (on k : ℕ) (trace : List Bit) (level : Bool) (mid after : Member) : Type 0 where
   pub event : Option ErrorEvent
   pub now_is : mid.station.sending ≡ sending_now (sending_of k trace) (begun_by after.action)
-  pub told : told_outcome (sending_now (sending_of k trace) (begun_by after.action)) after.action.outcome
-      ≡ told_outcome after.action.sent after.action.outcome
+  pub reported : outcome_kinds (sending_now (sending_of k trace) (begun_by after.action)) after.action.outcome
+      ≡ outcome_kinds after.action.sent after.action.outcome
   pub history : IsHistory (with_act (past_of on k trace)
       (Some (record {
         begun = begun_by after.action;
@@ -117,7 +117,7 @@ done on k trace level old mid after begun h late on_is stands sending completed 
     record {
       event = here.event;
       now_is = now;
-      told = ap (λ x. told_outcome x after.action.outcome) (sym now) ∙ told_named after.action mid.station.sending
+      reported = ap (λ x. outcome_kinds x after.action.outcome) (sym now) ∙ reported_named after.action mid.station.sending
           s.names;
       history = s.history _ behind;
       stands = λ bit is. record {
@@ -132,7 +132,7 @@ done on k trace level old mid after begun h late on_is stands sending completed 
       };
     }
 
--- what a deed began, by its two parts
+-- what a action began, by its two parts
 pub begun_is : (action : Action) (b : Bool) (sent : Option Transmission) → action.began ≡ b → action.sent ≡ sent →
     begun_by action ≡ cond b sent None
 begun_is action b sent eb es = ap (λ c. cond c action.sent None) eb ∙ ap (λ s. cond b s None) es

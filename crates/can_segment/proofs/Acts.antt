@@ -3,11 +3,12 @@ use Rattle.std.proofs.Common.{◌≡◌, inl, inr, ℕ, ◌<◌, ◌≤◌, nat_
 use Rattle.std.proofs.Common.{◌∷◌, ◌++◌, length, refl, sym, ap, subst, arith, ◌∙◌}
 use Rattle.std.proofs.lemmas.Bool.{cases_lt}
 use Rattle.std.proofs.lemmas.Bool.Decides.{leb_tells}
-use Rattle.can_frame.specs.Frames.{FrameValue}
 use Rattle.can_node.specs.Node.{driven_by}
+use Rattle.can_station.specs.declared.due_frame.DueFrame.{DueFrame}
+use Rattle.can_station.specs.Queues.{due_at}
 use Rattle.can_station.specs.declared.member.Member.{Member}
 use Rattle.can_segment.specs.Traces.{Act, Bit, act_of, past_of, sending_of, completed_of}
-use Rattle.can_station.specs.Lines.{told_start, told_outcome, told_reaped}
+use Rattle.can_station.specs.Lines.{start_kinds, outcome_kinds, reaped_kinds}
 use Rattle.can_segment.specs.Tells.{starts_of, rest_of}
 use Rattle.can_segment.specs.Runs.{IsAct, IsTalking, IsControlling, drives}
 use Rattle.can_station.specs.Members.{drives_at, StartsTalking, Samples, StartsRequest, SamplesAndSettles}
@@ -17,12 +18,12 @@ use Rattle.can_segment.proofs.Actions.{Done, stays_off}
 use Rattle.can_segment.proofs.Talks.{talked}
 use Rattle.can_segment.proofs.Controls.{controlled}
 
--- what a node did at a bit is this act, and is told as such
+-- what a node did at a bit is this act, and is reported as such
 pub record Acted (Rules : Act → Type 0) (on k : ℕ) (trace : List Bit) (level : Bool) (mid after : Member)
     (act : Option Act) : Type 0 where
-  pub starts : starts_of act ≡ told_start (begun_by after.action)
-  pub deferred : rest_of (sending_of k trace) act ≡ told_outcome after.action.sent after.action.outcome
-      ++ told_reaped after.action.reaped
+  pub starts : starts_of act ≡ start_kinds (begun_by after.action)
+  pub deferred : rest_of (sending_of k trace) act ≡ outcome_kinds after.action.sent after.action.outcome
+      ++ reaped_kinds after.action.reaped
   pub drives_is : drives act ≡ drives_at (length trace) mid
   pub stands : (bit : Bit) → act_of k bit ≡ act → StandsBehind on k (trace ++ bit ∷ []) after
   pub before : length trace < on → act ≡ None
@@ -41,8 +42,8 @@ pub acted_off : (Rules : Act → Type 0) (on k : ℕ) (trace : List Bit) (level 
 acted_off Rules on k trace level old mid after h early same_mid same_after =
     let uneventful : after.action ≡ no_action = ap (λ m. m.action) same_after ∙ h.uneventful (omega (arith, early)) in
     record {
-      starts = ap (λ d. told_start (begun_by d)) (sym uneventful);
-      deferred = ap (λ d. told_outcome d.sent d.outcome ++ told_reaped d.reaped) (sym uneventful);
+      starts = ap (λ d. start_kinds (begun_by d)) (sym uneventful);
+      deferred = ap (λ d. outcome_kinds d.sent d.outcome ++ reaped_kinds d.reaped) (sym uneventful);
       drives_is = sym (ap (λ b. cond b (driven_by mid.station.node) true)
           (is_off_now mid.on (length trace) (omega (arith, early, h.on_is, ap (λ m. m.on) same_mid))));
       stands = λ bit is. subst (StandsBehind on k (trace ++ bit ∷ [])) (sym same_after)
@@ -65,7 +66,7 @@ acted_on : (Rules : Act → Type 0) (on k : ℕ) (trace : List Bit) (level : Boo
     IsAct (past_of on k trace) level act → Rules act → Acted Rules on k trace level mid after (Some act)
 acted_on Rules on k trace level mid after late on_is d is_act rules = record {
   starts = refl;
-  deferred = ap (λ ts. ts ++ told_reaped after.action.reaped) d.told;
+  deferred = ap (λ ts. ts ++ reaped_kinds after.action.reaped) d.reported;
   drives_is = sym (ap (λ b. cond b (driven_by mid.station.node) true)
       (is_on_now mid.on (length trace) (omega (arith, late, on_is))));
   stands = d.stands;
@@ -74,26 +75,27 @@ acted_on Rules on k trace level mid after late on_is d is_act rules = record {
 }
 
 -- a talker's rules
-abbrev pub Talks : List Bit → List FrameValue → ℕ → ℕ → Act → Type 0
-Talks trace frames on k act = IsTalking frames (completed_of k trace) (past_of on k trace) act
+abbrev pub Talks : List Bit → List DueFrame → ℕ → ℕ → Act → Type 0
+Talks trace queue on k act =
+    IsTalking (due_at queue (completed_of k trace) (length trace)) (past_of on k trace) act
 
-pub talker_acts : (on k : ℕ) (trace : List Bit) (frames : List FrameValue) (level : Bool) (old mid after : Member) →
-    StandsBehind on k trace old → StartsTalking (length trace) old mid frames →
+pub talker_acts : (on k : ℕ) (trace : List Bit) (queue : List DueFrame) (level : Bool) (old mid after : Member) →
+    StandsBehind on k trace old → StartsTalking (length trace) old mid queue →
     Samples (length trace) level mid after → (act : Option Act)
-    × Acted (Talks trace frames on k) on k trace level mid after act
-talker_acts on k trace frames level old mid after h starts samples = elim (cases_lt (length trace) on) [
+    × Acted (Talks trace queue on k) on k trace level mid after act
+talker_acts on k trace queue level old mid after h starts samples = elim (cases_lt (length trace) on) [
   | inl early ↦
       let same_mid = starts.off (omega (arith, early, h.on_is)) in
       let same_after = samples.off (omega (arith, early, h.on_is, starts.on_is)) in (
         None,
-        acted_off (Talks trace frames on k) on k trace level old mid after h early same_mid
+        acted_off (Talks trace queue on k) on k trace level old mid after h early same_mid
             (same_after ∙ same_mid),
       )
   | inr late ↦
-      let t = talked on k trace frames level old mid after h (omega (arith, late)) starts samples in
+      let t = talked on k trace queue level old mid after h (omega (arith, late)) starts samples in
       let d = t.made in (
         Some _,
-        acted_on (Talks trace frames on k) on k trace level mid after (omega (arith, late)) (starts.on_is ∙ h.on_is) d
+        acted_on (Talks trace queue on k) on k trace level mid after (omega (arith, late)) (starts.on_is ∙ h.on_is) d
             (record { history = d.history; samples = refl; begins = t.begins })
             (record {
               wants = t.wants;

@@ -179,7 +179,7 @@ pub record Does (plan : SegmentPlan) (node on : ℕ) (trace : List Bit) (b : ℕ
   pub clock : (past_of on node (take b trace)).first + length (past_of on node (take b trace)).pairs ≡ b
   pub begins : (sent : Transmission) → act.begun ≡ Some sent → IsBegun (past_of on node (take b trace)) sent
   pub begun : (sent : Transmission) → act.begun ≡ Some sent → Contains (past_of on node trace).begun (b, sent.frame)
-  pub told : (x : ℕ × Outcome) → Contains (noted b act.outcome) x → Contains (past_of on node trace).outcomes x
+  pub reported : (x : ℕ × Outcome) → Contains (noted b act.outcome) x → Contains (past_of on node trace).outcomes x
   pub reaps : (label : Label) → act.reaped ≡ Some label → IsReaping (sending_of node (take b trace)) act label
 
 pub take_left : {X : Type 0} (xs ys : List X) (k : ℕ) → k ≤ length xs → take k (xs ++ ys) ≡ take k xs
@@ -205,8 +205,8 @@ does_before plan node on trace bit b act d =
       begins = λ sent e. subst (λ t. IsBegun (past_of on node t) sent) (sym same) (d.begins sent e);
       begun = λ sent e. subst (λ l. Contains l (b, sent.frame)) (sym grown.begun_is)
           (Contains-append_left _ grown.begun (b, sent.frame) (d.begun sent e));
-      told = λ x c. subst (λ l. Contains l x) (sym grown.outcomes_are)
-          (Contains-append_left _ grown.outcomes x (d.told x c));
+      reported = λ x c. subst (λ l. Contains l x) (sym grown.outcomes_are)
+          (Contains-append_left _ grown.outcomes x (d.reported x c));
       reaps = λ label e. subst (λ t. IsReaping (sending_of node t) act label) (sym same) (d.reaps label e);
     }
 
@@ -247,7 +247,7 @@ does_last {plan = plan} {trace = trace} node on bit b run e now late d =
       begun = λ sent is. subst (λ l. Contains l (b, sent.frame)) (sym here.0)
           (Contains-append_right past.begun (begun_in b d.act.begun) (b, sent.frame)
           (subst (λ s. Contains (begun_in b s) (b, sent.frame)) (sym is) (0, omega arith, refl)));
-      told = λ x c. subst (λ l. Contains l x) (sym here.1)
+      reported = λ x c. subst (λ l. Contains l x) (sym here.1)
           (Contains-append_right past.outcomes (noted b d.act.outcome) x c);
       reaps = λ label is. subst (λ t. IsReaping (sending_of node t) d.act label) (sym before) (d.reaps label is);
     }
@@ -303,8 +303,8 @@ pub record BeganAt (node on : ℕ) (trace : List Bit) (b : ℕ) (frame : FrameVa
   pub begun_is : act.begun ≡ Some sent
   pub frame_is : sent.frame ≡ frame
 
--- and what is noted as told was told by it
-pub record ToldAt (node : ℕ) (trace : List Bit) (b : ℕ) (outcome : Outcome) : Type 0 where
+-- and what is noted as reported was reported by it
+pub record ReportedAt (node : ℕ) (trace : List Bit) (b : ℕ) (outcome : Outcome) : Type 0 where
   pub act : Act
   pub act_is : act_at node trace b ≡ Some act
   pub outcome_is : act.outcome ≡ outcome
@@ -365,26 +365,26 @@ began_at {plan = plan} node on b frame (one_more {trace = trace} bit run is_bit)
           ])
     ]
 
-pub told_at : {plan : SegmentPlan} {trace : List Bit} {levels : List Bool} {events : List Event} (node on b : ℕ)
+pub reported_at : {plan : SegmentPlan} {trace : List Bit} {levels : List Bool} {events : List Event} (node on b : ℕ)
     (outcome : Outcome) → Run plan trace levels events →
     slice_get (firsts plan) node ≡ Some on → Contains (past_of on node trace).outcomes (b, outcome) →
-    ToldAt node trace b outcome
-told_at node on b outcome no_bit e c = absurd (omega (arith, c.1))
-told_at {plan = plan} node on b outcome (one_more {trace = trace} bit run is_bit) e c =
+    ReportedAt node trace b outcome
+reported_at node on b outcome no_bit e c = absurd (omega (arith, c.1))
+reported_at {plan = plan} node on b outcome (one_more {trace = trace} bit run is_bit) e c =
     let next = next_act plan on node trace bit is_bit e in
-    let older : ToldAt node trace b outcome → ToldAt node (trace ++ bit ∷ []) b outcome =
+    let older : ReportedAt node trace b outcome → ReportedAt node (trace ++ bit ∷ []) b outcome =
     λ t. record { act = t.act; act_is = later_act node trace bit b t.act t.act_is; outcome_is = t.outcome_is } in
     elim (cases_lt (length trace) on) [
       | inl early ↦ (let same : past_of on node (trace ++ bit ∷ []) ≡ past_of on node trace =
           past_more on node trace bit ∙ ap (with_act (past_of on node trace)) (next.before early) in
-          older (told_at node on b outcome run e (subst (λ (p : Past). Contains p.outcomes (b, outcome)) same c)))
+          older (reported_at node on b outcome run e (subst (λ (p : Past). Contains p.outcomes (b, outcome)) same c)))
       | inr late ↦ (let d = next.from_there_on late in
           let past = past_of on node trace in
           let here = noted_here node past trace bit d.act on (length trace) refl d.act_is
           (clock_of node on run e late) in
           elim (Contains-append_cases past.outcomes (noted (length trace) d.act.outcome) (b, outcome)
           (subst (λ l. Contains l (b, outcome)) here.1 c)) [
-            | inl before ↦ older (told_at node on b outcome run e before)
+            | inl before ↦ older (reported_at node on b outcome run e before)
             | inr now ↦ (let n = noted_is (length trace) b d.act.outcome outcome now in
                 record { act = d.act; act_is = act_last node trace bit b n.0 ∙ d.act_is; outcome_is = n.1 })
           ])

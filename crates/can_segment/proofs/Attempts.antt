@@ -11,22 +11,22 @@ use Rattle.can_node.specs.declared.outcome.Outcome.{Outcome}
 use Rattle.can_node.specs.declared.outcome.Outcome.TheVariants.{Nothing, Took, Completed, Lost, Errored, WentOff}
 use Rattle.can_node.specs.declared.outcome.Outcome.TheVariants.{CameBack}
 use Rattle.can_node.specs.Histories.{Past, no_past, noted}
-use Rattle.can_node.specs.Cuts.{IsAttempt}
+use Rattle.can_node.specs.Splits.{IsAttempt}
 use Rattle.can_node.specs.Attempts.{first_bit, IsAttemptFrom}
-use Rattle.can_node.proofs.Attempts.{attempts_stand_alone, open_tells_nothing, begun_attempts}
+use Rattle.can_node.proofs.Attempts.{attempts_stand_alone, open_reports_nothing, begun_attempts}
 use Rattle.can_node.proofs.Outcomes.{IsEnd, attempt_end}
 use Rattle.can_node.proofs.Outcomes.IsEnd.{is_completed, is_lost, is_error, is_off}
 use Rattle.can_node.proofs.Sofs.{starts_are_sofs}
 use Rattle.can_station.specs.declared.event.Event.{Event}
 use Rattle.can_station.specs.declared.plan.SegmentPlan.{SegmentPlan}
 use Rattle.can_station.specs.declared.transmission.Transmission.{Transmission}
-use Rattle.can_segment.specs.Attempts.{act_at, begun_at, sending_at, outcome_at, IsTold, AttemptsAreTold}
+use Rattle.can_segment.specs.Attempts.{act_at, begun_at, sending_at, outcome_at, IsReported, AttemptsAreReported}
 use Rattle.can_segment.specs.Attempts.{EndsAreOfAttempts}
 use Rattle.can_segment.specs.Traces.{Act, Bit, act_of, past_of, sending_of, sending_now, sending_behind}
 use Rattle.can_station.specs.Outcomes.{sending_after, ends_sending}
 use Rattle.can_segment.specs.Runs.{Run, firsts}
 use Rattle.can_segment.proofs.OneLine.{same_found, first_from}
-use Rattle.can_segment.proofs.ActsNoted.{does_at, prefix_grows, began_at, told_at}
+use Rattle.can_segment.proofs.ActsNoted.{does_at, prefix_grows, began_at, reported_at}
 use Rattle.can_segment.proofs.Pasts.{has_history}
 
 -- what a node sends behind one bit more
@@ -55,7 +55,7 @@ sending_next node trace k = by (slice_get trace k) refl
         ∙ fold-append (λ before b. sending_behind before (act_of node b)) None (take k trace) (bit ∷ [])
         ∙ sym (ap (λ f. sending_behind (sending_of node (take k trace)) (option_and_then (act_of node) f)) e)
 
--- an outcome that ends a transmission is told
+-- an outcome that ends a transmission is reported
 end_noted : (bit : ℕ) (outcome : Outcome) → ends_sending outcome ≡ true → Contains (noted bit outcome) (bit, outcome)
 end_noted bit Nothing e = absurd (cc e)
 end_noted bit (Took start frame) e = absurd (cc e)
@@ -89,7 +89,7 @@ outcome_by node trace b act is = ap outcome_in is
     outcome_in None = Nothing
     outcome_in (Some act) = act.outcome
 
--- the act at a bit at which something is begun, or told
+-- the act at a bit at which something is begun, or reported
 pub act_begins : (node : ℕ) (trace : List Bit) (b : ℕ) (sent : Transmission) → begun_at node trace b ≡ Some sent →
     (act : Act) × (act_at node trace b ≡ Some act) × (act.begun ≡ Some sent)
 act_begins node trace b sent e = elim (act_or_none (act_at node trace b)) [
@@ -258,7 +258,7 @@ shown {trace = trace} node on start end frame state outcome run on_is attempt =
     let alone = attempts_stand_alone past start end frame state outcome attempt in
     let b = began_at node on (first_bit attempt) frame run on_is alone.begun in
     let d = does_at node on (first_bit attempt) b.act run on_is b.act_is in
-    let t = told_at node on end outcome run on_is alone.told in
+    let t = reported_at node on end outcome run on_is alone.reported in
     let before = past_of on node (take (first_bit attempt) trace) in
     let g = prefix_grows on node trace (first_bit attempt) in
     record {
@@ -275,20 +275,20 @@ shown {trace = trace} node on start end frame state outcome run on_is attempt =
             alone.none_begun bit other.frame from to ((does_at node on bit a.0 run on_is a.1).begun other a.2);
         none_ended = λ bit from to ends.
             let a = act_ends node trace bit ends in
-            let told = end_noted bit a.0.outcome (sym (ap ends_sending (outcome_by node trace bit a.0 a.1)) ∙ ends) in
-            alone.none_told bit a.0.outcome from to
-            ((does_at node on bit a.0 run on_is a.1).told (bit, a.0.outcome) told);
+            let reported = end_noted bit a.0.outcome (sym (ap ends_sending (outcome_by node trace bit a.0 a.1)) ∙ ends) in
+            alone.none_reported bit a.0.outcome from to
+            ((does_at node on bit a.0 run on_is a.1).reported (bit, a.0.outcome) reported);
       };
       outcome_is = outcome_by node trace end t.act t.act_is ∙ t.outcome_is;
     }
 
 -- the lines tell of each attempt
-is_told : {plan : SegmentPlan} {trace : List Bit} {levels : List Bool} {events : List Event} (node on start end : ℕ)
+is_reported : {plan : SegmentPlan} {trace : List Bit} {levels : List Bool} {events : List Event} (node on start end : ℕ)
     (frame : FrameValue) (state : ErrorState) (outcome : Outcome) →
     Run plan trace levels events → slice_get (firsts plan) node ≡ Some on →
     (attempt : IsAttempt (past_of on node trace) start frame state end outcome) →
-    IsTold node trace start frame (first_bit attempt) end outcome
-is_told {trace = trace} node on start end frame state outcome run on_is attempt =
+    IsReported node trace start frame (first_bit attempt) end outcome
+is_reported {trace = trace} node on start end frame state outcome run on_is attempt =
     let s = shown node on start end frame state outcome run on_is attempt in
     let at : first_bit attempt + (end - first_bit attempt) ≡ end = omega (arith, s.sends.in_order) in
     record {
@@ -302,12 +302,12 @@ is_told {trace = trace} node on start end frame state outcome run on_is attempt 
       outcome_is = s.outcome_is;
     }
 
-pub attempts_are_told : {plan : SegmentPlan} {trace : List Bit} {levels : List Bool} {events : List Event} →
-    Run plan trace levels events → AttemptsAreTold plan trace
-attempts_are_told {trace = trace} run node past start end frame state outcome p attempt =
+pub attempts_are_reported : {plan : SegmentPlan} {trace : List Bit} {levels : List Bool} {events : List Event} →
+    Run plan trace levels events → AttemptsAreReported plan trace
+attempts_are_reported {trace = trace} run node past start end frame state outcome p attempt =
     let P : Past → Type 0 = λ past. (attempt : IsAttempt past start frame state end outcome) →
-    IsTold node trace start frame (first_bit attempt) end outcome in
-    subst P (sym p.past_is) (λ attempt. is_told node p.on start end frame state outcome run p.on_is attempt) attempt
+    IsReported node trace start frame (first_bit attempt) end outcome in
+    subst P (sym p.past_is) (λ attempt. is_reported node p.on start end frame state outcome run p.on_is attempt) attempt
 
 -- a transmission that ends is an attempt that ends there
 ends_as : {plan : SegmentPlan} {trace : List Bit} {levels : List Bool} {events : List Event} (node on first end : ℕ)
@@ -354,9 +354,9 @@ end_of {trace = trace} node on end sent run on_is sending ends =
       | inl from ↦ ends_as node on since.0 end sent run on_is since.1 ends from
       | inr goes_on ↦ absurd (
           let a = act_ends node trace end ends in
-          let told = end_noted end a.0.outcome (sym (ap ends_sending (outcome_by node trace end a.0 a.1)) ∙ ends) in
-          open_tells_nothing past since.0 sent.frame goes_on end a.0.outcome since.1.in_order
-          ((does_at node on end a.0 run on_is a.1).told (end, a.0.outcome) told))
+          let reported = end_noted end a.0.outcome (sym (ap ends_sending (outcome_by node trace end a.0 a.1)) ∙ ends) in
+          open_reports_nothing past since.0 sent.frame goes_on end a.0.outcome since.1.in_order
+          ((does_at node on end a.0 run on_is a.1).reported (end, a.0.outcome) reported))
     ]
 
 pub ends_are_of_attempts : {plan : SegmentPlan} {trace : List Bit} {levels : List Bool} {events : List Event} →

@@ -10,12 +10,12 @@ use Rattle.can_node.specs.declared.outcome.Outcome.TheVariants.{CameBack}
 use Rattle.bx_core.specs.Lists.{Each}
 use Rattle.bx_core.specs.TxBus.{Item, BusPast, BusCall, IsUndone}
 use Rattle.can_station.specs.declared.event.Label.{Label}
-use Rattle.can_station.specs.declared.event.Told.{Told}
-use Rattle.can_station.specs.declared.event.Told.TheVariants as told
-use Rattle.can_station.specs.declared.member.Action.{Action}
+use Rattle.can_station.specs.declared.event.EventKind.{EventKind}
+use Rattle.can_station.specs.declared.event.EventKind.TheVariants as kinds
+use Rattle.can_station.specs.declared.action.Action.{Action}
 use Rattle.can_station.specs.declared.member.Member.{Member}
 use Rattle.can_station.specs.declared.transmission.Transmission.{Transmission}
-use Rattle.can_station.specs.Lines.{told_start, told_outcome, told_reaped}
+use Rattle.can_station.specs.Lines.{start_kinds, outcome_kinds, reaped_kinds}
 use Rattle.can_station.specs.Tellings.{start_of, rest_by}
 use Rattle.can_station.specs.Outcomes.{is_failure}
 use Rattle.can_station.specs.Ports.{item_of, item_with, Undone, started, completed, failed, settled, taken_by, Reaps}
@@ -25,7 +25,7 @@ use Rattle.can_station.specs.Members.{is_on, settled_at, taken_at}
 use Rattle.can_segment.specs.Moves.{PortMoves}
 use Rattle.std.proofs.lemmas.Bool.Decides.{leb_tells}
 
-pub all-append : {X : Type 0} (names : Told → List X) (xs ys : List Told) → all_in names (xs ++ ys) ≡ all_in names xs
+pub all-append : {X : Type 0} (names : EventKind → List X) (xs ys : List EventKind) → all_in names (xs ++ ys) ≡ all_in names xs
     ++ all_in names ys
 all-append names [] ys = refl
 all-append names (x ∷ xs) ys =
@@ -54,24 +54,24 @@ plain_lists past =
 pub grown-nil : (past : BusPast) → grown past [] ≡ past
 grown-nil past = plain_lists past
 
-pub grown-append : (past : BusPast) (xs ys : List Told) → grown past (xs ++ ys) ≡ grown (grown past xs) ys
+pub grown-append : (past : BusPast) (xs ys : List EventKind) → grown past (xs ++ ys) ≡ grown (grown past xs) ys
 grown-append past xs ys = same_past (grown past (xs ++ ys)) (grown (grown past xs) ys) (more start_in past.started)
     (more sent_in past.done) (more reaped_in past.reaped)
   where
-    more : {X : Type 0} (names : Told → List X) (before : List X) → before
+    more : {X : Type 0} (names : EventKind → List X) (before : List X) → before
         ++ all_in names (xs ++ ys) ≡ (before ++ all_in names xs) ++ all_in names ys
     more names before =
         ap (λ zs. before ++ zs) (all-append names xs ys) ∙ sym (append_assoc before (all_in names xs) (all_in names ys))
 
 -- one line
-grown-one : (past : BusPast) (one : Told) → grown past (one ∷ []) ≡ with_lists past (start_in one) (sent_in one)
+grown-one : (past : BusPast) (one : EventKind) → grown past (one ∷ []) ≡ with_lists past (start_in one) (sent_in one)
     (reaped_in one)
 grown-one past one = same_lists past (all_in start_in (one ∷ [])) (start_in one) (all_in sent_in (one ∷ []))
     (sent_in one) (all_in reaped_in (one ∷ [])) (reaped_in one) (append-nil (start_in one)) (append-nil (sent_in one))
     (append-nil (reaped_in one))
 
 -- lines that name nothing
-grown-idle : (past : BusPast) (one : Told) → start_in one ≡ [] → sent_in one ≡ [] → reaped_in one ≡ [] →
+grown-idle : (past : BusPast) (one : EventKind) → start_in one ≡ [] → sent_in one ≡ [] → reaped_in one ≡ [] →
     grown past (one ∷ []) ≡ past
 grown-idle past one s d r =
     grown-one past one ∙ same_lists past (start_in one) [] (sent_in one) [] (reaped_in one) [] s d r ∙ plain_lists past
@@ -83,10 +83,10 @@ start_label past frame (Some label) = same_past (with_lists past ((label.route, 
     (started past (Some (label.route, label.number, frame))) refl (append-nil past.done) (append-nil past.reaped)
 
 grown_start : (past : BusPast) (begun : Option Transmission) →
-    grown past (told_start begun) ≡ started past (item_of begun)
+    grown past (start_kinds begun) ≡ started past (item_of begun)
 grown_start past None = grown-nil past
 grown_start past (Some sent) =
-    grown-one past (told.Started sent.frame sent.label) ∙ start_label past sent.frame sent.label
+    grown-one past (kinds.Started sent.frame sent.label) ∙ start_label past sent.frame sent.label
 
 sent_label : (past : BusPast) (frame : FrameValue) (label : Option Label) →
     with_lists past [] (option_to_list (item_with frame label)) [] ≡ completed past (item_with frame label)
@@ -95,37 +95,37 @@ sent_label past frame (Some label) = same_past (with_lists past [] ((label.route
     (completed past (Some (label.route, label.number, frame))) (append-nil past.started) refl (append-nil past.reaped)
 
 grown_sent : (past : BusPast) (sending : Option Transmission) →
-    grown past (told_outcome sending Completed) ≡ completed past (item_of sending)
+    grown past (outcome_kinds sending Completed) ≡ completed past (item_of sending)
 grown_sent past None = grown-nil past
 grown_sent past (Some sent) =
-    grown-one past (told.Completed sent.start sent.frame sent.label) ∙ sent_label past sent.frame sent.label
+    grown-one past (kinds.Completed sent.start sent.frame sent.label) ∙ sent_label past sent.frame sent.label
 
 -- a failure without a reaped request brings nothing new
 idle_failure : (past : BusPast) (item : Option Item) → failed past item None ≡ past
 idle_failure past None = refl
 idle_failure past (Some item) = same_past (failed past (Some item) None) past refl refl (append-nil past.reaped)
 
-lost_idle : (past : BusPast) (sending : Option Transmission) → grown past (told_outcome sending Lost) ≡ past
+lost_idle : (past : BusPast) (sending : Option Transmission) → grown past (outcome_kinds sending Lost) ≡ past
 lost_idle past None = grown-nil past
-lost_idle past (Some sent) = grown-idle past (told.Lost sent.start) refl refl refl
+lost_idle past (Some sent) = grown-idle past (kinds.Lost sent.start) refl refl refl
 
 -- without a reaped request
 settles_plain : (past : BusPast) (sending : Option Transmission) (outcome : Outcome) →
-    grown past (told_outcome sending outcome) ≡ settled past (item_of sending) outcome None
+    grown past (outcome_kinds sending outcome) ≡ settled past (item_of sending) outcome None
 settles_plain past sending Nothing = grown-nil past
-settles_plain past sending (Took start frame) = grown-idle past (told.Took start frame) refl refl refl
+settles_plain past sending (Took start frame) = grown-idle past (kinds.Took start frame) refl refl refl
 settles_plain past sending Completed = grown_sent past sending
 settles_plain past sending Lost = lost_idle past sending ∙ sym (idle_failure past (item_of sending))
 settles_plain past sending (Errored kind) =
-    grown-idle past (told.Error kind) refl refl refl ∙ sym (idle_failure past (item_of sending))
-settles_plain past sending WentOff = grown-idle past told.Off refl refl refl ∙ sym (idle_failure past (item_of sending))
-settles_plain past sending CameBack = grown-idle past told.Back refl refl refl
+    grown-idle past (kinds.Error kind) refl refl refl ∙ sym (idle_failure past (item_of sending))
+settles_plain past sending WentOff = grown-idle past kinds.Off refl refl refl ∙ sym (idle_failure past (item_of sending))
+settles_plain past sending CameBack = grown-idle past kinds.Back refl refl refl
 
 -- a failed request was reaped
-reaps_one : (past : BusPast) (item : Item) (label : Label) → grown past (told_reaped (Some label))
+reaps_one : (past : BusPast) (item : Item) (label : Label) → grown past (reaped_kinds (Some label))
     ≡ failed past (Some item) (Some label)
 reaps_one past item label =
-    grown-one past (told.Reaped label) ∙ same_past (with_lists past [] [] ((label.route, label.number) ∷ []))
+    grown-one past (kinds.Reaped label) ∙ same_past (with_lists past [] [] ((label.route, label.number) ∷ []))
     (failed past (Some item) (Some label)) (append-nil past.started) (append-nil past.done) refl
 
 failure_alike : (outcome : Outcome) → is_failure outcome ≡ true →
@@ -141,43 +141,43 @@ failure_alike CameBack f past item reaped = absurd (cc f)
 
 settles_reaped : (past : BusPast) (sending : Option Transmission) (outcome : Outcome) (label : Label) →
     Reaps sending outcome label →
-    grown past (told_outcome sending outcome ++ told_reaped (Some label))
+    grown past (outcome_kinds sending outcome ++ reaped_kinds (Some label))
     ≡ settled past (item_of sending) outcome (Some label)
 settles_reaped past sending outcome label r =
     let item : item_of sending ≡ Some (label.route, label.number, r.sent.frame) =
     ap item_of r.sends ∙ ap (item_with r.sent.frame) r.label_is in
-    grown-append past (told_outcome sending outcome) (told_reaped (Some label))
-    ∙ ap (λ p. grown p (told_reaped (Some label))) (settles_plain past sending outcome
+    grown-append past (outcome_kinds sending outcome) (reaped_kinds (Some label))
+    ∙ ap (λ p. grown p (reaped_kinds (Some label))) (settles_plain past sending outcome
     ∙ failure_alike outcome r.fails past (item_of sending) None ∙ idle_failure past (item_of sending))
     ∙ reaps_one past (label.route, label.number, r.sent.frame) label ∙ ap (λ i. failed past i (Some label)) (sym item)
     ∙ sym (failure_alike outcome r.fails past (item_of sending) (Some label))
 
 grown_settled : (past : BusPast) (sending : Option Transmission) (outcome : Outcome) (reaped : Option Label) →
     IfSome reaped (λ label. Reaps sending outcome label) →
-    grown past (told_outcome sending outcome ++ told_reaped reaped) ≡ settled past (item_of sending) outcome reaped
+    grown past (outcome_kinds sending outcome ++ reaped_kinds reaped) ≡ settled past (item_of sending) outcome reaped
 grown_settled past sending outcome None h =
-    ap (grown past) (append-nil (told_outcome sending outcome)) ∙ settles_plain past sending outcome
+    ap (grown past) (append-nil (outcome_kinds sending outcome)) ∙ settles_plain past sending outcome
 grown_settled past sending outcome (Some label) h = settles_reaped past sending outcome label h
 
--- what a deed brings to the bus side is what is told of it
+-- what a action brings to the bus side is what is reported of it
 pub brings : (past : BusPast) (begun : Option Transmission) (action : Action) →
     IfSome action.reaped (λ label. Reaps action.sent action.outcome label) →
-    grown past (told_start begun ++ rest_by action) ≡ settled (started past (item_of begun))
+    grown past (start_kinds begun ++ rest_by action) ≡ settled (started past (item_of begun))
     (item_of action.sent) action.outcome action.reaped
 brings past begun action h =
-    grown-append past (told_start begun) (rest_by action) ∙ ap (λ p. grown p (rest_by action)) (grown_start past begun)
+    grown-append past (start_kinds begun) (rest_by action) ∙ ap (λ p. grown p (rest_by action)) (grown_start past begun)
     ∙ grown_settled (started past (item_of begun)) action.sent action.outcome action.reaped h
 
-taken_start : (begun : Option Transmission) → all_in taken_in (told_start begun) ≡ []
+taken_start : (begun : Option Transmission) → all_in taken_in (start_kinds begun) ≡ []
 taken_start None = refl
 taken_start (Some sent) = refl
 
-taken_reaped : (reaped : Option Label) → all_in taken_in (told_reaped reaped) ≡ []
+taken_reaped : (reaped : Option Label) → all_in taken_in (reaped_kinds reaped) ≡ []
 taken_reaped None = refl
 taken_reaped (Some label) = refl
 
 taken_outcome : (sending : Option Transmission) (outcome : Outcome) →
-    all_in taken_in (told_outcome sending outcome) ≡ taken_by outcome
+    all_in taken_in (outcome_kinds sending outcome) ≡ taken_by outcome
 taken_outcome sending Nothing = refl
 taken_outcome sending (Took start frame) = refl
 taken_outcome None Completed = refl
@@ -189,13 +189,13 @@ taken_outcome sending WentOff = refl
 taken_outcome sending CameBack = refl
 
 -- and so it is with the sink
-pub takes : (begun : Option Transmission) (action : Action) → all_in taken_in (told_start begun ++ rest_by action)
+pub takes : (begun : Option Transmission) (action : Action) → all_in taken_in (start_kinds begun ++ rest_by action)
     ≡ taken_by action.outcome
 takes begun action =
-    all-append taken_in (told_start begun) (rest_by action)
+    all-append taken_in (start_kinds begun) (rest_by action)
     ∙ ap (λ xs. xs ++ all_in taken_in (rest_by action)) (taken_start begun)
-    ∙ all-append taken_in (told_outcome action.sent action.outcome) (told_reaped action.reaped)
-    ∙ ap (λ xs. all_in taken_in (told_outcome action.sent action.outcome) ++ xs) (taken_reaped action.reaped) ∙
+    ∙ all-append taken_in (outcome_kinds action.sent action.outcome) (reaped_kinds action.reaped)
+    ∙ ap (λ xs. all_in taken_in (outcome_kinds action.sent action.outcome) ++ xs) (taken_reaped action.reaped) ∙
     append-nil _
     ∙ taken_outcome action.sent action.outcome
 
@@ -208,12 +208,12 @@ one_taken (Errored kind) = omega arith
 one_taken WentOff = omega arith
 one_taken CameBack = omega arith
 
-start_started : (begun : Option Transmission) → all_in start_in (told_start begun) ≡ option_to_list (item_of begun)
+start_started : (begun : Option Transmission) → all_in start_in (start_kinds begun) ≡ option_to_list (item_of begun)
 start_started None = refl
 start_started (Some sent) = append-nil (option_to_list (item_with sent.frame sent.label))
 
 start_outcome : (sending : Option Transmission) (outcome : Outcome) →
-    all_in start_in (told_outcome sending outcome) ≡ []
+    all_in start_in (outcome_kinds sending outcome) ≡ []
 start_outcome sending Nothing = refl
 start_outcome sending (Took start frame) = refl
 start_outcome None Completed = refl
@@ -224,23 +224,23 @@ start_outcome sending (Errored kind) = refl
 start_outcome sending WentOff = refl
 start_outcome sending CameBack = refl
 
-start_reaped : (reaped : Option Label) → all_in start_in (told_reaped reaped) ≡ []
+start_reaped : (reaped : Option Label) → all_in start_in (reaped_kinds reaped) ≡ []
 start_reaped None = refl
 start_reaped (Some label) = refl
 
 -- the line of a start names what began
-starts_told : (begun : Option Transmission) (action : Action) → all_in start_in (told_start begun ++ rest_by action)
+starts_reported : (begun : Option Transmission) (action : Action) → all_in start_in (start_kinds begun ++ rest_by action)
     ≡ option_to_list (item_of begun)
-starts_told begun action =
-    all-append start_in (told_start begun) (rest_by action)
-    ∙ ap (λ xs. all_in start_in (told_start begun) ++ xs)
-    (all-append start_in (told_outcome action.sent action.outcome) (told_reaped action.reaped)
-    ∙ ap (λ xs. xs ++ all_in start_in (told_reaped action.reaped)) (start_outcome action.sent action.outcome)
+starts_reported begun action =
+    all-append start_in (start_kinds begun) (rest_by action)
+    ∙ ap (λ xs. all_in start_in (start_kinds begun) ++ xs)
+    (all-append start_in (outcome_kinds action.sent action.outcome) (reaped_kinds action.reaped)
+    ∙ ap (λ xs. xs ++ all_in start_in (reaped_kinds action.reaped)) (start_outcome action.sent action.outcome)
     ∙ start_reaped action.reaped)
     ∙ append-nil _ ∙ start_started begun
 
 -- the only lines that name a start are those of what begins
-pub starts_undone-append : (past : BusPast) (xs ys : List Told) → StartsUndone past xs →
+pub starts_undone-append : (past : BusPast) (xs ys : List EventKind) → StartsUndone past xs →
     StartsUndone (grown past xs) ys → StartsUndone past (xs ++ ys)
 starts_undone-append past [] ys h k = subst (λ p. StartsUndone p ys) (grown-nil past) k
 starts_undone-append past (x ∷ xs) ys h k = (
@@ -250,7 +250,7 @@ starts_undone-append past (x ∷ xs) ys h k = (
 )
 
 none_started : (past : BusPast) (sending : Option Transmission) (outcome : Outcome) →
-    StartsUndone past (told_outcome sending outcome)
+    StartsUndone past (outcome_kinds sending outcome)
 none_started past sending Nothing = tt
 none_started past sending (Took start frame) = (tt, tt)
 none_started past None Completed = tt
@@ -261,7 +261,7 @@ none_started past sending (Errored kind) = (tt, tt)
 none_started past sending WentOff = (tt, tt)
 none_started past sending CameBack = (tt, tt)
 
-none_reaped : (past : BusPast) (reaped : Option Label) → StartsUndone past (told_reaped reaped)
+none_reaped : (past : BusPast) (reaped : Option Label) → StartsUndone past (reaped_kinds reaped)
 none_reaped past None = tt
 none_reaped past (Some label) = (tt, tt)
 
@@ -270,17 +270,17 @@ each_undone past None h = tt
 each_undone past (Some x) h = (h, tt)
 
 one_started : (past : BusPast) (begun : Option Transmission) → Undone past (item_of begun) →
-    StartsUndone past (told_start begun)
+    StartsUndone past (start_kinds begun)
 one_started past None h = tt
 one_started past (Some sent) h = (each_undone past (item_with sent.frame sent.label) h, tt)
 
-undone_told : (past : BusPast) (begun : Option Transmission) (action : Action) → Undone past (item_of begun) →
-    StartsUndone past (told_start begun ++ rest_by action)
-undone_told past begun action h =
-    starts_undone-append past (told_start begun) (rest_by action) (one_started past begun h)
-    (starts_undone-append (grown past (told_start begun)) (told_outcome action.sent action.outcome)
-    (told_reaped action.reaped) (none_started (grown past (told_start begun)) action.sent action.outcome)
-    (none_reaped (grown (grown past (told_start begun)) (told_outcome action.sent action.outcome)) action.reaped))
+undone_reported : (past : BusPast) (begun : Option Transmission) (action : Action) → Undone past (item_of begun) →
+    StartsUndone past (start_kinds begun ++ rest_by action)
+undone_reported past begun action h =
+    starts_undone-append past (start_kinds begun) (rest_by action) (one_started past begun h)
+    (starts_undone-append (grown past (start_kinds begun)) (outcome_kinds action.sent action.outcome)
+    (reaped_kinds action.reaped) (none_started (grown past (start_kinds begun)) action.sent action.outcome)
+    (none_reaped (grown (grown past (start_kinds begun)) (outcome_kinds action.sent action.outcome)) action.reaped))
 
 -- a node that is not on yet
 early : (on bit : ℕ) → nat_le on bit ≡ false → bit < on
@@ -288,28 +288,28 @@ early on bit e = elim (leb_tells on bit) [ inl is ↦ absurd (cc (e, is.0)) | in
 
 pub port_brought : {P : Type 0} (after : P → BusPast → Type 0) (asked : P → List BusCall → Type 0)
     (transmitting : P → Option Item) (sink : P → List FrameValue → Type 0) (stays : P → P → Type 0)
-    (bit : ℕ) (wants : Bool) (tells : List Told) (m : Member) (p q : P) → tells ≡ start_of m.action ++ rest_by m.action
+    (bit : ℕ) (wants : Bool) (tells : List EventKind) (m : Member) (p q : P) → tells ≡ start_of m.action ++ rest_by m.action
     →
     (bit < m.on → m.action ≡ no_action) →
     PortMoves after asked transmitting sink stays bit wants m p q →
     IsBrought after asked transmitting sink stays tells wants (item_of m.station.sending) p q
-port_brought after asked transmitting sink stays bit wants tells m p q told uneventful moves = record {
-  bus = λ past h. subst (λ ts. after q (grown past ts)) (sym told) (bus_by past (is_on bit m) refl (moves.bus past h));
-  undone = λ past h. subst (StartsUndone past) (sym told) (undone_by past (is_on bit m) refl (moves.undone past h));
+port_brought after asked transmitting sink stays bit wants tells m p q reported uneventful moves = record {
+  bus = λ past h. subst (λ ts. after q (grown past ts)) (sym reported) (bus_by past (is_on bit m) refl (moves.bus past h));
+  undone = λ past h. subst (StartsUndone past) (sym reported) (undone_by past (is_on bit m) refl (moves.undone past h));
   begins = item_of (cond (is_on bit m) (begun_by m.action) None);
-  begins_is = ap (all_in start_in) told ∙ begins_by (is_on bit m) refl;
+  begins_is = ap (all_in start_in) reported ∙ begins_by (is_on bit m) refl;
   asks = moves.asks;
   transmits = moves.transmits;
-  offers = λ past h. subst (λ ts. sink q (past ++ all_in taken_in ts)) (sym told)
+  offers = λ past h. subst (λ ts. sink q (past ++ all_in taken_in ts)) (sym reported)
       (sink_by past (is_on bit m) refl (moves.offers past h));
-  one_at_most = subst (λ ts. length (all_in taken_in ts) ≤ 1) (sym told)
+  one_at_most = subst (λ ts. length (all_in taken_in ts) ≤ 1) (sym reported)
       (subst (λ fs. length fs ≤ 1) (sym (takes (begun_by m.action) m.action)) (one_taken m.action.outcome));
   stays_on = moves.stays_on;
 }
   where
     begins_by : (on : Bool) → is_on bit m ≡ on → all_in start_in (start_of m.action ++ rest_by m.action)
         ≡ option_to_list (item_of (cond on (begun_by m.action) None))
-    begins_by true e = starts_told (begun_by m.action) m.action
+    begins_by true e = starts_reported (begun_by m.action) m.action
     begins_by false e = ap (λ d. all_in start_in (start_of d ++ rest_by d)) (uneventful (early m.on bit e))
 
     bus_by : (past : BusPast) (on : Bool) → is_on bit m ≡ on →
@@ -331,7 +331,7 @@ port_brought after asked transmitting sink stays bit wants tells m p q told unev
     undone_by : (past : BusPast) (on : Bool) → is_on bit m ≡ on →
         Undone past (item_of (cond on (begun_by m.action) None)) → StartsUndone past (start_of m.action ++ rest_by
         m.action)
-    undone_by past true e h = undone_told past (begun_by m.action) m.action h
+    undone_by past true e h = undone_reported past (begun_by m.action) m.action h
     undone_by past false e h =
         let idle : m.action ≡ no_action = uneventful (early m.on bit e) in
         subst (λ d. StartsUndone past (start_of d ++ rest_by d)) (sym idle) tt

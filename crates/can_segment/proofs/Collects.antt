@@ -2,13 +2,13 @@
 use Rattle.std.proofs.Common.{◌≡◌, ℕ, zero, suc, ◌+◌, Bool, ◌&&◌, Option, Some, List, [], ◌∷◌, ◌++◌, length, slice_get}
 use Rattle.std.proofs.Common.{refl, sym, ap, subst, arith, ◌∙◌, append_assoc}
 use Rattle.std.specs.List.{list_all}
-use Rattle.can_station.specs.declared.event.Told.{Told}
-use Rattle.can_station.specs.declared.member.Action.{Action}
+use Rattle.can_station.specs.declared.event.EventKind.{EventKind}
+use Rattle.can_station.specs.declared.action.Action.{Action}
 use Rattle.can_station.specs.declared.member.Member.{Member}
 use Rattle.can_segment.specs.Traces.{Act}
 use Rattle.can_station.specs.Lines.{lines}
 use Rattle.can_segment.specs.Tells.{lines_from}
-use Rattle.can_station.specs.Tellings.{told_by}
+use Rattle.can_station.specs.Tellings.{events_by}
 
 -- an act for each node, of which this is known
 pub record Collected {X : Type 0} (A : X → ℕ → Member → Member → Option Act → Type 0) (k : ℕ) (xs : List X)
@@ -77,19 +77,19 @@ same_all p q (x ∷ xs) (y ∷ ys) e h =
     ap (λ b. b && list_all p xs) (h zero x y refl refl)
     ∙ ap (λ b. q y && b) (same_all p q xs ys (omega (arith, e)) (λ i a b ea eb. h (suc i) a b ea eb))
 
--- what is told of nodes by their places, and by their deeds
-pub lines_told : (tells : ℕ → List Told) (by : Action → List Told) (bit node : ℕ) (members : List Member) →
+-- what is reported of nodes by their places, and by their actions
+pub lines_reported : (tells : ℕ → List EventKind) (by : Action → List EventKind) (bit node : ℕ) (members : List Member) →
     ((i : ℕ) (m : Member) → slice_get members i ≡ Some m → tells (node + i) ≡ by m.action) →
-    lines_from tells bit node (length members) ≡ told_by by bit node members
-unfolding told_by
-lines_told tells by bit node [] h = refl
-lines_told tells by bit node (m ∷ members) h =
+    lines_from tells bit node (length members) ≡ events_by by bit node members
+unfolding events_by
+lines_reported tells by bit node [] h = refl
+lines_reported tells by bit node (m ∷ members) h =
     ap (λ t. lines bit node t ++ lines_from tells bit (suc node) (length members))
     (ap tells (omega arith) ∙ h zero m refl)
     ∙ ap (λ es. lines bit node (by m.action) ++ es) (ap (λ n. lines_from tells bit n (length members)) (omega arith)
-    ∙ lines_told tells by bit (node + 1) members (λ i x e. ap tells (omega arith) ∙ h (suc i) x e))
+    ∙ lines_reported tells by bit (node + 1) members (λ i x e. ap tells (omega arith) ∙ h (suc i) x e))
 
-pub lines_split : (tells : ℕ → List Told) (bit node n m : ℕ) →
+pub lines_split : (tells : ℕ → List EventKind) (bit node n m : ℕ) →
     lines_from tells bit node (n + m) ≡ lines_from tells bit node n ++ lines_from tells bit (node + n) m
 lines_split tells bit node zero m =
     ap (λ k. lines_from tells bit node k) (omega arith) ∙ ap (λ k. lines_from tells bit k m) (omega arith)

@@ -7,7 +7,7 @@ use Rattle.can_station.specs.declared.plan.SegmentPlan.{SegmentPlan}
 use Rattle.can_segment.specs.Traces.{Bit}
 use Rattle.can_segment.specs.Runs.{Run}
 use Rattle.can_segment.specs.Copies.{is_falsified, KeepsCopies, Copies}
-use Rattle.can_segment.proofs.Attempts.{attempts_are_told, ends_are_of_attempts}
+use Rattle.can_segment.proofs.Attempts.{attempts_are_reported, ends_are_of_attempts}
 use Rattle.can_segment.proofs.OneLine.{one_line}
 use Rattle.can_segment.proofs.Requests.{requests_try_failures}
 use Rattle.can_segment.proofs.Retries.{talkers_try_failures}
@@ -26,7 +26,7 @@ keeps_copies {plan = plan} run = record {
       (one_line node other sender receiver run s r) attempt sound take;
   talkers = talkers_try_failures run;
   controllers = requests_try_failures run;
-  told = attempts_are_told run;
+  reported = attempts_are_reported run;
   ends = ends_are_of_attempts run;
 }
 

@@ -1,5 +1,5 @@
 -- Nodes that are left alone while a listener follows the line for them.
-use Rattle.std.proofs.Common.{◌≡◌, ℕ, zero, suc, ◌+◌, ◌≤◌, ◌&&◌, nat_le, inl, inr, cond, Bool, true, false, Option}
+use Rattle.std.proofs.Common.{◌≡◌, ℕ, zero, suc, ◌+◌, ◌<◌, ◌≤◌, ◌&&◌, nat_le, inl, inr, cond, Bool, true, false, Option}
 use Rattle.std.proofs.Common.{None, Some, is_some, List, [], ◌∷◌, length, slice_get, refl, sym, ap, subst, arith, ◌∙◌}
 use Rattle.std.specs.List.{list_all}
 use Rattle.std.proofs.lemmas.Bool.Decides.{leb_tells}
@@ -14,8 +14,9 @@ use Rattle.can_node.specs.declared.node.Node.{Node}
 use Rattle.can_node.specs.declared.shared_receiver.SharedReceiver.{SharedReceiver}
 use Rattle.can_node.proofs.Samples.{stands_history, wanting}
 use Rattle.can_node.specs.declared.outcome.Outcome.TheVariants.{Nothing}
-use Rattle.can_station.specs.declared.member.Action.{Action}
+use Rattle.can_station.specs.declared.action.Action.{Action}
 use Rattle.can_station.specs.declared.member.Member.{Member}
+use Rattle.can_station.specs.Queues.{IsNotDueBefore, due_at}
 use Rattle.can_station.specs.declared.plan.NodeFault.{NodeFault}
 use Rattle.can_station.specs.declared.plan.Talker.{Talker}
 use Rattle.can_segment.specs.declared.deferred.Deferred.{Deferred}
@@ -25,7 +26,7 @@ use Rattle.can_station.specs.Members.{NodeSamples, PortSettles, PortStarts, Samp
 use Rattle.can_station.specs.Places.{AtPlaces, AtBoth}
 use Rattle.can_station.specs.Ports.{item_of}
 use Rattle.can_station.specs.Stations.{IsTalk}
-use Rattle.can_segment.specs.DeferredState.{AreDeferred, AreFinished, Drives, IsDeferred, FollowsThrough, NoneStarts}
+use Rattle.can_segment.specs.DeferredState.{AreDeferred, AreNotDue, Drives, IsDeferred, FollowsThrough, NoneStarts}
 use Rattle.can_segment.specs.DeferredState.{materialized}
 use Rattle.can_station.specs.DeferredNodes.{ActiveAreUneventful, HasRoom, IfActive, IfActiveBoth, NoneDeferred}
 use Rattle.can_station.specs.DeferredNodes.{TransmitsAll}
@@ -35,26 +36,25 @@ use Rattle.can_segment.proofs.Shown.{map_at, map_there}
 use Rattle.can_segment.proofs.Unmoved.{unmoved_requests, unmoved_settles}
 use Rattle.can_segment.proofs.Resumed.{active_resumed, found_active, lift_both, lift_places, deferred_resumed}
 
--- one that rests does not start,
+-- a deferred node does not start,
 and_false : (b : Bool) → (b && false) ≡ false
 and_false true = refl
 and_false false = refl
 
-talks_none : (deferred : Deferred) (bit : ℕ) (m : Member) (frames : List FrameValue) → NoneStarts deferred →
-    (deferred.finished ≡ true → slice_get frames m.station.completed ≡ None) →
+talks_none : (deferred : Deferred) (bit : ℕ) (m : Member) (next : Option FrameValue) → NoneStarts deferred bit →
+    (bit < deferred.next_start → next ≡ None) →
     IsTalk (materialized_member deferred.shared_receiver bit m).station (materialized_member deferred.shared_receiver
-    bit m).station frames false
-talks_none deferred bit m frames none left =
+    bit m).station next false
+talks_none deferred bit m next none not_due =
     record { begins = λ e. absurd (cc e); stays = λ e. refl; wants = λ past stood. tells past stood none }
   where
     tells : (past : Past) → StandsAfter (materialized_member deferred.shared_receiver bit m).station.node past →
-        NoneStarts deferred →
-        (is : Bool) × IsWanting past is × (false ≡ (is && is_some (slice_get frames m.station.completed)))
-    tells past stood (inl finished) =
+        NoneStarts deferred bit → (is : Bool) × IsWanting past is × (false ≡ (is && is_some next))
+    tells past stood (inl before) =
         let node = (materialized_member deferred.shared_receiver bit m).station.node in (
           may_begin node,
           wanting node (may_begin node) refl past stood,
-          sym (ap (λ o. may_begin node && is_some o) (left finished) ∙ and_false (may_begin node)),
+          sym (ap (λ o. may_begin node && is_some o) (not_due before) ∙ and_false (may_begin node)),
         )
     tells past stood (inr wants) = (
       false,
@@ -63,19 +63,20 @@ talks_none deferred bit m frames none left =
       refl,
     )
 
-deferred_talks : (deferred : Deferred) (bit : ℕ) (talkers : List Talker) (k : ℕ) (m : Member) → NoneStarts deferred →
+deferred_talks : (deferred : Deferred) (bit : ℕ) (talkers : List Talker) (k : ℕ) (m : Member) → NoneStarts deferred bit →
     IsDeferred deferred bit m →
-    (deferred.finished ≡ true → (talker : Talker) → slice_get talkers k ≡ Some talker →
-    slice_get talker.frames.items m.station.completed ≡ None) →
+    ((talker : Talker) → slice_get talkers k ≡ Some talker →
+    IsNotDueBefore talker.queue.items m.station.completed deferred.next_start) →
     TalkerStarts bit talkers k (materialized_member deferred.shared_receiver bit m) (materialized_member
     deferred.shared_receiver bit m)
-deferred_talks deferred bit talkers k m none is_deferred left talker e = record {
+deferred_talks deferred bit talkers k m none is_deferred not_due talker e = record {
   off = λ early. refl;
   on_is = refl;
   talks = λ late. subst (IsTalk (materialized_member deferred.shared_receiver bit m).station
-      (materialized_member deferred.shared_receiver bit m).station talker.frames.items) (sym
-      is_deferred.uneventful.no_start)
-      (talks_none deferred bit m talker.frames.items none (λ is. left is talker e));
+      (materialized_member deferred.shared_receiver bit m).station
+      (due_at talker.queue.items m.station.completed bit)) (sym is_deferred.uneventful.no_start)
+      (talks_none deferred bit m (due_at talker.queue.items m.station.completed bit) none
+      (λ before. not_due talker e bit before));
 }
 
 deferred_requests : {P : Type 0} (after : P → BusPast → Type 0) (asked : P → List BusCall → Type 0)
@@ -102,7 +103,7 @@ deferred_drives deferred bit m drive drives is_deferred =
     is_deferred.is_on)
     ∙ sym (drives is_deferred.listening m.station.node bit)
 
--- One that rests, before a bit and behind it: it has sampled this level, and nothing is told of it.
+-- A deferred node, before a bit and behind it: it has sampled this level, and nothing is reported of it.
 pub record Sleeps (bit : ℕ) (level : Bool) (before behind : SharedReceiver) (old new : Member) : Type 0 where
   pub is_on : old.on ≤ bit
   pub on_is : new.on ≡ old.on
@@ -164,31 +165,31 @@ deferred_settles after asked transmitting sink stays before behind bit level a b
     h.uneventful
     (sends ∙ ap item_of (sym h.sending_is)) same
 
--- The talkers of which those that are awake start: so do all for which they stand.
-pub talkers_start : (deferred : Deferred) (bit : ℕ) (plan : List Talker) (t0 t1 : List Member) → NoneStarts deferred →
-    AreDeferred deferred bit t0 → AreFinished deferred plan t0 → AtPlaces (λ k. IfActive (TalkerStarts bit plan k)) t0
+-- The talkers of which the active nodes start: so do all for which they stand.
+pub talkers_start : (deferred : Deferred) (bit : ℕ) (plan : List Talker) (t0 t1 : List Member) → NoneStarts deferred bit →
+    AreDeferred deferred bit t0 → AreNotDue deferred plan t0 → AtPlaces (λ k. IfActive (TalkerStarts bit plan k)) t0
     t1 →
     AtPlaces (TalkerStarts bit plan) (materialized deferred bit t0) (materialized deferred bit t1)
-talkers_start deferred bit plan t0 t1 none is_deferred finished moves =
+talkers_start deferred bit plan t0 t1 none is_deferred not_due moves =
     lift_places (TalkerStarts bit plan) deferred.shared_receiver deferred.shared_receiver bit bit t0 t1
-    (λ k m e is. deferred_talks deferred bit plan k m none (is_deferred k m e is) (λ s talker f. finished s k m talker e
-    f is)) moves
+    (λ k m e is. deferred_talks deferred bit plan k m none (is_deferred k m e is) (λ talker f. not_due k m talker e f
+    is)) moves
 
--- no controller that rests wants to start
-pub wishes_none : (deferred : Deferred) (controllers : List Member) → NoneStarts deferred →
-    (deferred.finished ≡ true → NoneDeferred controllers) → (k : ℕ) (m : Member) → slice_get controllers k ≡ Some m →
+-- no deferred controller wants to start
+pub wishes_none : (deferred : Deferred) (bit : ℕ) (controllers : List Member) → NoneStarts deferred bit →
+    (0 < deferred.next_start → NoneDeferred controllers) → (k : ℕ) (m : Member) → slice_get controllers k ≡ Some m →
     m.is_deferred ≡ true →
     (node : Node) (next : ℕ) → may_begin (materialized_node node deferred.shared_receiver next) ≡ false
-wishes_none deferred controllers none active k m e is = elim none [
-  | inl finished ↦ (λ node next. absurd (let not = active finished k m e in cc (is, not)))
+wishes_none deferred bit controllers none active k m e is = elim none [
+  | inl before ↦ (λ node next. absurd (let not = active (omega (arith, before)) k m e in cc (is, not)))
   | inr wants ↦ wants
 ]
 
 pub controllers_start : {P : Type 0} (after : P → BusPast → Type 0) (asked : P → List BusCall → Type 0)
     (transmitting : P → Option Item) (stays : P → P → Type 0) (deferred : Deferred) (bit : ℕ) (c0 c1 : List Member)
     (from to : List P) →
-    ((x : P) → stays x x) → NoneStarts deferred → AreDeferred deferred bit c0 → (deferred.finished ≡ true → NoneDeferred
-    c0) →
+    ((x : P) → stays x x) → NoneStarts deferred bit → AreDeferred deferred bit c0 →
+    (0 < deferred.next_start → NoneDeferred c0) →
     TransmitsAll transmitting c0 from → length from ≡ length c0 →
     AtBoth (λ k. IfActiveBoth (PortStarts after asked transmitting stays bit)) c0 c1 from to →
     AtBoth (λ k. PortStarts after asked transmitting stays bit) (materialized deferred bit c0)
@@ -199,7 +200,7 @@ controllers_start after asked transmitting stays deferred bit c0 c1 from to same
     bit c0 c1 from to
     sizes
     (λ k m p e f is. deferred_requests after asked transmitting stays deferred bit m p
-    (wishes_none deferred c0 none active k m e is) (is_deferred k m e is) (sends k m p e f) (same p)) moves
+    (wishes_none deferred bit c0 none active k m e is) (is_deferred k m e is) (sends k m p e f) (same p)) moves
 
 -- the AND of what all drive
 pub all_drive : (deferred : Deferred) (bit : ℕ) (drive : Bool) (members : List Member) → Drives deferred drive →
@@ -221,7 +222,7 @@ all_drive deferred bit drive (m ∷ members) drives is_deferred =
         ap (λ b. cond b drive (drives_at bit m)) is ∙ ap (drives_at bit) (sym (active_resumed deferred.shared_receiver
         bit m is))
 
--- Nodes of which those that are awake sample the line: so do all for which they stand.
+-- Nodes of which the active nodes sample the line: so do all for which they stand.
 pub unfaulted_level : (faults : List NodeFault) (n bit : ℕ) (level : Bool) → is_inverted faults n bit ≡ false →
     level ≡ sampled_level faults n bit level
 unfaulted_level faults n bit level none = sym (ap (λ b. cond b (not_ level) level) none)
@@ -277,7 +278,7 @@ next_deferred old new bit level m through is_deferred = record {
   listening = through.listens is_deferred.listening;
 }
 
--- nothing is told of those that rest, and so of none if nothing is of those that are awake
+-- nothing is reported of the deferred nodes, and so of none if nothing is of the active nodes
 pub all_uneventful : (deferred : Deferred) (bit : ℕ) (members : List Member) → AreDeferred deferred (bit + 1) members →
     ActiveAreUneventful bit members → AreUneventful bit (materialized deferred (bit + 1) members)
 all_uneventful deferred bit members is_deferred uneventful k x e on =
@@ -338,7 +339,7 @@ pub members_length : (deferred : Deferred) (bit : ℕ) (members : List Member) �
     length (materialized deferred bit members) ≡ length members
 members_length deferred bit members = length-map members (resumed deferred.shared_receiver bit)
 
--- none of those rests for which they stand
+-- none of those is deferred for which they stand
 pub active_at : (deferred : Deferred) (bit : ℕ) (members : List Member) (k : ℕ) (x : Member) →
     slice_get (materialized deferred bit members) k ≡ Some x → x.is_deferred ≡ false
 active_at deferred bit members k x e = let m = map_at (resumed deferred.shared_receiver bit) members k x e in ap (λ y.

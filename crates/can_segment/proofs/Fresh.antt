@@ -75,7 +75,7 @@ idle_fresh on xs members fresh k sends e =
     let x = some_there xs k (omega (arith, within, fresh.size)) in
     sym m.2 ∙ ap item_of (fresh.at k x.0 m.0 x.1 m.1).idle
 
--- none of them rests
+-- none of them is deferred
 pub fresh_active : {X : Type 0} (on : X → ℕ) (xs : List X) (members : List Member) → AreFresh on xs members →
     NoneDeferred members
 fresh_active on xs members fresh k m e =

@@ -1,4 +1,4 @@
--- What those that are awake do at a bit of which nothing is told, and what follows for all.
+-- What the active nodes do at a bit of which nothing is reported, and what follows for all.
 use Rattle.std.proofs.Common.{◌≡◌, ℕ, Bool, true, false, Option, List, refl, sym, ap, subst, arith, inl}
 use Rattle.std.proofs.Common.{◌∙◌}
 use Rattle.std.proofs.lemmas.Option.{slice_get_within}
@@ -44,7 +44,7 @@ goes_samples bit level old new h = record {
   reaps_none = λ late. (still_uneventful bit level old new h).no_reaping;
 }
 
--- so where one is awake
+-- so where one is active
 going : (bit : ℕ) (level : Bool) (old new : Member) → MemberGoes bit level old new →
     IfActive (MemberGoes bit level) old new
 going bit level old new h = let active =
@@ -137,7 +137,7 @@ go_settles after asked transmitting sink stays bit level old new ports same go s
   size_too = refl;
 }
 
--- nothing is told of them,
+-- nothing is reported of them,
 pub go_uneventful : (bit : ℕ) (level : Bool) (old new : List Member) → AllGo bit level old new → ActiveAreUneventful bit
     new
 go_uneventful bit level old new go k m e active on =

@@ -5,12 +5,12 @@ use Rattle.std.specs.List.{list_all}
 use Rattle.std.proofs.lemmas.List.{append-nil, append_assoc}
 use Rattle.can_confinement.specs.declared.counters.Counters.{Counters}
 use Rattle.can_station.specs.declared.event.Event.{Event}
-use Rattle.can_station.specs.declared.fault_order.FaultOrder.{FaultOrder}
+use Rattle.can_station.specs.declared.current_faults.CurrentFaults.{CurrentFaults}
 use Rattle.can_station.specs.declared.member.Member.{Member}
 use Rattle.can_station.specs.declared.plan.SegmentPlan.{SegmentPlan}
 use Rattle.can_station.specs.declared.plan.Talker.{Talker}
 use Rattle.can_station.specs.Actions.{AreUneventful, IsUneventful}
-use Rattle.can_station.specs.FaultOrder.{IsFaultless, StandsAt}
+use Rattle.can_station.specs.CurrentFaults.{IsFaultless, IsCurrent}
 use Rattle.can_station.specs.Members.{Samples, SamplesAndSettles, StartsRequest, drives_at}
 use Rattle.can_station.specs.Places.{AtPlaces}
 use Rattle.can_station.specs.Ports.{Reaps, item_of}
@@ -31,20 +31,20 @@ use Rattle.can_segment.proofs.DeferredState.{all_drive, all_uneventful, members_
 use Rattle.can_segment.proofs.SingleBit.{follows_through}
 use Rattle.can_station.proofs.Places.{same_some}
 
--- the same, where it is held of those that rest that they have nothing to start
-abbrev as_finished : Deferred → Deferred
-as_finished deferred = record {
+-- the same deferred nodes, of which it is said that they have nothing to start before this bit
+abbrev idle_before : ℕ → Deferred → Deferred
+idle_before limit deferred = record {
   shared_receiver = deferred.shared_receiver;
   any_deferred = deferred.any_deferred;
   known = deferred.known;
-  finished = true;
+  next_start = limit;
   talkers = deferred.talkers;
   controllers = deferred.controllers;
 }
 
-finished_deferred : (deferred : Deferred) (bit : ℕ) (members : List Member) → AreDeferred deferred bit members →
-    AreDeferred (as_finished deferred) bit members
-finished_deferred deferred bit members is_deferred k m e is =
+idle_deferred : (limit : ℕ) (deferred : Deferred) (bit : ℕ) (members : List Member) →
+    AreDeferred deferred bit members → AreDeferred (idle_before limit deferred) bit members
+idle_deferred limit deferred bit members is_deferred k m e is =
     let h = is_deferred k m e is in
     record {
       some_deferred = h.some_deferred;
@@ -55,10 +55,10 @@ finished_deferred deferred bit members is_deferred k m e is =
           h.listening;
     }
 
--- a recessive bit leaves those that rest as they are
-idles_through : (deferred : Deferred) (bit : ℕ) (plan : List Talker) (t c : List Member) → AreIdle deferred plan t c →
-    FollowsThrough bit true deferred deferred
-idles_through deferred bit plan t c idle =
+-- a recessive bit leaves the deferred nodes as they are
+idles_through : (deferred : Deferred) (bit limit : ℕ) (plan : List Talker) (t c : List Member) →
+    AreIdle deferred limit plan t c → FollowsThrough bit true deferred deferred
+idles_through deferred bit limit plan t c idle =
     follows_through deferred bit deferred.shared_receiver true (idle.idles.follows deferred.known bit)
     idle.idles.listens
 
@@ -70,7 +70,7 @@ idle_samples deferred bit members through each_deferred is_deferred =
     members_sample deferred deferred bit 0 true [] members members is_deferred (λ k m e is. refl) (λ k m e is. through)
     (go_samples bit true members members (stay_deferred bit members each_deferred))
 
--- one of which nothing is told begins no request
+-- one of which nothing is reported begins no request
 begins_none : (bit : ℕ) (m : Member) → IsUneventful m.action → StartsRequest bit m m
 begins_none bit m uneventful = record {
   off = λ early. refl;
@@ -99,23 +99,23 @@ all_recessive deferred bit members drives each_deferred is_deferred =
     sym (all_drive deferred bit true members drives is_deferred) ∙ deferred_drive bit members each_deferred
 
 -- what all nodes do at such a bit
-idle_move : (plan : SegmentPlan) (bit : ℕ) (deferred : Deferred) (t c : List Member) → AreIdle deferred
-    plan.talkers.items t c →
+idle_move : (plan : SegmentPlan) (bit limit : ℕ) (deferred : Deferred) (t c : List Member) → bit < limit →
+    AreIdle deferred limit plan.talkers.items t c →
     DeferredHolds deferred bit plan.talkers.items t c → IsFaultless plan bit →
     NodesMove plan bit true (materialized deferred bit t) (materialized deferred (bit + 1) t) (materialized deferred bit
     c)
     (materialized deferred (bit + 1) c)
-idle_move plan bit deferred t c idle is_deferred faultless =
-    let through = idles_through deferred bit plan.talkers.items t c idle in
+idle_move plan bit limit deferred t c before idle is_deferred faultless =
+    let through = idles_through deferred bit limit plan.talkers.items t c idle in
     let samples = idle_samples deferred bit t through idle.talkers_deferred is_deferred.talkers_deferred in
     let settles = idle_samples deferred bit c through idle.controllers_deferred is_deferred.controllers_deferred in
     let drives : Drives deferred true = λ listening node at. sym (idle.idles.drives node at) in
     record {
       t1 = materialized deferred bit t;
       c1 = materialized deferred bit c;
-      starts = talkers_start (as_finished deferred) bit plan.talkers.items t t (inl refl)
-          (finished_deferred deferred bit t is_deferred.talkers_deferred) (λ s k m talker e f is. idle.talkers_finished
-          k m talker e f)
+      starts = talkers_start (idle_before limit deferred) bit plan.talkers.items t t (inl before)
+          (idle_deferred limit deferred bit t is_deferred.talkers_deferred)
+          (λ k m talker e f is. idle.talkers_not_due k m talker e f)
           (go_starts bit true plan.talkers.items t t (stay_deferred bit t idle.talkers_deferred));
       samples = record {
         at = λ k a b e f. subst (λ l. Samples bit l a b) (sym (faultless.nodes k true)) (samples.at k a b e f);
@@ -152,20 +152,21 @@ same_sending deferred bit next [] = refl
 same_sending deferred bit next (m ∷ members) =
     ap (λ sent. item_of m.station.sending ∷ sent) (same_sending deferred bit next members)
 
-idle_one : (plan : SegmentPlan) (faults : FaultOrder) (levels : List Bool) (events : List Event)
-    (counters : List Counters) (deferred : Deferred) (t c : List Member) → AreIdle deferred plan.talkers.items t c →
+idle_one : (plan : SegmentPlan) (faults : CurrentFaults) (levels : List Bool) (events : List Event)
+    (counters : List Counters) (deferred : Deferred) (limit : ℕ) (t c : List Member) →
+    AreIdle deferred limit plan.talkers.items t c → length levels < limit →
     Between plan faults levels events counters deferred t c → length levels < plan.bits →
-    IsFaultless plan (length levels) → StandsAt plan (length levels + 1) faults →
+    IsFaultless plan (length levels) → IsCurrent plan (length levels + 1) faults →
     Between plan faults (levels ++ true ∷ []) events counters deferred t c
     × MakesIdleBit (value_of plan levels events counters deferred c)
     (value_of plan (levels ++ true ∷ []) events counters deferred c)
-idle_one plan faults levels events counters deferred t c idle h still faultless stands =
+idle_one plan faults levels events counters deferred limit t c idle before h still faultless stands =
     let bit = length levels in
     let longer : length (levels ++ true ∷ []) ≡ bit + 1 = length-append levels (true ∷ []) in
-    let through = idles_through deferred bit plan.talkers.items t c idle in
+    let through = idles_through deferred bit limit plan.talkers.items t c idle in
     let behind = through_holds deferred deferred bit true plan.talkers.items t c through h.is_deferred in
     let kept = kept_so plan levels events true deferred deferred t t c c h.holds.kept still
-    (idle_move plan bit deferred t c idle h.is_deferred faultless) (
+    (idle_move plan bit limit deferred t c before idle h.is_deferred faultless) (
       idle_uneventful deferred bit t idle.talkers_deferred behind.talkers_deferred,
       idle_uneventful deferred bit c idle.controllers_deferred behind.controllers_deferred,
     ) in
@@ -186,26 +187,26 @@ idle_one plan faults levels events counters deferred t c idle h still faultless 
     )
 
 -- such bits one after another, whose levels the record got at once
-pub idle_burst : (plan : SegmentPlan) (faults : FaultOrder) (levels : List Bool) (events : List Event)
-    (counters : List Counters) (made : List Bool) (deferred : Deferred) (t c : List Member) (last : ℕ) → AreRecessive
-    made →
-    AreIdle deferred plan.talkers.items t c → Between plan faults levels events counters deferred t c →
+pub idle_burst : (plan : SegmentPlan) (faults : CurrentFaults) (levels : List Bool) (events : List Event)
+    (counters : List Counters) (made : List Bool) (deferred : Deferred) (limit : ℕ) (t c : List Member) (last : ℕ) →
+    AreRecessive made → AreIdle deferred limit plan.talkers.items t c → last ≤ limit → Between plan faults levels events counters deferred t c →
     UneventfulUntil plan faults last → last ≤ plan.bits → (0 < length made → length levels + length made ≤ last) →
     Between plan faults (levels ++ made) events counters deferred t c
     × MakeIdleBits (value_of plan levels events counters deferred c)
     (value_of plan (levels ++ made) events counters deferred c)
-idle_burst plan faults levels events counters [] deferred t c last recessive idle h until still fits =
+idle_burst plan faults levels events counters [] deferred limit t c last recessive idle ends h until still fits =
     rw (append-nil levels) (h, no_idle_bit)
-idle_burst plan faults levels events counters (level ∷ made) deferred t c last recessive idle h until still fits =
+idle_burst plan faults levels events counters (level ∷ made) deferred limit t c last recessive idle ends h until still
+    fits =
     let within = fits (omega arith) in
     let bit = length levels in
     let next = levels ++ true ∷ [] in
     let longer : length next ≡ bit + 1 = length-append levels (true ∷ []) in
     let free = until bit (omega (arith, within)) h.stands in
-    let one = idle_one plan faults levels events counters deferred t c idle h (omega (arith, within, still)) free.0
+    let one = idle_one plan faults levels events counters deferred limit t c idle (omega (arith, within, ends)) h (omega (arith, within, still)) free.0
     free.1
     in
-    let more = idle_burst plan faults next events counters made deferred t c last recessive.1 idle one.0 until still
+    let more = idle_burst plan faults next events counters made deferred limit t c last recessive.1 idle ends one.0 until still
     (λ more. omega (arith, longer, within)) in
     let all : next ++ made ≡ levels ++ level ∷ made =
     append_assoc levels (true ∷ []) made ∙ ap (λ l. levels ++ l ∷ made) (sym recessive.0) in

@@ -1,5 +1,5 @@
--- Bits of an idle bus on which all nodes rest, one after another.
-use Rattle.std.proofs.Common.{◌≡◌, ℕ, ◌+◌, ◌&&◌, cond, Bool, true, List}
+-- Bits of an idle bus on which all nodes are deferred, one after another.
+use Rattle.std.proofs.Common.{◌≡◌, ℕ, ◌<◌, ◌≤◌, ◌-◌, length, arith, ◌+◌, ◌&&◌, cond, Bool, true, List}
 use Rattle.std.proofs.Common.{[], ◌∷◌, refl, sym, ap, subst, inl}
 use Rattle.std.proofs.Common.{◌∙◌}
 use Rattle.can_node.specs.SharedReceiver.{Idles}
@@ -30,12 +30,12 @@ pub deferred_drive : (bit : ℕ) (members : List Member) → AllDeferred members
 deferred_drive bit members each_deferred = all_pass (λ x. cond x.is_deferred true (drives_at bit x)) members
     (λ k m e. ap (λ b. cond b true (drives_at bit m)) (each_deferred k m e))
 
--- one bit of an idle bus at which all rest that have nothing to send
-idle_bit : (bit : ℕ) (deferred : Deferred) (t c : List Member) → deferred.finished ≡ true → Idles
+-- one bit of an idle bus at which all nodes are deferred that have nothing to send
+idle_bit : (bit : ℕ) (deferred : Deferred) (t c : List Member) → bit < deferred.next_start → Idles
     deferred.shared_receiver → AllDeferred t →
     AllDeferred c → IsUneventfulBit bit true deferred deferred t t c c
-idle_bit bit deferred t c finished idles each_deferred each_deferred_too = record {
-  starts_none = inl finished;
+idle_bit bit deferred t c before idles each_deferred each_deferred_too = record {
+  starts_none = inl before;
   through = follows_through deferred bit deferred.shared_receiver true (idles.follows deferred.known bit) idles.listens;
   deferred_level = true;
   drives = λ listening node at. sym (idles.drives node at);
@@ -45,18 +45,18 @@ idle_bit bit deferred t c finished idles each_deferred each_deferred_too = recor
       ∙ deferred_drive bit c each_deferred_too);
 }
 
-pub idle_bits : (bit : ℕ) (sent : List Bool) (deferred : Deferred) (t c : List Member) → deferred.finished ≡ true →
-    Idles deferred.shared_receiver → AllDeferred t → AllDeferred c → AreRecessive sent → AreUneventfulBits bit sent
+pub idle_bits : (bit : ℕ) (sent : List Bool) (deferred : Deferred) (t c : List Member) →
+    length sent ≤ deferred.next_start - bit → Idles deferred.shared_receiver → AllDeferred t → AllDeferred c → AreRecessive sent → AreUneventfulBits bit sent
     deferred deferred t t c c
-idle_bits bit [] deferred t c finished idles each_deferred each_deferred_too recessive = (refl, refl, refl)
-idle_bits bit (level ∷ sent) deferred t c finished idles each_deferred each_deferred_too recessive =
+idle_bits bit [] deferred t c before idles each_deferred each_deferred_too recessive = (refl, refl, refl)
+idle_bits bit (level ∷ sent) deferred t c before idles each_deferred each_deferred_too recessive =
     let is = recessive.0 in (
       deferred,
       t,
       c,
-      subst (λ l. IsUneventfulBit bit l deferred deferred t t c c) (sym is) (idle_bit bit deferred t c finished idles
+      subst (λ l. IsUneventfulBit bit l deferred deferred t t c c) (sym is) (idle_bit bit deferred t c (omega (arith, before)) idles
           each_deferred each_deferred_too),
-      idle_bits (bit + 1) sent deferred t c finished idles each_deferred each_deferred_too recessive.1,
+      idle_bits (bit + 1) sent deferred t c (omega (arith, before)) idles each_deferred each_deferred_too recessive.1,
     )
 
 pub all_are_deferred : (set : PlaceSet) (members : List Member) → ActiveWithin set members → IsEmpty set → AllDeferred

@@ -15,7 +15,7 @@ use Rattle.can_segment.specs.Runs.{Run}
 use Rattle.can_segment.specs.Runs.Run.{no_bit, one_more}
 use Rattle.can_segment.specs.Moves.{NodesMove}
 use Rattle.can_segment.specs.Kept.{StandsBehind, SegmentKept}
-use Rattle.can_station.specs.Tellings.{start_of, rest_by, told_by, bit_lines}
+use Rattle.can_station.specs.Tellings.{start_of, rest_by, events_by, bit_lines}
 use Rattle.can_station.proofs.Places.{some_there}
 use Rattle.can_segment.proofs.Makes.{made}
 
@@ -94,8 +94,8 @@ kept_on plan levels events bit level t0 t2 c0 c2 h here still m =
     }) in
     let lines : bit_lines bit t2 c2 ≡ _ =
     ap (λ b. bit_lines b t2 c2) at
-    ∙ ap (λ n. (told_by start_of (length h.trace) 0 t2 ++ told_by start_of (length h.trace) n c2)
-    ++ (told_by rest_by (length h.trace) 0 t2 ++ told_by rest_by (length h.trace) n c2)) size
+    ∙ ap (λ n. (events_by start_of (length h.trace) 0 t2 ++ events_by start_of (length h.trace) n c2)
+    ++ (events_by rest_by (length h.trace) 0 t2 ++ events_by rest_by (length h.trace) n c2)) size
     ∙ sym one.tells in
     record {
       trace = h.trace ++ one.bit ∷ [];

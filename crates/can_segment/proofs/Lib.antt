@@ -19,11 +19,14 @@ pub mod Attempts
 pub mod Retries
 pub mod Requests
 pub mod Copies
+pub mod QueueEvents
+pub mod Queues
 pub mod Resumed
 pub mod Unmoved
 pub mod DeferredState
 pub mod Holds
 pub mod Acknowledged
+pub mod Alike
 pub mod Regroups
 pub mod Wholes
 pub mod Going

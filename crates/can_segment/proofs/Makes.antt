@@ -4,8 +4,8 @@ use Rattle.std.proofs.Common.{ap, subst, arith, ◌∙◌, length-append}
 use Rattle.std.specs.List.{list_all}
 use Rattle.std.proofs.lemmas.List.Folds.{list_all-append}
 use Rattle.std.proofs.lemmas.Option.{slice_get_within}
-use Rattle.can_station.specs.declared.event.Told.{Told}
-use Rattle.can_station.specs.declared.member.Action.{Action}
+use Rattle.can_station.specs.declared.event.EventKind.{EventKind}
+use Rattle.can_station.specs.declared.action.Action.{Action}
 use Rattle.can_station.specs.declared.member.Member.{Member}
 use Rattle.can_station.specs.declared.plan.Talker.{Talker}
 use Rattle.can_station.specs.declared.plan.Controller.{Controller}
@@ -16,9 +16,9 @@ use Rattle.can_segment.specs.Tells.{starts_of, rest_of, lines_from}
 use Rattle.can_segment.specs.Runs.{drives}
 use Rattle.can_station.specs.Members.{drives_at}
 use Rattle.can_segment.specs.Kept.{StandsBehind}
-use Rattle.can_station.specs.Tellings.{start_of, rest_by, told_by}
+use Rattle.can_station.specs.Tellings.{start_of, rest_by, events_by}
 use Rattle.can_segment.proofs.Acts.{Talks, Controls}
-use Rattle.can_segment.proofs.Collects.{Collected, same_all, lines_told, lines_split}
+use Rattle.can_segment.proofs.Collects.{Collected, same_all, lines_reported, lines_split}
 use Rattle.can_segment.proofs.NextBits.{Made, Making, Placed, TalkerActed, ControllerActed, acts_bit, acts_at}
 use Rattle.can_segment.proofs.NextBits.{stands_at, talkers_acts, controllers_acts, talker_placed, controller_placed}
 use Rattle.can_station.proofs.Places.{some_there}
@@ -40,18 +40,18 @@ drives_all A bit k xs mids afters c em ea h = same_all drives (drives_at bit) c.
     let there = c.at i x.0 mid after.0 x.1 q after.1 in
     ap drives (same_some act there.0 (sym e ∙ there.1)) ∙ h x.0 (k + i) mid after.0 there.0 there.2)
 
--- the lines of a bit, told for the talkers and then for the controllers
-told_all : (tells : ℕ → List Told) (by : Action → List Told) (bit : ℕ) (talkers controllers : List Member) →
+-- the lines of a bit, reported for the talkers and then for the controllers
+reported_all : (tells : ℕ → List EventKind) (by : Action → List EventKind) (bit : ℕ) (talkers controllers : List Member) →
     ((i : ℕ) (m : Member) → slice_get talkers i ≡ Some m → tells i ≡ by m.action) →
     ((i : ℕ) (m : Member) → slice_get controllers i ≡ Some m → tells (length talkers + i) ≡ by m.action) →
-    lines_from tells bit 0 (length talkers + length controllers) ≡ told_by by bit 0 talkers
-    ++ told_by by bit (length talkers) controllers
-told_all tells by bit talkers controllers ht hc =
+    lines_from tells bit 0 (length talkers + length controllers) ≡ events_by by bit 0 talkers
+    ++ events_by by bit (length talkers) controllers
+reported_all tells by bit talkers controllers ht hc =
     lines_split tells bit 0 (length talkers) (length controllers)
     ∙ ap (λ es. es ++ lines_from tells bit (0 + length talkers) (length controllers))
-    (lines_told tells by bit 0 talkers (λ i m e. ap tells (omega arith) ∙ ht i m e))
-    ∙ ap (λ es. told_by by bit 0 talkers ++ es) (ap (λ n. lines_from tells bit n (length controllers)) (omega arith)
-    ∙ lines_told tells by bit (length talkers) controllers hc)
+    (lines_reported tells by bit 0 talkers (λ i m e. ap tells (omega arith) ∙ ht i m e))
+    ∙ ap (λ es. events_by by bit 0 talkers ++ es) (ap (λ n. lines_from tells bit n (length controllers)) (omega arith)
+    ∙ lines_reported tells by bit (length talkers) controllers hc)
 
 pub made : (plan : SegmentPlan) (trace : List Bit) (level : Bool) (t0 t1 t2 c0 c1 c2 : List Member) →
     Making plan trace level t0 t1 t2 c0 c1 c2 → Made plan trace level t2 c2
@@ -78,7 +78,7 @@ made plan trace level t0 t1 t2 c0 c1 c2 m =
     (λ x k mid after act acted. acted.drives_is)) in
     let talker_at : (i : ℕ) (talker : Talker) → slice_get plan.talkers.items i ≡ Some talker →
     (mid : Member) × (after : Member) × (slice_get t2 i ≡ Some after)
-    × Placed (Talks trace talker.frames.items talker.on) talker.on i trace
+    × Placed (Talks trace talker.queue.items talker.on) talker.on i trace
     (λ k. sampled_level plan.node_faults.items k b level) mid after bit =
     λ i talker p.
     let within = slice_get_within plan.talkers.items i talker p in
@@ -138,7 +138,7 @@ made plan trace level t0 t1 t2 c0 c1 c2 m =
         each = omega (arith, size, t2_size, c2_size);
         level_is = m.level_is ∙ ap (line_level plan.line_faults.items b) (sym drive);
         talkers = λ k talker e. let p = talker_at k talker e in
-            acts_at plan (Talks trace talker.frames.items talker.on) talker.on k trace bit p.0 p.1 p.3;
+            acts_at plan (Talks trace talker.queue.items talker.on) talker.on k trace bit p.0 p.1 p.3;
         controllers = λ k controller e. let p = controller_at k controller e in
             acts_at plan (Controls trace) controller.on (n + k) trace bit p.0 p.1 p.3;
       };
@@ -148,7 +148,7 @@ made plan trace level t0 t1 t2 c0 c1 c2 m =
         talkers_stand = λ k talker member e f.
             let p = talker_at k talker e in
             subst (StandsBehind talker.on k (trace ++ bit ∷ [])) (same_some p.1 member (sym p.2 ∙ f))
-            (stands_at plan (Talks trace talker.frames.items talker.on) talker.on k trace bit p.0 p.1 p.3);
+            (stands_at plan (Talks trace talker.queue.items talker.on) talker.on k trace bit p.0 p.1 p.3);
         controllers_stand = λ k controller member e f.
             let p = controller_at k controller e in
             subst (StandsBehind controller.on (n + k) (trace ++ bit ∷ [])) (same_some p.1 member (sym p.2 ∙ f))
@@ -158,9 +158,9 @@ made plan trace level t0 t1 t2 c0 c1 c2 m =
           ap (λ k. lines_from (λ i. starts_of (act_of i bit)) b 0 k
           ++ lines_from (λ i. rest_of (sending_of i trace) (act_of i bit)) b 0 k) size
           ∙ ap (λ es. es ++ lines_from (λ i. rest_of (sending_of i trace) (act_of i bit)) b 0 (length t2 + length c2))
-          (told_all (λ i. starts_of (act_of i bit)) start_of b t2 c2 start_t start_c)
-          ∙ ap (λ es. (told_by start_of b 0 t2 ++ told_by start_of b (length t2) c2) ++ es)
-          (told_all (λ i. rest_of (sending_of i trace) (act_of i bit)) rest_by b t2 c2 rest_t rest_c)
-          ∙ ap (λ k. (told_by start_of b 0 t2 ++ told_by start_of b k c2)
-          ++ (told_by rest_by b 0 t2 ++ told_by rest_by b k c2)) t2_size;
+          (reported_all (λ i. starts_of (act_of i bit)) start_of b t2 c2 start_t start_c)
+          ∙ ap (λ es. (events_by start_of b 0 t2 ++ events_by start_of b (length t2) c2) ++ es)
+          (reported_all (λ i. rest_of (sending_of i trace) (act_of i bit)) rest_by b t2 c2 rest_t rest_c)
+          ∙ ap (λ k. (events_by start_of b 0 t2 ++ events_by start_of b k c2)
+          ++ (events_by rest_by b 0 t2 ++ events_by rest_by b k c2)) t2_size;
     }

@@ -15,7 +15,7 @@ use Rattle.can_station.specs.Members.{TalkerStarts, TalkerSamples, drives_at}
 use Rattle.can_segment.specs.Moves.{Controlling}
 use Rattle.can_station.specs.Places.{AtPlaces}
 use Rattle.can_segment.specs.Kept.{StandsBehind, SegmentStands}
-use Rattle.can_station.specs.Tellings.{start_of, rest_by, told_by}
+use Rattle.can_station.specs.Tellings.{start_of, rest_by, events_by}
 use Rattle.can_segment.proofs.Acts.{Acted, Talks, Controls, talker_acts, controller_acts}
 use Rattle.can_station.proofs.Places.{some_there}
 use Rattle.can_segment.proofs.Collects.{Collected, collect, get_left, get_right}
@@ -27,9 +27,9 @@ pub record Made (plan : SegmentPlan) (trace : List Bit) (level : Bool)
   pub level_is : bit.level ≡ level
   pub is_bit : IsBit plan trace bit
   pub stands : SegmentStands plan (trace ++ bit ∷ []) talkers controllers
-  pub tells : events_at trace bit ≡ (told_by start_of (length trace) 0 talkers
-      ++ told_by start_of (length trace) (length plan.talkers.items) controllers)
-      ++ (told_by rest_by (length trace) 0 talkers ++ told_by rest_by (length trace)
+  pub tells : events_at trace bit ≡ (events_by start_of (length trace) 0 talkers
+      ++ events_by start_of (length trace) (length plan.talkers.items) controllers)
+      ++ (events_by rest_by (length trace) 0 talkers ++ events_by rest_by (length trace)
       (length plan.talkers.items) controllers)
 
 -- the acts at a bit, by their places
@@ -87,7 +87,7 @@ pub record Making (plan : SegmentPlan) (trace : List Bit) (level : Bool)
 -- the acts of the talkers and of the controllers
 abbrev pub TalkerActed : SegmentPlan → List Bit → Bool → Talker → ℕ → Member → Member → Option Act → Type 0
 TalkerActed plan trace level talker k mid after act =
-    Acted (Talks trace talker.frames.items talker.on k) talker.on k trace
+    Acted (Talks trace talker.queue.items talker.on k) talker.on k trace
     (sampled_level plan.node_faults.items k (length trace) level) mid after act
 
 abbrev pub ControllerActed : SegmentPlan → List Bit → Bool → Controller → ℕ → Member → Member → Option Act → Type 0
@@ -108,7 +108,7 @@ talkers_acts plan trace level t0 t1 t2 c0 c1 c2 m =
     subst (λ n. StandsBehind talker.on n trace old.0) here (m.stands.talkers_stand i talker old.0 p old.1) in
     let sampled = subst (λ n. TalkerSamples (length trace) level plan.node_faults.items n mid after) here
     (m.samples.at i mid after q r) in
-    talker_acts talker.on (0 + i) trace talker.frames.items
+    talker_acts talker.on (0 + i) trace talker.queue.items
     (sampled_level plan.node_faults.items (0 + i) (length trace) level) old.0 mid after stood
     (m.starts.at i old.0 mid old.1 q talker p) sampled)
 
@@ -132,7 +132,7 @@ pub talker_placed : (plan : SegmentPlan) (trace : List Bit) (level : Bool) (t1 t
     (others : List (Option Act)) (tc : Collected (TalkerActed plan trace level) 0 plan.talkers.items t1 t2)
     (i : ℕ) (talker : Talker) (mid after : Member) → slice_get plan.talkers.items i ≡ Some talker →
     slice_get t1 i ≡ Some mid → slice_get t2 i ≡ Some after →
-    Placed (Talks trace talker.frames.items talker.on) talker.on i trace
+    Placed (Talks trace talker.queue.items talker.on) talker.on i trace
     (λ n. sampled_level plan.node_faults.items n (length trace) level) mid after
     (acts_bit level (tc.acts ++ others))
 talker_placed plan trace level t1 t2 others tc i talker mid after p q r =

@@ -1,5 +1,5 @@
 -- Two nodes of a run are on one line.
-use Rattle.std.proofs.Common.{◌≡◌, inl, inr, ℕ, zero, suc, ◌+◌, ◌-◌, ◌<◌, ◌≤◌, Bool, true, false, not, cond, eqb, ◌||◌}
+use Rattle.std.proofs.Common.{◌≡◌, inl, inr, ℕ, zero, suc, ◌+◌, ◌-◌, ◌<◌, ◌≤◌, Bool, true, false, not, cond, ◌||◌}
 use Rattle.std.proofs.Common.{◌&&◌, Option, Some, None, List, [], ◌∷◌, ◌++◌, fold, length, map, slice_get, option_map}
 use Rattle.std.proofs.Common.{refl, sym, ap, subst, arith, ◌∙◌, length-append}
 use Rattle.std.specs.List.{list_any, list_all}
@@ -17,7 +17,7 @@ use Rattle.can_station.specs.declared.plan.Controller.{Controller}
 use Rattle.can_station.specs.declared.plan.LineFault.{LineFault}
 use Rattle.can_station.specs.declared.plan.NodeFault.{NodeFault}
 use Rattle.can_station.specs.declared.plan.SegmentPlan.{SegmentPlan}
-use Rattle.can_station.specs.Faults.{line_level, is_inverted, sampled_level}
+use Rattle.can_station.specs.Faults.{line_level, is_inverted, sampled_level, stands}
 use Rattle.can_segment.specs.Traces.{Act, Bit, with_start, with_act, act_of, past_of}
 use Rattle.can_segment.specs.Runs.{IsBit, ActsAt, Run, firsts, drives}
 use Rattle.can_segment.specs.Runs.Run.{no_bit, one_more}
@@ -200,10 +200,11 @@ node_run {plan = plan} node on (one_more {trace = trace} bit run is) e =
 
 -- where no fault stands on the line it has the level that the nodes make
 no_line_fault : (faults : List LineFault) (bit : ℕ) (made : Bool) →
-    list_any (λ (fault : LineFault). eqb fault.bit bit) faults ≡ false → line_level faults bit made ≡ made
+    list_any (λ (fault : LineFault). stands fault.bit fault.until bit) faults ≡ false → line_level faults bit made ≡ made
 no_line_fault [] bit made none = refl
 no_line_fault (fault ∷ faults) bit made none =
-    let here = or_false (eqb fault.bit bit) (list_any (λ (f : LineFault). eqb f.bit bit) faults) none in
+    let here = or_false (stands fault.bit fault.until bit)
+    (list_any (λ (f : LineFault). stands f.bit f.until bit) faults) none in
     ap (λ b. line_level faults bit (cond b fault.level made)) here.0 ∙ no_line_fault faults bit made here.1
 
 -- and a node with no fault samples that of the line
@@ -270,7 +271,7 @@ driven_at plan node on trace bit x h s =
 fair_level : (plan : SegmentPlan) (node on : ℕ) (trace : List Bit) (bit : ℕ) (a : Acting plan node on trace bit) →
     is_falsified plan node bit ≡ false → a.act.sampled ≡ list_all drives a.bit.acts
 fair_level plan node on trace bit a fair =
-    let parts = or_false (list_any (λ (fault : LineFault). eqb fault.bit bit) plan.line_faults.items)
+    let parts = or_false (list_any (λ (fault : LineFault). stands fault.bit fault.until bit) plan.line_faults.items)
     (is_inverted plan.node_faults.items node bit) fair in
     a.samples ∙ no_node_fault plan.node_faults.items node bit a.bit.level parts.1 ∙ a.line
     ∙ no_line_fault plan.line_faults.items bit (list_all drives a.bit.acts) parts.0

@@ -1,14 +1,14 @@
--- Nodes that come to rest between two bits.
+-- Nodes that are deferred between two bits.
 use Rattle.std.proofs.Common.{◌≡◌, ◌≢◌, ℕ, ◌<◌, ◌≤◌, inl, inr, Bool, true, false, Some, None, List, length, map}
 use Rattle.std.proofs.Common.{slice_get, set, refl, sym, ap, subst, arith, ◌∙◌}
 use Rattle.std.proofs.lemmas.Bool.{cases_eq, cases_lt}
-use Rattle.std.proofs.lemmas.List.{length-map, length-set}
+use Rattle.std.proofs.lemmas.List.{length-set}
 use Rattle.std.proofs.lemmas.Option.{slice_get_within}
-use Rattle.can_node.specs.SharedReceiver.{IsListening, materialized as materialized_node}
-use Rattle.can_node.specs.Node.{StandsAfter, counters_in, may_begin}
+use Rattle.can_node.specs.SharedReceiver.{IsListening}
+use Rattle.can_node.specs.Node.{counters_in}
 use Rattle.can_node.specs.declared.shared_receiver.SharedReceiver.{SharedReceiver}
-use Rattle.can_station.specs.declared.member.Action.{Action}
 use Rattle.can_station.specs.declared.member.Member.{Member}
+use Rattle.can_station.specs.Queues.{IsNotDueBefore, due_at}
 use Rattle.can_station.specs.declared.plan.Talker.{Talker}
 use Rattle.can_segment.specs.declared.deferred.Deferred.{Deferred}
 use Rattle.can_station.specs.declared.place_set.PlaceSet.{PlaceSet}
@@ -17,127 +17,12 @@ use Rattle.can_station.specs.Places.{AtPlaces}
 use Rattle.can_station.proofs.Places.{AtPlacesBut, but_end, but_step, some_there, get_set_other, get_set_same}
 use Rattle.can_station.proofs.Places.{same_some}
 use Rattle.can_station.specs.PlaceSets.{HasPlace, IsEmpty, IsWith, IsWithout}
-use Rattle.can_station.specs.DeferredNodes.{AreAlike, ActiveWithin, ClearsAction, IfActive, IsAlike, MayDefer}
-use Rattle.can_station.specs.DeferredNodes.{MayBeDeferred}
-use Rattle.can_station.specs.DeferredNodes.{NoneDeferred, deferred_member, resumed}
-use Rattle.can_segment.specs.DeferredState.{AreDeferred, AreFinished, ChoosesReceiver, IsLess, IsDeferred, Defers}
+use Rattle.can_station.specs.DeferredNodes.{ActiveWithin, MayDefer}
+use Rattle.can_station.specs.DeferredNodes.{NoneDeferred, resumed}
+use Rattle.can_segment.specs.DeferredState.{AreDeferred, AreNotDue, ChoosesReceiver, IsLess, IsDeferred, Defers}
 use Rattle.can_segment.specs.DeferredState.{materialized}
-use Rattle.can_segment.proofs.Holds.{not_deferred, same_deferred}
-use Rattle.can_segment.proofs.Shown.{map_at}
-use Rattle.can_segment.proofs.Resumed.{active_resumed, none_deferred_at}
-
--- each is like one of which something else is told, or nothing
-like_told : (m : Member) (action : Action) → (m.action ≡ no_action → action ≡ no_action) →
-    IsAlike m (record { on = m.on; is_deferred = m.is_deferred; station = m.station; action = action })
-like_told m action none = record {
-  on_is = refl;
-  sending_is = refl;
-  completed_is = refl;
-  bit_is = refl;
-  counters_are = refl;
-  begins = refl;
-  stands = λ past h. h;
-  uneventful = none;
-}
-
-like_itself : (m : Member) → IsAlike m m
-like_itself m = like_told m m.action (λ h. h)
-
-pub alike_self : (old new : List Member) → new ≡ old → AreAlike old new
-alike_self old new is = record {
-  at = λ k a b p q. subst (IsAlike a) (same_some a b (sym p ∙ ap (λ ms. slice_get ms k) (sym is) ∙ q)) (like_itself a);
-  size = ap length is;
-}
-
-alike_on : (a b c : Member) → IsAlike a b → IsAlike b c → IsAlike a c
-alike_on a b c one other = record {
-  on_is = other.on_is ∙ one.on_is;
-  sending_is = other.sending_is ∙ one.sending_is;
-  completed_is = other.completed_is ∙ one.completed_is;
-  bit_is = other.bit_is ∙ one.bit_is;
-  counters_are = other.counters_are ∙ one.counters_are;
-  begins = other.begins ∙ one.begins;
-  stands = λ past h. other.stands past (one.stands past h);
-  uneventful = λ h. other.uneventful (one.uneventful h);
-}
-
-pub all_alike_on : (old mid new : List Member) → AreAlike old mid → AreAlike mid new → AreAlike old new
-all_alike_on old mid new one other = record {
-  at = λ k a c p q.
-      let b = some_there mid k (let within = slice_get_within old k a p in omega (arith, within, one.size)) in
-      alike_on a b.0 c (one.at k a b.0 p b.1) (other.at k b.0 c b.1 q);
-  size = other.size ∙ one.size;
-}
-
--- those of which nothing is told any more
-alike_cleared : (told : Bool) (shared_receiver : SharedReceiver) (bit : ℕ) (old new : Member) → ClearsAction told old
-    new →
-    IsAlike (resumed shared_receiver bit old) (resumed shared_receiver bit new)
-alike_cleared false shared_receiver bit old new same = subst (λ m. IsAlike (resumed shared_receiver bit old) (resumed
-    shared_receiver bit m))
-    (sym same) (like_itself (resumed shared_receiver bit old))
-alike_cleared true shared_receiver bit old new is_cleared =
-    subst (λ m. IsAlike (resumed shared_receiver bit old) (resumed shared_receiver bit m)) (sym is_cleared)
-    (like_told (resumed shared_receiver bit old) no_action (λ h. refl))
-
-if_alike_cleared : (told : Bool) (shared_receiver : SharedReceiver) (bit : ℕ) (old new : Member) →
-    IfActive (ClearsAction told) old new → IsAlike (resumed shared_receiver bit old) (resumed shared_receiver bit new)
-if_alike_cleared told shared_receiver bit old new s = by old.is_deferred refl
-  where
-    by : (b : Bool) → old.is_deferred ≡ b → IsAlike (resumed shared_receiver bit old) (resumed shared_receiver bit new)
-    by true is = alike_cleared false shared_receiver bit old new (s.stays_deferred is)
-    by false is = alike_cleared told shared_receiver bit old new (s.steps is)
-
-pub all_cleared : (told : Bool) (shared_receiver : SharedReceiver) (bit : ℕ) (old new : List Member) →
-    AtPlaces (λ k. IfActive (ClearsAction told)) old new → AreAlike (map (resumed shared_receiver bit) old)
-    (map (resumed shared_receiver bit) new)
-all_cleared told shared_receiver bit old new moves = record {
-  at = λ k a b p q.
-      let x = map_at (resumed shared_receiver bit) old k a p in
-      let y = map_at (resumed shared_receiver bit) new k b q in
-      subst (λ m. IsAlike m b) x.2 (subst (IsAlike (resumed shared_receiver bit x.0)) y.2
-      (if_alike_cleared told shared_receiver bit x.0 y.0 (moves.at k x.0 y.0 x.1 y.1)));
-  size = length-map new (resumed shared_receiver bit) ∙ moves.size ∙ sym (length-map old (resumed shared_receiver bit));
-}
-
--- one that has come to rest
-alike_deferred : (shared_receiver : SharedReceiver) (bit : ℕ) (m : Member) → MayBeDeferred shared_receiver bit m →
-    IsAlike m (resumed shared_receiver bit (deferred_member m))
-alike_deferred shared_receiver bit m h = record {
-  on_is = refl;
-  sending_is = refl;
-  completed_is = refl;
-  bit_is = sym h.bit_is;
-  counters_are = refl;
-  begins = ap (λ n. may_begin (materialized_node m.station.node shared_receiver n)) (sym h.bit_is) ∙ h.stands.begins;
-  stands = λ past stood. subst (λ n. StandsAfter (materialized_node m.station.node shared_receiver n) past) h.bit_is
-      (h.stands.stands past stood);
-  uneventful = λ none. refl;
-}
-
-alike_lying : (shared_receiver : SharedReceiver) (bit : ℕ) (old new : Member) → MayDefer shared_receiver bit old new →
-    IsAlike (resumed shared_receiver bit old) (resumed shared_receiver bit new)
-alike_lying shared_receiver bit old new (inl same) = subst (λ m. IsAlike (resumed shared_receiver bit old) (resumed
-    shared_receiver bit m))
-    (sym same) (like_itself (resumed shared_receiver bit old))
-alike_lying shared_receiver bit old new (inr may_defer) =
-    subst (λ m. IsAlike m (resumed shared_receiver bit new)) (sym (active_resumed shared_receiver bit old
-    may_defer.0.active))
-    (subst (λ m. IsAlike old (resumed shared_receiver bit m)) (sym may_defer.1) (alike_deferred shared_receiver bit old
-    may_defer.0))
-
-pub alike_at_rest : (one other : SharedReceiver) (bit : ℕ) (old new : List Member) → other ≡ one →
-    AtPlaces (λ k. MayDefer one bit) old new → AreAlike (map (resumed one bit) old) (map (resumed other bit) new)
-alike_at_rest one other bit old new same defer_some =
-    subst (λ shared_receiver. AreAlike (map (resumed one bit) old) (map (resumed shared_receiver bit) new)) (sym same)
-    (record {
-      at = λ k a b p q.
-          let x = map_at (resumed one bit) old k a p in
-          let y = map_at (resumed one bit) new k b q in
-          subst (λ m. IsAlike m b) x.2 (subst (IsAlike (resumed one bit x.0)) y.2
-          (alike_lying one bit x.0 y.0 (defer_some.at k x.0 y.0 x.1 y.1)));
-      size = length-map new (resumed one bit) ∙ defer_some.size ∙ sym (length-map old (resumed one bit));
-    })
+use Rattle.can_segment.proofs.Holds.{sooner_not_due, not_deferred, same_deferred}
+use Rattle.can_segment.proofs.Resumed.{none_deferred_at}
 
 uneventful_undone : IsUneventful no_action
 uneventful_undone = record { no_start = refl; no_end = refl; no_reaping = refl }
@@ -163,7 +48,7 @@ less_too before mid after one other = record {
   shared_receiver_is = other.shared_receiver_is ∙ one.shared_receiver_is;
   any_deferred_is = other.any_deferred_is ∙ one.any_deferred_is;
   knows = λ counters h. other.knows counters (one.knows counters h);
-  finishes = λ s. one.finishes (other.finishes s);
+  sooner = omega (arith, one.sooner, other.sooner);
   talkers_is = other.talkers_is ∙ one.talkers_is;
   controllers_is = other.controllers_is ∙ one.controllers_is;
 }
@@ -173,12 +58,12 @@ less_itself deferred = record {
   shared_receiver_is = refl;
   any_deferred_is = refl;
   knows = λ counters h. h;
-  finishes = λ s. s;
+  sooner = omega arith;
   talkers_is = refl;
   controllers_is = refl;
 }
 
--- those that are no longer left may have come to rest
+-- those that are no longer left may have been deferred
 pub record DefersBut (before now : Deferred) (bit : ℕ) (old new : List Member) (left : PlaceSet) : Type 0 where
   pub less : IsLess before now
   pub defer_some : AtPlacesBut (λ k. MayDefer before.shared_receiver bit) old new left
@@ -198,11 +83,11 @@ deferring_start deferred bit members left h is_deferred = record {
   is_deferred = is_deferred;
 }
 
-newly_deferred : (finished : Bool) (before after : Deferred) (bit : ℕ) (old new : Member) →
-    Defers bit finished before after old new → (old.is_deferred ≡ true → IsDeferred before bit old) → new.is_deferred ≡
+newly_deferred : (next_due : ℕ) (before after : Deferred) (bit : ℕ) (old new : Member) →
+    Defers bit next_due before after old new → (old.is_deferred ≡ true → IsDeferred before bit old) → new.is_deferred ≡
     true →
     IsDeferred after bit new
-newly_deferred finished before after bit old new h was_deferred is = by h.may_defer
+newly_deferred next_due before after bit old new h was_deferred is = by h.may_defer
   where
     by : MayDefer before.shared_receiver bit old new → IsDeferred after bit new
     by (inl same) = subst (IsDeferred after bit) (sym same)
@@ -215,12 +100,12 @@ newly_deferred finished before after bit old new h was_deferred is = by h.may_de
       listening = subst IsListening (sym h.less.shared_receiver_is) may_defer.0.stands.listening;
     }
 
-pub deferring_step : (finished : Bool) (before now next : Deferred) (bit : ℕ) (old new : List Member) (left after :
+pub deferring_step : (next_due : ℕ) (before now next : Deferred) (bit : ℕ) (old new : List Member) (left after :
     PlaceSet)
     (i : ℕ) (a b : Member) → HasPlace left i → IsWithout i left after → slice_get new i ≡ Some a →
-    Defers bit finished now next a b → DefersBut before now bit old new left →
+    Defers bit next_due now next a b → DefersBut before now bit old new left →
     DefersBut before next bit old (set new i b) after
-deferring_step finished before now next bit old new left after i a b has without here h so_far = record {
+deferring_step next_due before now next bit old new left after i a b has without here h so_far = record {
   less = less_too before now next so_far.less h.less;
   defer_some = but_step (λ k. MayDefer before.shared_receiver bit) old new left after i a b has without here
       (subst (λ shared_receiver. MayDefer shared_receiver bit a b) so_far.less.shared_receiver_is h.may_defer)
@@ -233,7 +118,7 @@ deferring_step finished before now next bit old new left after i a b has without
           let room = so_far.defer_some.within i has in
           let same : b ≡ m = same_some b m (sym (get_set_same new i b (omega (arith, room, so_far.defer_some.size)))
           ∙ ap (slice_get (set new i b)) (sym at) ∙ e) in
-          subst (IsDeferred next bit) same (newly_deferred finished now next bit a b h (so_far.is_deferred i a here)
+          subst (IsDeferred next bit) same (newly_deferred next_due now next bit a b h (so_far.is_deferred i a here)
           (ap (λ x. x.is_deferred) same ∙ is)))
     ]
   ];
@@ -249,7 +134,7 @@ pub deferring_end : (before now : Deferred) (bit : ℕ) (old new : List Member) 
 deferring_end before now bit old new left none h = but_end (λ k. MayDefer before.shared_receiver bit) old new left none
     h.defer_some
 
--- those that are awake are counted, or left
+-- the active nodes are counted, or left
 pub record CountedBut (counted : PlaceSet) (members : List Member) (left : PlaceSet) : Type 0 where
   pub within : (k : ℕ) → HasPlace counted k → k < length members
   pub has : (k : ℕ) (m : Member) → (HasPlace left k → ⊥) → slice_get members k ≡ Some m → m.is_deferred ≡ false →
@@ -306,42 +191,42 @@ counted_end counted members left none h = record {
   has = λ k m e active. h.has k m (none k) e active;
 }
 
--- those talkers that have come to rest have no frame left, where that is known
-pub finished_step : (finished : Bool) (now next : Deferred) (bit : ℕ) (plan : List Talker) (new : List Member) (i : ℕ)
+-- no talker that was deferred has a frame due before the bit that is kept
+pub not_due_step : (next_due : ℕ) (now next : Deferred) (bit : ℕ) (plan : List Talker) (new : List Member) (i : ℕ)
     (a b : Member) (talker : Talker) → i < length new → slice_get new i ≡ Some a → slice_get plan i ≡ Some talker →
-    Defers bit finished now next a b →
-    (finished ≡ true → slice_get talker.frames.items a.station.completed ≡ None) → AreFinished now plan new →
-    AreFinished next plan (set new i b)
-finished_step finished now next bit plan new i a b talker room here planned h none so_far has_sent_all k m t e f is =
+    Defers bit next_due now next a b → IsNotDueBefore talker.queue.items a.station.completed next_due →
+    AreNotDue now plan new → AreNotDue next plan (set new i b)
+not_due_step next_due now next bit plan new i a b talker room here planned h none so_far k m t e f is at before =
     elim (cases_lt k i) [
-      | inl less ↦ (let ne : k ≢ i = omega arith in
-          so_far (h.less.finishes has_sent_all) k m t (sym (get_set_other new i k b ne) ∙ e) f is)
+      | inl less ↦ (let ne : k ≢ i = omega arith in other ne)
       | inr more ↦ elim (cases_lt i k) [
-        | inl less ↦ (let ne : k ≢ i = omega arith in
-            so_far (h.less.finishes has_sent_all) k m t (sym (get_set_other new i k b ne) ∙ e) f is)
-        | inr same_place ↦ (let at : k ≡ i = omega arith in
+        | inl less ↦ (let ne : k ≢ i = omega arith in other ne)
+        | inr same_place ↦ (let place : k ≡ i = omega arith in
             let same : b ≡ m =
-            same_some b m (sym (get_set_same new i b room) ∙ ap (slice_get (set new i b)) (sym at) ∙ e) in
-            let same_talker : talker ≡ t = same_some talker t (sym planned ∙ ap (slice_get plan) (sym at) ∙ f) in
-            subst (λ x. slice_get x.frames.items m.station.completed ≡ None) same_talker
-            (subst (λ x. slice_get talker.frames.items x.station.completed ≡ None) same
+            same_some b m (sym (get_set_same new i b room) ∙ ap (slice_get (set new i b)) (sym place) ∙ e) in
+            let same_talker : talker ≡ t = same_some talker t (sym planned ∙ ap (slice_get plan) (sym place) ∙ f) in
+            subst (λ x. due_at x.queue.items m.station.completed at ≡ None) same_talker
+            (subst (λ x. due_at talker.queue.items x.station.completed at ≡ None) same
             (by h.may_defer (ap (λ x. x.is_deferred) same ∙ is))))
       ]
     ]
   where
-    by : MayDefer now.shared_receiver bit a b → b.is_deferred ≡ true → slice_get talker.frames.items b.station.completed
-        ≡ None
-    by (inl same) on = subst (λ x. slice_get talker.frames.items x.station.completed ≡ None) (sym same)
-        (so_far (h.less.finishes has_sent_all) i a talker here planned (ap (λ x. x.is_deferred) (sym same) ∙ on))
-    by (inr may_defer) on = subst (λ x. slice_get talker.frames.items x.station.completed ≡ None) (sym may_defer.1)
-        (none (h.finished may_defer.0.active on has_sent_all))
+    other : k ≢ i → due_at t.queue.items m.station.completed at ≡ None
+    other ne = so_far k m t (sym (get_set_other new i k b ne) ∙ e) f is at (omega (arith, before, h.less.sooner))
 
--- nor does a controller rest then
+    by : MayDefer now.shared_receiver bit a b → b.is_deferred ≡ true →
+        due_at talker.queue.items b.station.completed at ≡ None
+    by (inl same) on = subst (λ x. due_at talker.queue.items x.station.completed at ≡ None) (sym same)
+        (so_far i a talker here planned (ap (λ x. x.is_deferred) (sym same) ∙ on) at
+        (omega (arith, before, h.less.sooner)))
+    by (inr may_defer) on = subst (λ x. due_at talker.queue.items x.station.completed at ≡ None) (sym may_defer.1)
+        (let less = h.not_due may_defer.0.active on in none at (omega (arith, before, less)))
+
+-- nor is a controller deferred if that bit is not 0
 pub active_step : (now next : Deferred) (bit : ℕ) (new : List Member) (i : ℕ) (a b : Member) → i < length new →
-    slice_get new i ≡ Some a → Defers bit false now next a b → (now.finished ≡ true → NoneDeferred new) → next.finished
-    ≡ true →
-    NoneDeferred (set new i b)
-active_step now next bit new i a b room here h so_far has_sent_all k m e = elim (cases_lt k i) [
+    slice_get new i ≡ Some a → Defers bit 0 now next a b → (0 < now.next_start → NoneDeferred new) →
+    0 < next.next_start → NoneDeferred (set new i b)
+active_step now next bit new i a b room here h so_far later k m e = elim (cases_lt k i) [
   | inl less ↦ (let ne : k ≢ i = omega arith in none k m (sym (get_set_other new i k b ne) ∙ e))
   | inr more ↦ elim (cases_lt i k) [
     | inl less ↦ (let ne : k ≢ i = omega arith in none k m (sym (get_set_other new i k b ne) ∙ e))
@@ -353,13 +238,13 @@ active_step now next bit new i a b room here h so_far has_sent_all k m e = elim 
 ]
   where
     none : NoneDeferred new
-    none = so_far (h.less.finishes has_sent_all)
+    none = so_far (omega (arith, later, h.less.sooner))
 
     by : (is_deferred : Bool) → b.is_deferred ≡ is_deferred → b.is_deferred ≡ false
     by false off = off
-    by true on = let never = h.finished (none i a here) on has_sent_all in absurd (cc never)
+    by true on = let never = h.not_due (none i a here) on in absurd (omega (arith, never, later))
 
--- Another listener, where none rests, changes nothing.
+-- Another listener, where none is deferred, changes nothing.
 pub chosen_same : (old new : Deferred) (bit : ℕ) (members : List Member) → ChoosesReceiver old new → AreDeferred old bit
     members →
     materialized new bit members ≡ materialized old bit members
@@ -381,24 +266,23 @@ chosen_deferred old new bit members h is_deferred = elim h.chosen [
   )))
 ]
 
-pub chosen_finished : (old new : Deferred) (bit : ℕ) (plan : List Talker) (members : List Member) → ChoosesReceiver old
-    new →
-    AreDeferred old bit members → AreFinished old plan members → AreFinished new plan members
-chosen_finished old new bit plan members h is_deferred finished = elim h.chosen [
-  | inl same ↦ (λ s. finished (sym same.finished_is ∙ s))
-  | inr none ↦ (λ s k m talker e f is. absurd (let active = not_deferred old bit members none is_deferred k m e in
+pub chosen_not_due : (old new : Deferred) (bit : ℕ) (plan : List Talker) (members : List Member) →
+    ChoosesReceiver old new → AreDeferred old bit members → AreNotDue old plan members → AreNotDue new plan members
+chosen_not_due old new bit plan members h is_deferred not_due = elim h.chosen [
+  | inl same ↦ sooner_not_due old new plan members (omega (arith, same.next_start_is)) not_due
+  | inr none ↦ (λ k m talker e f is. absurd (let active = not_deferred old bit members none is_deferred k m e in
       cc (is, active)))
 ]
 
-pub chosen_active : (old new : Deferred) (bit : ℕ) (members : List Member) → ChoosesReceiver old new → AreDeferred old
-    bit members →
-    (old.finished ≡ true → NoneDeferred members) → new.finished ≡ true → NoneDeferred members
+pub chosen_active : (old new : Deferred) (bit : ℕ) (members : List Member) → ChoosesReceiver old new →
+    AreDeferred old bit members → (0 < old.next_start → NoneDeferred members) → 0 < new.next_start →
+    NoneDeferred members
 chosen_active old new bit members h is_deferred active = elim h.chosen [
-  | inl same ↦ (λ s. active (sym same.finished_is ∙ s))
+  | inl same ↦ (λ s. active (omega (arith, s, same.next_start_is)))
   | inr none ↦ (λ s. not_deferred old bit members none is_deferred)
 ]
 
--- no more nodes are awake where some have come to rest
+-- no more nodes are active where some were deferred
 pub lain_within : (shared_receiver : SharedReceiver) (bit : ℕ) (old new : List Member) (set : PlaceSet) →
     AtPlaces (λ k. MayDefer shared_receiver bit) old new → ActiveWithin set old → ActiveWithin set new
 lain_within shared_receiver bit old new set defer_some h = record {

@@ -43,7 +43,7 @@ same_list (x ∷ xs) (y ∷ ys) e h =
     ap (λ z. z ∷ ys) (h zero x y refl refl)
     ∙ ap (λ zs. x ∷ zs) (same_list xs ys (omega (arith, e)) (λ k a b p q. h (suc k) a b p q))
 
--- who wakes stands for the same
+-- who is resumed stands for the same
 may_resume_same : (shared_receiver : SharedReceiver) (bit : ℕ) (old new : Member) → MayResume shared_receiver bit old
     new →
     resumed shared_receiver bit new ≡ resumed shared_receiver bit old
@@ -63,7 +63,7 @@ resumes_same Step shared_receiver bit old new resumes h = same_list (map (resume
     let b = map_at (resumed shared_receiver bit) new k y q in
     sym b.2 ∙ may_resume_same shared_receiver bit a.0 b.0 (resumes k a.0 b.0 (h.at k a.0 b.0 a.1 b.1)) ∙ a.2)
 
--- and those that rest on are as they were
+-- and the nodes that stay deferred are as they were
 pub resumes_left : (Step : ℕ → Member → Member → Type 0) (shared_receiver : SharedReceiver) (bit : ℕ) (old new : List
     Member) →
     ((k : ℕ) (a b : Member) → Step k a b → MayResume shared_receiver bit a b) → AtPlaces Step old new → LeavesDeferred
@@ -81,7 +81,7 @@ all_resumed shared_receiver bit old new h k m e =
     let x = some_there old k (let within = slice_get_within new k m e in omega (arith, within, h.size)) in
     ap (λ y. y.is_deferred) (h.at k x.0 m x.1 e)
 
--- where none rests each stands for itself
+-- where none is deferred each stands for itself
 pub none_deferred_at : (shared_receiver : SharedReceiver) (bit : ℕ) (members : List Member) → NoneDeferred members →
     map (resumed shared_receiver bit) members ≡ members
 none_deferred_at shared_receiver bit [] h = refl
@@ -107,7 +107,7 @@ pub found_deferred : (shared_receiver : SharedReceiver) (bit : ℕ) (members : L
 found_deferred shared_receiver bit members k m e is =
     map_there (resumed shared_receiver bit) members k m e ∙ ap Some (deferred_resumed shared_receiver bit m is)
 
--- The steps of those that are awake, and those that what rests stands for would make, are the steps of all.
+-- The steps of the active nodes, and those that deferred nodes stand for would make, are the steps of all.
 lift_step : (Step : Member → Member → Type 0) (one other : SharedReceiver) (bit next : ℕ) (old new : Member) →
     (old.is_deferred ≡ true → Step (materialized_member one bit old) (materialized_member other next old)) → IfActive
     Step old new →
@@ -171,7 +171,7 @@ lift_both Step one other bit next old new from to sizes sleeps h = record {
   size_too = h.size_too;
 }
 
--- one that rests behind steps of those that are awake rested before, as it is
+-- a node that is deferred after steps of active nodes was deferred before, as it is
 was_deferred : (Step : Member → Member → Type 0) (old new : Member) → IfActive Step old new → new.is_deferred ≡ true →
     new ≡ old
 was_deferred Step old new s is = by old.is_deferred refl

@@ -5,9 +5,9 @@ use Rattle.std.specs.List.{Contains}
 use Rattle.can_node.specs.declared.outcome.Outcome.{Outcome}
 use Rattle.can_node.specs.declared.outcome.Outcome.TheVariants.{Completed}
 use Rattle.can_node.specs.Histories.{Past}
-use Rattle.can_node.specs.Cuts.{IsAttempt}
+use Rattle.can_node.specs.Splits.{IsAttempt}
 use Rattle.can_node.specs.Attempts.{first_bit}
-use Rattle.can_node.proofs.Outcomes.{completed_told, IsEnd, attempt_end, first_no_later}
+use Rattle.can_node.proofs.Outcomes.{completed_reported, IsEnd, attempt_end, first_no_later}
 use Rattle.can_node.proofs.Outcomes.IsEnd.{is_completed, is_lost, is_error, is_off}
 use Rattle.can_station.specs.declared.event.Event.{Event}
 use Rattle.can_station.specs.declared.plan.SegmentPlan.{SegmentPlan}
@@ -16,7 +16,7 @@ use Rattle.can_segment.specs.Traces.{Bit, act_of, completed_in}
 use Rattle.can_station.specs.Outcomes.{completed_by, is_failure}
 use Rattle.can_segment.specs.Runs.{Run}
 use Rattle.can_segment.specs.Copies.{TalkersTryFailures}
-use Rattle.can_segment.proofs.ActsNoted.{told_at}
+use Rattle.can_segment.proofs.ActsNoted.{reported_at}
 
 -- how many of its frames a node completed, bit by bit
 count : ℕ → List Bit → ℕ
@@ -59,11 +59,11 @@ talkers_try_failures {trace = trace} run node talker past start end start' end' 
     subst (IsAttempt past start frame state end) is earlier in
     let first : earlier.done.first + length earlier.done.pairs ≤ end =
     first_no_later past start end frame state outcome earlier is in
-    let told = told_at node p.on end Completed run p.on_is
+    let reported = reported_at node p.on end Completed run p.on_is
     (subst (λ (q : Past). Contains q.outcomes (end, Completed)) p.past_is
-    (completed_told past start end frame state done)) in
+    (completed_reported past start end frame state done)) in
     let one : completed_in (act_at node trace end) ≡ 1 =
-    ap completed_in told.act_is ∙ ap completed_by told.outcome_is in
+    ap completed_in reported.act_is ∙ ap completed_by reported.outcome_is in
     let more = counted node trace (first_bit earlier) end (first_bit later) first before one in
     let a = count_from node (take (first_bit earlier) trace) 0 in
     let b = count_from node (take (first_bit later) trace) 0 in

@@ -22,21 +22,21 @@ use Rattle.can_segment.proofs.DeferredState.{unfaulted_level}
 use Rattle.can_segment.proofs.Shown.{map_at, map_there}
 use Rattle.can_segment.proofs.Resumed.{active_resumed, none_deferred_at, deferred_resumed, resumes_same}
 
--- all that have woken are those for which they stood
+-- all that were resumed are those for which they stood
 pub all_resumed_same : (deferred : Deferred) (bit : ℕ) (old new : List Member) →
     AtPlaces (λ k a b. b ≡ resumed deferred.shared_receiver bit a) old new → materialized deferred bit new ≡
     materialized deferred bit old
 all_resumed_same deferred bit old new has_resumed = resumes_same _ deferred.shared_receiver bit old new (λ k a b is. inr
     is) has_resumed
 
--- none of them rests then
+-- none of them is deferred then
 pub none_left : (shared : SharedSample) (bit : ℕ) (level : Bool) (mid after : List Member) →
     AtPlaces (λ k. Shares shared bit level) mid after → NoneDeferred after
 none_left shared bit level mid after shares k m e =
     let within = slice_get_within after k m e in
     let b = some_there mid k (omega (arith, within, shares.size)) in (shares.at k b.0 m b.1 e).resumes
 
--- so do all for which they stand, those that are awake by themselves
+-- so do all for which they stand, the active nodes by themselves
 one_shares : (Step : Member → Member → Type 0) (shared_receiver : SharedReceiver) (shared : SharedSample) (bit : ℕ)
     (level : Bool)
     (a b c : Member) → (a.is_deferred ≡ true → Shares shared bit level a c → Step (materialized_member shared_receiver
@@ -85,7 +85,7 @@ completed_room limit deferred bit before mid left is_deferred room k m e is =
     (room k (resumed deferred.shared_receiver bit m) (map_there (resumed deferred.shared_receiver bit) before k m here)
     refl h.is_on).1
 
--- where nothing is told of those that sampled by themselves, nor of those that did so together
+-- where nothing is reported of those that sampled by themselves, nor of those that did so together
 one_uneventful : (shared : SharedSample) (bit : ℕ) (level : Bool) (a b : Member) → Shares shared bit level a b →
     TellsNone a b → (a.is_deferred ≡ false → a.on ≤ bit → IsUneventful a.action) → b.on ≤ bit → IsUneventful b.action
 one_uneventful shared bit level a b shares tells active on = by a.is_deferred refl
@@ -107,7 +107,7 @@ shared_uneventful deferred shared bit level mid after shares tells uneventful =
     let b = some_there mid k (let within = slice_get_within after k m e in omega (arith, within, shares.size)) in
     one_uneventful shared bit level b.0 m (shares.at k b.0 m b.1 e) (tells.at k b.0 m b.1 e) (uneventful k b.0 b.1) on)
 
--- nor of controllers, which are all awake
+-- nor of controllers, which are all active
 pub active_uneventful : (deferred : Deferred) (bit : ℕ) (members : List Member) → NoneDeferred members →
     ActiveAreUneventful bit members →
     AreUneventful bit (materialized deferred (bit + 1) members)

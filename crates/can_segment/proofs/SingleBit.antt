@@ -1,4 +1,4 @@
--- A bit of which nothing is told.
+-- A bit of which nothing is reported.
 use Rattle.std.proofs.Common.{◌≡◌, ◌≢◌, ℕ, zero, suc, ◌+◌, ◌&&◌, Bool, true, false, Some, None}
 use Rattle.std.proofs.Common.{IfSome, Option, List, [], ◌∷◌, length, slice_get, refl, sym, ap, subst, arith}
 use Rattle.std.proofs.Common.{◌∙◌}
@@ -47,13 +47,13 @@ one_passes test zero (x ∷ xs) h =
 one_passes test (suc place) (x ∷ xs) h = ap (λ b. b && list_all test xs) (h zero x refl (λ is. omega (arith, is)))
     ∙ one_passes test place xs (λ k m e not. h (suc k) m e (λ is. not (omega (arith, is))))
 
--- those that rest, with this listener
+-- the deferred nodes, with this listener
 abbrev pub with_shared_receiver : Deferred → SharedReceiver → Deferred
 with_shared_receiver deferred shared_receiver = record {
   shared_receiver = shared_receiver;
   any_deferred = deferred.any_deferred;
   known = deferred.known;
-  finished = deferred.finished;
+  next_start = deferred.next_start;
   talkers = deferred.talkers;
   controllers = deferred.controllers;
 }
@@ -66,7 +66,7 @@ follows_through deferred bit after level follows listens = record {
   talkers_is = refl;
   controllers_is = refl;
   known_is = refl;
-  finished_is = refl;
+  next_start_is = refl;
   follows = follows;
   listens = λ was. listens;
 }
@@ -85,7 +85,7 @@ pub talkers_start_alone : (plan : List Talker) (bit : ℕ) (level : Bool) (old n
     IsUneventfulBit bit level old new t0 t1 c0 c1 → DeferredHolds old bit plan t0 c0 →
     AtPlaces (TalkerStarts bit plan) (materialized old bit t0) (materialized old bit t0)
 talkers_start_alone plan bit level old new t0 t1 c0 c1 h is_deferred =
-    talkers_start old bit plan t0 t0 h.starts_none is_deferred.talkers_deferred is_deferred.talkers_finished
+    talkers_start old bit plan t0 t0 h.starts_none is_deferred.talkers_deferred is_deferred.talkers_not_due
     (go_starts bit level plan t0 t1 h.talkers)
 
 pub talkers_sample_alone : (plan : List Talker) (bit : ℕ) (level : Bool) (old new : Deferred) (t0 t1 c0 c1 : List
@@ -139,7 +139,7 @@ level_alone plan bit level old new t0 t1 c0 c1 h is_deferred =
     ∙ ap (λ b. list_all (drives_at bit) (materialized old bit t0) && b)
     (all_drive old bit h.deferred_level c0 h.drives is_deferred.controllers_deferred)
 
--- those that rest still do,
+-- the deferred nodes still do,
 pub deferred_alone : (plan : List Talker) (bit : ℕ) (level : Bool) (old new : Deferred) (t0 t1 c0 c1 : List Member) →
     IsUneventfulBit bit level old new t0 t1 c0 c1 → DeferredHolds old bit plan t0 c0 → DeferredHolds new (bit + 1) plan
     t1 c1
@@ -153,7 +153,7 @@ deferred_alone plan bit level old new t0 t1 c0 c1 h is_deferred =
     (omega (arith, talkers.size)) (omega (arith, controllers.size))
     (through_holds old new bit level plan t0 c0 h.through is_deferred)
 
--- nothing is told,
+-- nothing is reported,
 pub uneventful_alone : (plan : List Talker) (bit : ℕ) (level : Bool) (old new : Deferred) (t0 t1 c0 c1 : List Member) →
     IsUneventfulBit bit level old new t0 t1 c0 c1 → DeferredHolds old bit plan t0 c0 →
     AreUneventful bit (materialized new (bit + 1) t1) × AreUneventful bit (materialized new (bit + 1) c1)
@@ -195,7 +195,7 @@ wishes_alone plan bit level old new t0 t1 c0 c1 h is_deferred k m e =
         wants_at bit (resumed old.shared_receiver bit x) ≡ false
     by x f true is = ap (wants_at bit) (deferred_resumed old.shared_receiver bit x is)
         ∙ none_at (materialized_member old.shared_receiver bit x)
-        (wishes_none old c0 h.starts_none is_deferred.controllers_active k x f is x.station.node bit)
+        (wishes_none old bit c0 h.starts_none is_deferred.controllers_active k x f is x.station.node bit)
     by x f false is =
         let n = some_there c1 k (let there = slice_get_within c0 k x f in omega (arith, there, go.size)) in
         ap (wants_at bit) (active_resumed old.shared_receiver bit x is) ∙ none_at x ((go.at k x n.0 f n.1).steps

@@ -1,12 +1,14 @@
 -- A talker's bit is an act by the rules of a talker.
 use Rattle.std.proofs.Common.{◌≡◌, ℕ, ◌≤◌, ◌&&◌, Bool, true, false, is_some, option_map, Option, Some, None, List}
-use Rattle.std.proofs.Common.{length, slice_get, refl, sym, ap, subst, arith, ◌∙◌, cond}
+use Rattle.std.proofs.Common.{length, refl, sym, ap, subst, arith, ◌∙◌, cond}
 use Rattle.can_frame.specs.Frames.{FrameValue}
 use Rattle.can_node.specs.Node.{StandsAfter, IsWanting, bit_of}
 use Rattle.can_station.specs.declared.transmission.Transmission.{Transmission}
 use Rattle.can_station.specs.declared.member.Member.{Member}
 use Rattle.can_segment.specs.Traces.{Bit, past_of, completed_of}
 use Rattle.can_segment.specs.Runs.{IsBegun}
+use Rattle.can_station.specs.declared.due_frame.DueFrame.{DueFrame}
+use Rattle.can_station.specs.Queues.{due_at}
 use Rattle.can_station.specs.Stations.{IsTalk}
 use Rattle.can_station.specs.Members.{StartsTalking, Samples}
 use Rattle.can_station.specs.Actions.{begun_by}
@@ -14,21 +16,19 @@ use Rattle.can_segment.specs.Kept.{StandsBehind}
 use Rattle.can_segment.proofs.Actions.{Done, done, begun_is, named_start}
 
 -- a talker at a bit at which it is on
-pub record Talked (on k : ℕ) (trace : List Bit) (frames : List FrameValue) (level : Bool)
+pub record Talked (on k : ℕ) (trace : List Bit) (next : Option FrameValue) (level : Bool)
     (mid after : Member) : Type 0 where
   pub made : Done on k trace level mid after
   pub begins : (sent : Transmission) → begun_by after.action ≡ Some sent → IsBegun (past_of on k trace) sent
   pub wants : Bool
   pub is_wanting : IsWanting (past_of on k trace) wants
-  pub rule : option_map (λ sent. sent.frame) (begun_by after.action) ≡ cond wants
-      (slice_get frames (completed_of k trace)) None
+  pub rule : option_map (λ sent. sent.frame) (begun_by after.action) ≡ cond wants next None
   pub no_label : (sent : Transmission) → begun_by after.action ≡ Some sent → sent.label ≡ None
 
-wants_then : (wanting : Bool) (frames : List FrameValue) (n : ℕ) (frame : FrameValue) →
-    true ≡ wanting && is_some (slice_get frames n) → slice_get frames n ≡ Some frame →
-    Some frame ≡ cond wanting (slice_get frames n) None
-wants_then true frames n frame e at = sym at
-wants_then false frames n frame e at = absurd (cc e)
+wants_then : (wanting : Bool) (next : Option FrameValue) (frame : FrameValue) → true ≡ wanting && is_some next →
+    next ≡ Some frame → Some frame ≡ cond wanting next None
+wants_then true next frame e at = sym at
+wants_then false next frame e at = absurd (cc e)
 
 no_frame : (found : Option FrameValue) → false ≡ is_some found → None ≡ found
 no_frame None e = refl
@@ -42,11 +42,11 @@ wants_not false found e = refl
 no_sent : (sent : Transmission) → None ≡ Some sent → ⊥
 no_sent sent e = cc e
 
-talked_by : (on k : ℕ) (trace : List Bit) (frames : List FrameValue) (level : Bool) (old mid after : Member)
+talked_by : (on k : ℕ) (trace : List Bit) (next : Option FrameValue) (level : Bool) (old mid after : Member)
     (b : Bool) → StandsBehind on k trace old → on ≤ length trace → mid.on ≡ on → after.on ≡ on →
-    mid.action.began ≡ b → IsTalk old.station mid.station frames b → Samples (length trace) level mid after →
-    Talked on k trace frames level mid after
-talked_by on k trace frames level old mid after true h late mid_on after_on began talk samples =
+    mid.action.began ≡ b → IsTalk old.station mid.station next b → Samples (length trace) level mid after →
+    Talked on k trace next level mid after
+talked_by on k trace next level old mid after true h late mid_on after_on began talk samples =
     let past = past_of on k trace in
     let s = samples.samples (omega (arith, mid_on, late)) in
     let t = talk.begins refl in
@@ -62,14 +62,13 @@ talked_by on k trace frames level old mid after true h late mid_on after_on bega
           let same : sent ≡ other = some_same sent other (sym begun ∙ is) in
           subst (IsBegun past) same
           (record {
-            wants = subst (IsWanting past) (wants_true w.0 (is_some (slice_get frames old.station.completed)) w.2)
+            wants = subst (IsWanting past) (wants_true w.0 (is_some next) w.2)
                 w.1;
             sends = start.sends past h.stands;
           });
       wants = w.0;
       is_wanting = w.1;
-      rule = ap (option_map (λ x. x.frame)) begun ∙ wants_then w.0 frames old.station.completed t.0 w.2 t.1
-          ∙ ap (λ n. cond w.0 (slice_get frames n) None) h.completed_is;
+      rule = ap (option_map (λ x. x.frame)) begun ∙ wants_then w.0 next t.0 w.2 t.1;
       no_label = λ other is. let same : sent ≡ other = some_same sent other (sym begun ∙ is) in
           ap (λ x. x.label) (sym same);
     }
@@ -80,7 +79,7 @@ talked_by on k trace frames level old mid after true h late mid_on after_on bega
     wants_true : (wanting found : Bool) → true ≡ wanting && found → wanting ≡ true
     wants_true true found e = refl
     wants_true false found e = absurd (cc e)
-talked_by on k trace frames level old mid after false h late mid_on after_on began talk samples =
+talked_by on k trace next level old mid after false h late mid_on after_on began talk samples =
     let past = past_of on k trace in
     let s = samples.samples (omega (arith, mid_on, late)) in
     let same : mid.station ≡ old.station = talk.stays refl in
@@ -94,15 +93,16 @@ talked_by on k trace frames level old mid after false h late mid_on after_on beg
       begins = λ sent is. absurd (no_sent sent (sym begun ∙ is));
       wants = w.0;
       is_wanting = w.1;
-      rule = ap (option_map (λ x. x.frame)) begun ∙ wants_not w.0 (slice_get frames old.station.completed) w.2
-          ∙ ap (λ n. cond w.0 (slice_get frames n) None) h.completed_is;
+      rule = ap (option_map (λ x. x.frame)) begun ∙ wants_not w.0 next w.2;
       no_label = λ sent is. absurd (no_sent sent (sym begun ∙ is));
     }
 
-pub talked : (on k : ℕ) (trace : List Bit) (frames : List FrameValue) (level : Bool) (old mid after : Member) →
+pub talked : (on k : ℕ) (trace : List Bit) (queue : List DueFrame) (level : Bool) (old mid after : Member) →
     StandsBehind on k trace old → on ≤ length trace →
-    StartsTalking (length trace) old mid frames → Samples (length trace) level mid after →
-    Talked on k trace frames level mid after
-talked on k trace frames level old mid after h late starts samples =
-    talked_by on k trace frames level old mid after mid.action.began h late (starts.on_is ∙ h.on_is)
-    (samples.on_is ∙ starts.on_is ∙ h.on_is) refl (starts.talks (omega (arith, h.on_is, late))) samples
+    StartsTalking (length trace) old mid queue → Samples (length trace) level mid after →
+    Talked on k trace (due_at queue (completed_of k trace) (length trace)) level mid after
+talked on k trace queue level old mid after h late starts samples =
+    talked_by on k trace (due_at queue (completed_of k trace) (length trace)) level old mid after mid.action.began h
+    late (starts.on_is ∙ h.on_is) (samples.on_is ∙ starts.on_is ∙ h.on_is) refl
+    (subst (λ n. IsTalk old.station mid.station (due_at queue n (length trace)) mid.action.began) h.completed_is
+    (starts.talks (omega (arith, h.on_is, late)))) samples

@@ -53,7 +53,7 @@ both_steps R S (x ∷ xs) (y ∷ ys) h =
       first_and_more S first.0 y more.0 ys first.2 more.2,
     )
 
--- one that is awake goes on with these levels, and sends them or not; one that rests is left as it is
+-- one that is active goes on with these levels, and sends them or not; a deferred node is left as it is
 record RunsAt (is_sender : Bool) (bit : ℕ) (levels : List Bool) (old new : Member) : Type 0 where
   stays_deferred : old.is_deferred ≡ true → new ≡ old
   runs : old.is_deferred ≡ false → MemberGoesBy is_sender bit levels old new

@@ -1,4 +1,4 @@
--- A segment behind a bit at which all nodes rested, or all but one that sent on.
+-- A segment behind a bit at which all nodes were deferred, or all but one that sent on.
 use Rattle.std.proofs.Common.{◌≡◌, ℕ, ◌+◌, ◌<◌, ◌≤◌, ◌++◌, ◌∷◌, [], Bool, Some, List, length, slice_get, refl, sym, ap}
 use Rattle.std.proofs.Common.{subst, arith, ◌∙◌, length-append}
 use Rattle.std.proofs.lemmas.List.{append-nil, length-map}
@@ -7,8 +7,8 @@ use Rattle.can_station.specs.declared.member.Member.{Member}
 use Rattle.can_station.specs.declared.plan.SegmentPlan.{SegmentPlan}
 use Rattle.can_segment.specs.declared.record.Record.{Record}
 use Rattle.can_segment.specs.declared.deferred.Deferred.{Deferred}
-use Rattle.can_station.specs.declared.fault_order.FaultOrder.{FaultOrder}
-use Rattle.can_station.specs.FaultOrder.{IsFaultless, StandsAt}
+use Rattle.can_station.specs.declared.current_faults.CurrentFaults.{CurrentFaults}
+use Rattle.can_station.specs.CurrentFaults.{IsFaultless, IsCurrent}
 use Rattle.can_segment.specs.Kept.{SegmentKept}
 use Rattle.can_station.specs.Members.{Samples, SamplesAndSettles}
 use Rattle.can_segment.specs.Moves.{NodesMove}
@@ -71,7 +71,7 @@ nodes_move_alone plan bit level old new t0 t1 c0 c1 h is_deferred faultless =
       level_is = level_alone plan.talkers.items bit level old new t0 t1 c0 c1 h is_deferred ∙ sym (faultless.line _);
     }
 
--- nothing is told, and the nodes stand behind one bit more
+-- nothing is reported, and the nodes stand behind one bit more
 pub record KeptUneventfully (plan : SegmentPlan) (levels : List Bool) (events : List Event) (level : Bool) (new :
     Deferred)
     (t c : List Member) : Type 0 where
@@ -176,11 +176,11 @@ holds_uneventfully plan levels events counters level old new t0 t1 c0 c1 held un
     holds_so plan levels events counters level old new t0 t1 c0 c1 held uneventful talkers controllers
 
 -- so the record that grew quietly is that of a run, behind which all stands,
-pub grown_kept : (plan : SegmentPlan) (faults : FaultOrder) (made next : Record) (old new : Deferred)
+pub grown_kept : (plan : SegmentPlan) (faults : CurrentFaults) (made next : Record) (old new : Deferred)
     (t0 t1 c0 c1 : List Member) (h : GrowsUneventfully faults made next old new t0 t1 c0 c1) →
     SegmentHolds plan made (materialized old (length made.levels.items) t0)
     (materialized old (length made.levels.items) c0) → length made.levels.items < plan.bits →
-    StandsAt plan (length made.levels.items) faults →
+    IsCurrent plan (length made.levels.items) faults →
     DeferredHolds old (length made.levels.items) plan.talkers.items t0 c0 →
     KeptUneventfully plan made.levels.items made.events.items h.level new t1 c1
 grown_kept plan faults made next old new t0 t1 c0 c1 h holds still stands is_deferred =
@@ -188,11 +188,11 @@ grown_kept plan faults made next old new t0 t1 c0 c1 h holds still stands is_def
     is_deferred
     (h.faultless plan stands)
 
-pub grown_holds : (plan : SegmentPlan) (faults : FaultOrder) (made next : Record) (old new : Deferred)
+pub grown_holds : (plan : SegmentPlan) (faults : CurrentFaults) (made next : Record) (old new : Deferred)
     (t0 t1 c0 c1 : List Member) → GrowsUneventfully faults made next old new t0 t1 c0 c1 →
     SegmentHolds plan made (materialized old (length made.levels.items) t0)
     (materialized old (length made.levels.items) c0) → length made.levels.items < plan.bits →
-    StandsAt plan (length made.levels.items) faults →
+    IsCurrent plan (length made.levels.items) faults →
     DeferredHolds old (length made.levels.items) plan.talkers.items t0 c0 →
     SegmentHolds plan next (materialized new (length next.levels.items) t1) (materialized new (length next.levels.items)
     c1)
@@ -204,7 +204,7 @@ grown_holds plan faults made next old new t0 t1 c0 c1 h holds still stands is_de
     (grown_kept plan faults made next old new t0 t1 c0 c1 h holds still stands is_deferred) h.sends is_deferred)
 
 -- and its nodes rest on
-pub grown_deferred : (plan : SegmentPlan) (faults : FaultOrder) (made next : Record) (old new : Deferred)
+pub grown_deferred : (plan : SegmentPlan) (faults : CurrentFaults) (made next : Record) (old new : Deferred)
     (t0 t1 c0 c1 : List Member) → GrowsUneventfully faults made next old new t0 t1 c0 c1 →
     DeferredHolds old (length made.levels.items) plan.talkers.items t0 c0 →
     DeferredHolds new (length next.levels.items) plan.talkers.items t1 c1
@@ -232,7 +232,7 @@ both_so_far on first more = record {
   still = λ h. more.still (first.still h);
 }
 
--- quiet bits
+-- uneventful bits
 abbrev pub UneventfulSoFar : SegmentValue → SegmentValue → ℕ → Type 0
 UneventfulSoFar = SoFar MakeUneventfulBits
 
@@ -261,7 +261,7 @@ uneventful_more old mid new limit bit less free h =
       still = λ h. omega (arith, longer, less, ap (λ (p : SegmentPlan). p.bits) bit.plan_is);
     }
 
--- what quiet bits leave of a segment, whatever its ports are
+-- what uneventful bits leave of a segment, whatever its ports are
 pub record LeftUneventfully (old new : SegmentValue) : Type 0 where
   pub plan_is : new.plan ≡ old.plan
   pub events_is : new.events ≡ old.events

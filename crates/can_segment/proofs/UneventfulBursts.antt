@@ -1,14 +1,14 @@
--- A segment behind quiet bits that were made one after another, and that its record got at once.
+-- A segment behind uneventful bits that were made one after another, and that its record got at once.
 use Rattle.std.proofs.Common.{◌≡◌, ℕ, ◌+◌, ◌<◌, ◌≤◌, ◌++◌, Bool, List, [], ◌∷◌, length, refl, sym, ap, subst, arith}
 use Rattle.std.proofs.Common.{◌∙◌}
 use Rattle.std.proofs.Common.{length-append}
 use Rattle.std.proofs.lemmas.List.{append-nil, append_assoc}
 use Rattle.can_confinement.specs.declared.counters.Counters.{Counters}
 use Rattle.can_station.specs.declared.event.Event.{Event}
-use Rattle.can_station.specs.declared.fault_order.FaultOrder.{FaultOrder}
+use Rattle.can_station.specs.declared.current_faults.CurrentFaults.{CurrentFaults}
 use Rattle.can_station.specs.declared.member.Member.{Member}
 use Rattle.can_station.specs.declared.plan.SegmentPlan.{SegmentPlan}
-use Rattle.can_station.specs.FaultOrder.{IsFaultless, StandsAt}
+use Rattle.can_station.specs.CurrentFaults.{IsFaultless, IsCurrent}
 use Rattle.can_segment.specs.declared.deferred.Deferred.{Deferred}
 use Rattle.can_segment.specs.UneventfulBits.{MakesUneventfulBit, MakeUneventfulBits}
 use Rattle.can_segment.specs.UneventfulBits.MakeUneventfulBits.{no_bit, one_more}
@@ -30,22 +30,22 @@ value_of plan levels events counters deferred controllers = record {
 }
 
 -- what stands in it between two bits
-pub record Between (plan : SegmentPlan) (faults : FaultOrder) (levels : List Bool) (events : List Event)
+pub record Between (plan : SegmentPlan) (faults : CurrentFaults) (levels : List Bool) (events : List Event)
     (counters : List Counters) (deferred : Deferred) (talkers controllers : List Member) : Type 0 where
   pub holds : ListsHold plan levels events counters (materialized deferred (length levels) talkers)
       (materialized deferred (length levels) controllers)
-  pub stands : StandsAt plan (length levels) faults
+  pub stands : IsCurrent plan (length levels) faults
   pub is_deferred : DeferredHolds deferred (length levels) plan.talkers.items talkers controllers
 
 -- up to this bit no fault stands behind the cursors, and they pass nothing
-abbrev pub UneventfulUntil : SegmentPlan → FaultOrder → ℕ → Type 0
-UneventfulUntil plan faults last = (bit : ℕ) → bit < last → StandsAt plan bit faults →
-    IsFaultless plan bit × StandsAt plan (bit + 1) faults
+abbrev pub UneventfulUntil : SegmentPlan → CurrentFaults → ℕ → Type 0
+UneventfulUntil plan faults last = (bit : ℕ) → bit < last → IsCurrent plan bit faults →
+    IsFaultless plan bit × IsCurrent plan (bit + 1) faults
 
-pub one_uneventful : (plan : SegmentPlan) (faults : FaultOrder) (levels : List Bool) (events : List Event)
+pub one_uneventful : (plan : SegmentPlan) (faults : CurrentFaults) (levels : List Bool) (events : List Event)
     (counters : List Counters) (level : Bool) (old new : Deferred) (t0 t1 c0 c1 : List Member) →
     Between plan faults levels events counters old t0 c0 → length levels < plan.bits →
-    IsFaultless plan (length levels) → StandsAt plan (length levels + 1) faults →
+    IsFaultless plan (length levels) → IsCurrent plan (length levels + 1) faults →
     IsUneventfulBit (length levels) level old new t0 t1 c0 c1 →
     Between plan faults (levels ++ level ∷ []) events counters new t1 c1
     × MakesUneventfulBit (value_of plan levels events counters old c0)
@@ -76,13 +76,13 @@ one_uneventful plan faults levels events counters level old new t0 t1 c0 c1 h st
       },
     )
 
--- a quiet bit before others
+-- a uneventful bit before others
 pub uneventful_first : {old mid new : SegmentValue} → MakesUneventfulBit old mid → MakeUneventfulBits mid new →
     MakeUneventfulBits old new
 uneventful_first first no_bit = one_more no_bit first
 uneventful_first first (one_more bits bit) = one_more (uneventful_first first bits) bit
 
-pub uneventful_run : (plan : SegmentPlan) (faults : FaultOrder) (levels : List Bool) (events : List Event)
+pub uneventful_run : (plan : SegmentPlan) (faults : CurrentFaults) (levels : List Bool) (events : List Event)
     (counters : List Counters) (sent : List Bool) (old new : Deferred) (t0 t1 c0 c1 : List Member) (last : ℕ) →
     Between plan faults levels events counters old t0 c0 → UneventfulUntil plan faults last → last ≤ plan.bits →
     (0 < length sent → length levels + length sent ≤ last) → AreUneventfulBits (length levels) sent old new t0 t1 c0 c1
@@ -119,8 +119,8 @@ uneventful_sizes bit (level ∷ sent) old new t0 t1 c0 c1 go =
     let more = uneventful_sizes (bit + 1) sent go.0 new go.1 t1 go.2 c1 go.4 in
     (more.0 ∙ go.3.talkers.size, more.1 ∙ go.3.controllers.size)
 
--- what stands behind quiet bits, that they were made one after another, and that there are as many nodes as before
-pub record RanUneventfully (plan : SegmentPlan) (faults : FaultOrder) (levels : List Bool) (events : List Event)
+-- what stands behind uneventful bits, that they were made one after another, and that there are as many nodes as before
+pub record RanUneventfully (plan : SegmentPlan) (faults : CurrentFaults) (levels : List Bool) (events : List Event)
     (counters : List Counters) (sent : List Bool) (old new : Deferred) (t0 t1 c0 c1 : List Member) : Type 0 where
   pub between : Between plan faults (levels ++ sent) events counters new t1 c1
   pub bits : MakeUneventfulBits (value_of plan levels events counters old c0)
@@ -128,7 +128,7 @@ pub record RanUneventfully (plan : SegmentPlan) (faults : FaultOrder) (levels : 
   pub talkers_size : length t1 ≡ length t0
   pub controllers_size : length c1 ≡ length c0
 
-pub ran_uneventfully : (plan : SegmentPlan) (faults : FaultOrder) (levels : List Bool) (events : List Event)
+pub ran_uneventfully : (plan : SegmentPlan) (faults : CurrentFaults) (levels : List Bool) (events : List Event)
     (counters : List Counters) (sent : List Bool) (old new : Deferred) (t t0 t1 c c0 c1 : List Member) (last : ℕ) →
     Between plan faults levels events counters old t0 c0 → UneventfulUntil plan faults last → last ≤ plan.bits →
     (0 < length sent → length levels + length sent ≤ last) → t ≡ t0 → c ≡ c0 →

@@ -1,4 +1,4 @@
--- A node that doesn't want to start at a bit, and one of which nothing is told behind it.
+-- A node that doesn't want to start at a bit, and one of which nothing is reported behind it.
 use Rattle.std.proofs.Common.{◌≡◌, ℕ, ◌≤◌, ◌++◌, ◌&&◌, Bool, true, false, Option, None, IfSome, List, refl, sym, ap}
 use Rattle.std.proofs.Common.{subst, arith, ◌∙◌}
 use Rattle.std.proofs.lemmas.List.{append-nil}
@@ -6,8 +6,9 @@ use Rattle.can_frame.specs.Frames.{FrameValue}
 use Rattle.bx_core.specs.TxBus.{Item, BusPast, BusCall}
 use Rattle.can_node.specs.Node.{may_begin}
 use Rattle.can_node.proofs.Samples.{wanting}
-use Rattle.can_station.specs.declared.member.Action.{Action}
+use Rattle.can_station.specs.declared.action.Action.{Action}
 use Rattle.can_station.specs.declared.member.Member.{Member}
+use Rattle.can_station.specs.Queues.{due_at}
 use Rattle.can_station.specs.declared.plan.Talker.{Talker}
 use Rattle.can_station.specs.Actions.{IsUneventful}
 use Rattle.can_station.specs.Members.{PortSettles, PortStarts, SamplesOn, TalkerStarts, is_on, settled_at, taken_at}
@@ -30,7 +31,7 @@ pub unmoved_talks : (bit : ℕ) (talkers : List Talker) (k : ℕ) (m : Member) �
 unmoved_talks bit talkers k m wants uneventful talker e = record {
   off = λ early. refl;
   on_is = refl;
-  talks = λ late. subst (IsTalk m.station m.station talker.frames.items) (sym uneventful.no_start)
+  talks = λ late. subst (IsTalk m.station m.station (due_at talker.queue.items m.station.completed bit)) (sym uneventful.no_start)
       (record {
         begins = λ e. absurd (cc e);
         stays = λ e. refl;

@@ -3,8 +3,8 @@ use Rattle.std.proofs.Common.{◌≡◌, ℕ, ◌+◌, ◌≤◌, Bool, List, []
 use Rattle.std.proofs.lemmas.Option.{slice_get_within}
 use Rattle.can_confinement.specs.declared.counters.Counters.{Counters}
 use Rattle.can_station.specs.declared.event.Event.{Event}
-use Rattle.can_station.specs.declared.event.Told.{Told}
-use Rattle.can_station.specs.declared.member.Action.{Action}
+use Rattle.can_station.specs.declared.event.EventKind.{EventKind}
+use Rattle.can_station.specs.declared.action.Action.{Action}
 use Rattle.can_station.specs.declared.member.Member.{Member}
 use Rattle.can_station.specs.declared.plan.SegmentPlan.{SegmentPlan}
 use Rattle.can_segment.specs.declared.record.Record.{Record}
@@ -14,35 +14,35 @@ use Rattle.can_station.specs.DeferredNodes.{AreAlike, IsAlike, LeavesDeferred, N
 use Rattle.can_segment.specs.DeferredState.{materialized}
 use Rattle.can_segment.specs.Segments.{AreFrom, AreFromDeferred, SegmentHolds}
 use Rattle.can_station.specs.Lines.{lines}
-use Rattle.can_station.specs.Tellings.{bit_lines, rest_by, start_of, told_by}
+use Rattle.can_station.specs.Tellings.{bit_lines, rest_by, start_of, events_by}
 use Rattle.can_segment.specs.Traces.{Bit}
 use Rattle.can_station.proofs.Places.{some_there}
 use Rattle.can_segment.proofs.DeferredState.{members_length, real_at, whole_at}
 use Rattle.can_segment.proofs.Resumed.{none_deferred_at}
 
--- what is told of nodes
-told_whole : (tells : Action → List Told) (bit node : ℕ) (deferred : Deferred) (at : ℕ) (members : List Member) →
-    told_by tells bit node (materialized deferred at members) ≡ told_by tells bit node members
-unfolding told_by
-told_whole tells bit node deferred at [] = refl
-told_whole tells bit node deferred at (m ∷ members) =
-    ap (λ es. lines bit node (tells m.action) ++ es) (told_whole tells bit (node + 1) deferred at members)
+-- what is reported of nodes
+reported_whole : (tells : Action → List EventKind) (bit node : ℕ) (deferred : Deferred) (at : ℕ) (members : List Member) →
+    events_by tells bit node (materialized deferred at members) ≡ events_by tells bit node members
+unfolding events_by
+reported_whole tells bit node deferred at [] = refl
+reported_whole tells bit node deferred at (m ∷ members) =
+    ap (λ es. lines bit node (tells m.action) ++ es) (reported_whole tells bit (node + 1) deferred at members)
 
 pub lines_whole : (bit : ℕ) (deferred : Deferred) (at : ℕ) (t c : List Member) →
     bit_lines bit (materialized deferred at t) (materialized deferred at c) ≡ bit_lines bit t c
 lines_whole bit deferred at t c =
     let wt = materialized deferred at t in
     let wc = materialized deferred at c in
-    ap (λ n. (told_by start_of bit 0 wt ++ told_by start_of bit n wc)
-    ++ (told_by rest_by bit 0 wt ++ told_by rest_by bit n wc)) (members_length deferred at t)
-    ∙ ap (λ es. (es ++ told_by start_of bit (length t) wc)
-    ++ (told_by rest_by bit 0 wt ++ told_by rest_by bit (length t) wc)) (told_whole start_of bit 0 deferred at t)
-    ∙ ap (λ es. (told_by start_of bit 0 t ++ es) ++ (told_by rest_by bit 0 wt ++ told_by rest_by bit (length t) wc))
-    (told_whole start_of bit (length t) deferred at c)
-    ∙ ap (λ es. (told_by start_of bit 0 t ++ told_by start_of bit (length t) c)
-    ++ (es ++ told_by rest_by bit (length t) wc)) (told_whole rest_by bit 0 deferred at t)
-    ∙ ap (λ es. (told_by start_of bit 0 t ++ told_by start_of bit (length t) c) ++ (told_by rest_by bit 0 t ++ es))
-    (told_whole rest_by bit (length t) deferred at c)
+    ap (λ n. (events_by start_of bit 0 wt ++ events_by start_of bit n wc)
+    ++ (events_by rest_by bit 0 wt ++ events_by rest_by bit n wc)) (members_length deferred at t)
+    ∙ ap (λ es. (es ++ events_by start_of bit (length t) wc)
+    ++ (events_by rest_by bit 0 wt ++ events_by rest_by bit (length t) wc)) (reported_whole start_of bit 0 deferred at t)
+    ∙ ap (λ es. (events_by start_of bit 0 t ++ es) ++ (events_by rest_by bit 0 wt ++ events_by rest_by bit (length t) wc))
+    (reported_whole start_of bit (length t) deferred at c)
+    ∙ ap (λ es. (events_by start_of bit 0 t ++ events_by start_of bit (length t) c)
+    ++ (es ++ events_by rest_by bit (length t) wc)) (reported_whole rest_by bit 0 deferred at t)
+    ∙ ap (λ es. (events_by start_of bit 0 t ++ events_by start_of bit (length t) c) ++ (events_by rest_by bit 0 t ++ es))
+    (reported_whole rest_by bit (length t) deferred at c)
 
 -- counters that are shown
 pub from_real : (first : ℕ) (deferred : Deferred) (at : ℕ) (members : List Member) (counters : List Counters) →
@@ -97,7 +97,7 @@ kept_alike plan levels events t0 t1 c0 c1 talkers controllers h = record {
   };
 }
 
--- what a segment holds behind a bit, when nodes may have come to rest
+-- what a segment holds behind a bit, when nodes may have been deferred
 pub holds_alike : (plan : SegmentPlan) (made : Record) (t0 t1 c0 c1 : List Member) → AreAlike t0 t1 → AreAlike c0 c1 →
     SegmentKept plan made.levels.items made.events.items t0 c0 → length t0 + length c0 ≤ 64 →
     length made.counters.items ≡ length t0 + length c0 → AreFrom 0 t0 made.counters.items →
@@ -111,7 +111,7 @@ holds_alike plan made t0 t1 c0 c1 talkers controllers kept few size talkers_show
       (from_alike (length t0) c0 c1 made.counters.items controllers controllers_shown);
 }
 
--- where none rests each stands for itself
+-- where none is deferred each stands for itself
 pub holds_active : (plan : SegmentPlan) (made : Record) (deferred : Deferred) (bit : ℕ) (t c : List Member) →
     NoneDeferred t →
     NoneDeferred c → SegmentHolds plan made t c → SegmentHolds plan made (materialized deferred bit t) (materialized

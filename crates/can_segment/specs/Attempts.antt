@@ -6,7 +6,7 @@ use Rattle.can_confinement.specs.declared.confinement.ErrorState.{ErrorState}
 use Rattle.can_node.specs.declared.outcome.Outcome.{Outcome}
 use Rattle.can_node.specs.declared.outcome.Outcome.TheVariants.{Nothing}
 use Rattle.can_node.specs.Histories.{Past}
-use Rattle.can_node.specs.Cuts.{IsAttempt}
+use Rattle.can_node.specs.Splits.{IsAttempt}
 use Rattle.can_node.specs.Attempts.{first_bit}
 use Rattle.can_station.specs.declared.event.Label.{Label}
 use Rattle.can_station.specs.declared.plan.SegmentPlan.{SegmentPlan}
@@ -53,7 +53,7 @@ request_at node trace bit = option_and_then (λ (sent : Transmission). sent.labe
 -- The lines tell of an attempt: its first bit has the line `started` with its frame, and the line of its last bit tells
 -- what
 -- became of it, with its start.
-pub record IsTold (node : ℕ) (trace : List Bit) (start : ℕ) (frame : FrameValue) (first end : ℕ)
+pub record IsReported (node : ℕ) (trace : List Bit) (start : ℕ) (frame : FrameValue) (first end : ℕ)
     (outcome : Outcome) : Type 0 where
   pub sent : Transmission
   pub begins : begun_at node trace first ≡ Some sent
@@ -63,12 +63,12 @@ pub record IsTold (node : ℕ) (trace : List Bit) (start : ℕ) (frame : FrameVa
   pub outcome_is : outcome_at node trace end ≡ outcome
 
 -- so they do of each
-abbrev pub AttemptsAreTold : SegmentPlan → List Bit → Type 0
-AttemptsAreTold plan trace =
+abbrev pub AttemptsAreReported : SegmentPlan → List Bit → Type 0
+AttemptsAreReported plan trace =
     (node : ℕ) (past : Past) (start end : ℕ) (frame : FrameValue) (state : ErrorState) (outcome : Outcome) →
     IsPastOf plan trace node past →
     (attempt : IsAttempt past start frame state end outcome) →
-    IsTold node trace start frame (first_bit attempt) end outcome
+    IsReported node trace start frame (first_bit attempt) end outcome
 
 -- and what they tell of the end of a transmission, be it completed, lost, in an error or in bus off, is the end of an
 -- attempt

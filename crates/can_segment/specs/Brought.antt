@@ -6,63 +6,63 @@ use Rattle.can_frame.specs.Frames.{FrameValue}
 use Rattle.bx_core.specs.Lists.{Each}
 use Rattle.bx_core.specs.TxBus.{Item, BusPast, BusCall, IsUndone}
 use Rattle.can_station.specs.declared.event.Event.{Event}
-use Rattle.can_station.specs.declared.event.Told.{Told}
-use Rattle.can_station.specs.declared.event.Told.TheVariants as told
+use Rattle.can_station.specs.declared.event.EventKind.{EventKind}
+use Rattle.can_station.specs.declared.event.EventKind.TheVariants as kinds
 use Rattle.can_station.specs.Ports.{Asks, item_with}
 
--- what is told of a node
-abbrev pub told_of : ℕ → List Event → List Told
-told_of node [] = []
-told_of node (event ∷ more) = if event.node == node then event.told ∷ told_of node more else told_of node more
+-- what is reported of a node
+abbrev pub kinds_of : ℕ → List Event → List EventKind
+kinds_of node [] = []
+kinds_of node (event ∷ more) = if event.node == node then event.kind ∷ kinds_of node more else kinds_of node more
 
 -- a line names a request that started, one that was sent, one that was reaped, or a frame that was taken
-abbrev pub start_in : Told → List Item
-start_in (told.Started frame label) = option_to_list (item_with frame label)
-start_in (told.Took start frame) = []
-start_in (told.Completed start frame label) = []
-start_in (told.Lost start) = []
-start_in (told.Error kind) = []
-start_in told.Off = []
-start_in told.Back = []
-start_in (told.Reaped label) = []
+abbrev pub start_in : EventKind → List Item
+start_in (kinds.Started frame label) = option_to_list (item_with frame label)
+start_in (kinds.Took start frame) = []
+start_in (kinds.Completed start frame label) = []
+start_in (kinds.Lost start) = []
+start_in (kinds.Error kind) = []
+start_in kinds.Off = []
+start_in kinds.Back = []
+start_in (kinds.Reaped label) = []
 
-abbrev pub sent_in : Told → List Item
-sent_in (told.Started frame label) = []
-sent_in (told.Took start frame) = []
-sent_in (told.Completed start frame label) = option_to_list (item_with frame label)
-sent_in (told.Lost start) = []
-sent_in (told.Error kind) = []
-sent_in told.Off = []
-sent_in told.Back = []
-sent_in (told.Reaped label) = []
+abbrev pub sent_in : EventKind → List Item
+sent_in (kinds.Started frame label) = []
+sent_in (kinds.Took start frame) = []
+sent_in (kinds.Completed start frame label) = option_to_list (item_with frame label)
+sent_in (kinds.Lost start) = []
+sent_in (kinds.Error kind) = []
+sent_in kinds.Off = []
+sent_in kinds.Back = []
+sent_in (kinds.Reaped label) = []
 
-abbrev pub reaped_in : Told → List (ℕ × ℕ)
-reaped_in (told.Started frame label) = []
-reaped_in (told.Took start frame) = []
-reaped_in (told.Completed start frame label) = []
-reaped_in (told.Lost start) = []
-reaped_in (told.Error kind) = []
-reaped_in told.Off = []
-reaped_in told.Back = []
-reaped_in (told.Reaped label) = (label.route, label.number) ∷ []
+abbrev pub reaped_in : EventKind → List (ℕ × ℕ)
+reaped_in (kinds.Started frame label) = []
+reaped_in (kinds.Took start frame) = []
+reaped_in (kinds.Completed start frame label) = []
+reaped_in (kinds.Lost start) = []
+reaped_in (kinds.Error kind) = []
+reaped_in kinds.Off = []
+reaped_in kinds.Back = []
+reaped_in (kinds.Reaped label) = (label.route, label.number) ∷ []
 
-abbrev pub taken_in : Told → List FrameValue
-taken_in (told.Started frame label) = []
-taken_in (told.Took start frame) = frame ∷ []
-taken_in (told.Completed start frame label) = []
-taken_in (told.Lost start) = []
-taken_in (told.Error kind) = []
-taken_in told.Off = []
-taken_in told.Back = []
-taken_in (told.Reaped label) = []
+abbrev pub taken_in : EventKind → List FrameValue
+taken_in (kinds.Started frame label) = []
+taken_in (kinds.Took start frame) = frame ∷ []
+taken_in (kinds.Completed start frame label) = []
+taken_in (kinds.Lost start) = []
+taken_in (kinds.Error kind) = []
+taken_in kinds.Off = []
+taken_in kinds.Back = []
+taken_in (kinds.Reaped label) = []
 
 -- what all of them name, in their order
-abbrev pub all_in : {X : Type 0} → (Told → List X) → List Told → List X
+abbrev pub all_in : {X : Type 0} → (EventKind → List X) → List EventKind → List X
 all_in names [] = []
 all_in names (one ∷ more) = names one ++ all_in names more
 
 -- the past of a bus side which was brought this
-abbrev pub grown : BusPast → List Told → BusPast
+abbrev pub grown : BusPast → List EventKind → BusPast
 grown past tells = record {
   started = past.started ++ all_in start_in tells;
   done = past.done ++ all_in sent_in tells;
@@ -70,15 +70,15 @@ grown past tells = record {
 }
 
 -- what starts at one of these lines is not over: it was neither sent nor reaped, in the past or by an earlier line
-abbrev pub StartsUndone : BusPast → List Told → Type 0
+abbrev pub StartsUndone : BusPast → List EventKind → Type 0
 StartsUndone past [] = Unit {0}
 StartsUndone past (one ∷ more) = Each (IsUndone past) (start_in one) × StartsUndone (grown past (one ∷ [])) more
 
--- A port was brought what is told of its node, which sends this then; what starts is not over. Its bus side was asked
+-- A port was brought what is reported of its node, which sends this then; what starts is not over. Its bus side was asked
 -- for a request just where the node wanted to start, and what starts is what it gave.
 pub record IsBrought {P : Type 0} (after : P → BusPast → Type 0) (asked : P → List BusCall → Type 0)
     (transmitting : P → Option Item) (sink : P → List FrameValue → Type 0) (stays : P → P → Type 0)
-    (tells : List Told) (wants : Bool) (sends : Option Item) (from to : P) : Type 0 where
+    (tells : List EventKind) (wants : Bool) (sends : Option Item) (from to : P) : Type 0 where
   pub bus : (past : BusPast) → after from past → after to (grown past tells)
   pub undone : (past : BusPast) → after from past → StartsUndone past tells
   pub begins : Option Item

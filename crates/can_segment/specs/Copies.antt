@@ -1,6 +1,6 @@
 -- Copies on a line with faults: what the attempts of a sender and the takes of a receiver have to do with one another.
 -- Bosch CAN Specification 2.0, part B, 5 MESSAGE VALIDATION; ISO 11898-1.
-use Rattle.std.specs.Prelude.{◌≡◌, ℕ, ◌<◌, ◌≤◌, ◌+◌, ◌==◌, ◌||◌, Bool, true, false, Some, List, slice_get, take}
+use Rattle.std.specs.Prelude.{◌≡◌, ℕ, ◌<◌, ◌≤◌, ◌+◌, ◌||◌, Bool, true, false, Some, List, slice_get, take}
 use Rattle.std.specs.List.{list_any}
 use Rattle.can_frame.specs.Frames.{FrameValue}
 use Rattle.can_confinement.specs.declared.confinement.ErrorState.{ErrorState}
@@ -9,24 +9,24 @@ use Rattle.can_node.specs.declared.outcome.ErrorKind.{ErrorKind}
 use Rattle.can_node.specs.declared.outcome.Outcome.{Outcome}
 use Rattle.can_node.specs.declared.outcome.Outcome.TheVariants.{Nothing, Took, Completed, Errored}
 use Rattle.can_node.specs.Histories.{Past}
-use Rattle.can_node.specs.Cuts.{IsAttempt, IsTake, IsOpenTake}
+use Rattle.can_node.specs.Splits.{IsAttempt, IsTake, IsOpenTake}
 use Rattle.can_node.specs.Attempts.{first_bit}
 use Rattle.bx_core.specs.TxBus.{no_bus_past}
 use Rattle.can_station.specs.declared.event.Event.{Event}
 use Rattle.can_station.specs.declared.plan.LineFault.{LineFault}
 use Rattle.can_station.specs.declared.plan.Talker.{Talker}
 use Rattle.can_station.specs.declared.plan.SegmentPlan.{SegmentPlan}
-use Rattle.can_station.specs.Faults.{is_inverted}
-use Rattle.can_segment.specs.Attempts.{IsPastOf, AttemptsAreTold, EndsAreOfAttempts, RequestsTryFailures}
-use Rattle.can_segment.specs.Brought.{told_of, StartsUndone}
+use Rattle.can_station.specs.Faults.{is_inverted, stands}
+use Rattle.can_segment.specs.Attempts.{IsPastOf, AttemptsAreReported, EndsAreOfAttempts, RequestsTryFailures}
+use Rattle.can_segment.specs.Brought.{kinds_of, StartsUndone}
 use Rattle.can_segment.specs.Traces.{Bit, completed_of}
 use Rattle.can_station.specs.Outcomes.{is_failure}
 use Rattle.can_segment.specs.Runs.{Run}
 
--- a fault touches what this node samples at this bit, or the line there
+-- a fault of the line stands at this bit, or one of this node
 abbrev pub is_falsified : SegmentPlan → ℕ → ℕ → Bool
 is_falsified plan node bit =
-    list_any (λ (fault : LineFault). fault.bit == bit) plan.line_faults.items
+    list_any (λ (fault : LineFault). stands fault.bit fault.until bit) plan.line_faults.items
     || is_inverted plan.node_faults.items node bit
 
 -- An error of a sender that is error active comes not before the bit at which a receiver took the frame of that
@@ -78,8 +78,8 @@ pub record KeepsCopies (plan : SegmentPlan) (trace : List Bit) (events : List Ev
   pub completed : CompletedAreTaken plan trace
   pub no_open : NoTakeGoesOn plan trace
   pub talkers : TalkersTryFailures plan trace
-  pub controllers : (node : ℕ) → StartsUndone no_bus_past (told_of node events) → RequestsTryFailures plan trace node
-  pub told : AttemptsAreTold plan trace
+  pub controllers : (node : ℕ) → StartsUndone no_bus_past (kinds_of node events) → RequestsTryFailures plan trace node
+  pub reported : AttemptsAreReported plan trace
   pub ends : EndsAreOfAttempts plan trace
 
 -- they hold for whatever trace tells these levels and events

@@ -1,6 +1,6 @@
 -- Deferred nodes: what they mean, and what holds of them between bits. src/deferred.rt explains the idea.
-use Rattle.std.specs.Prelude.{◌≡◌, ◌⊎◌, ℕ, ◌+◌, ◌≤◌, ◌&&◌, Bool, true, false}
-use Rattle.std.specs.Prelude.{None, Some, List, [], ◌∷◌, length, map, slice_get, if◌then◌else◌}
+use Rattle.std.specs.Prelude.{◌≡◌, ◌⊎◌, ℕ, ◌+◌, ◌<◌, ◌≤◌, ◌&&◌, Bool, true, false}
+use Rattle.std.specs.Prelude.{Some, List, [], ◌∷◌, length, map, slice_get, if◌then◌else◌}
 use Rattle.std.specs.List.{list_all}
 use Rattle.can_confinement.specs.KnownCounts.{Knows}
 use Rattle.can_node.specs.SharedReceiver.{Acknowledges, Follows, Idles, IsListening, materialized as materialized_node}
@@ -12,6 +12,7 @@ use Rattle.can_station.specs.declared.plan.Talker.{Talker}
 use Rattle.can_segment.specs.declared.deferred.Deferred.{Deferred}
 use Rattle.can_station.specs.Actions.{IsUneventful}
 use Rattle.can_station.specs.Members.{drives_at}
+use Rattle.can_station.specs.Queues.{IsNotDueBefore}
 use Rattle.can_station.specs.DeferredNodes.{AllGo, AreAlike, ActiveWithin, LeavesDeferred}
 use Rattle.can_station.specs.DeferredNodes.{MayDefer, NoneDeferred, resumed}
 
@@ -33,28 +34,28 @@ abbrev pub AreDeferred : Deferred → ℕ → List Member → Type 0
 AreDeferred deferred bit members = (k : ℕ) (m : Member) → slice_get members k ≡ Some m → m.is_deferred ≡ true →
     IsDeferred deferred bit m
 
--- where `finished`, no deferred talker has a frame left
-abbrev pub AreFinished : Deferred → List Talker → List Member → Type 0
-AreFinished deferred talkers members =
-    deferred.finished ≡ true → (k : ℕ) (m : Member) (talker : Talker) → slice_get members k ≡ Some m →
-    slice_get talkers k ≡ Some talker → m.is_deferred ≡ true → slice_get talker.frames.items m.station.completed ≡ None
+-- no deferred talker has a frame that is due before the bit `next_start`
+abbrev pub AreNotDue : Deferred → List Talker → List Member → Type 0
+AreNotDue deferred talkers members = (k : ℕ) (m : Member) (talker : Talker) → slice_get members k ≡ Some m →
+    slice_get talkers k ≡ Some talker → m.is_deferred ≡ true →
+    IsNotDueBefore talker.queue.items m.station.completed deferred.next_start
 
 -- the invariant: what holds of the deferred nodes and of the sets of active ones before a bit
 pub record DeferredHolds (deferred : Deferred) (bit : ℕ) (plan : List Talker) (talkers controllers : List Member) : Type
     0 where
   pub talkers_deferred : AreDeferred deferred bit talkers
   pub controllers_deferred : AreDeferred deferred bit controllers
-  pub talkers_finished : AreFinished deferred plan talkers
-  pub controllers_active : deferred.finished ≡ true → NoneDeferred controllers
+  pub talkers_not_due : AreNotDue deferred plan talkers
+  pub controllers_active : 0 < deferred.next_start → NoneDeferred controllers
   pub talkers_within : ActiveWithin deferred.talkers talkers
   pub controllers_within : ActiveWithin deferred.controllers controllers
   pub talkers_fit : length talkers ≤ 64
   pub controllers_fit : length controllers ≤ 64
 
--- no deferred node wants to start, or none has anything to send
-abbrev pub NoneStarts : Deferred → Type 0
-NoneStarts deferred = (deferred.finished ≡ true) ⊎ ((node : Node) (bit : ℕ) →
-    may_begin (materialized_node node deferred.shared_receiver bit) ≡ false)
+-- no deferred node wants to start at this bit, or none has anything to send at it
+abbrev pub NoneStarts : Deferred → ℕ → Type 0
+NoneStarts deferred bit = (bit < deferred.next_start) ⊎ ((node : Node) (next : ℕ) →
+    may_begin (materialized_node node deferred.shared_receiver next) ≡ false)
 
 -- each deferred node drives this level
 abbrev pub Drives : Deferred → Bool → Type 0
@@ -67,7 +68,7 @@ pub record FollowsThrough (bit : ℕ) (level : Bool) (old new : Deferred) : Type
   pub talkers_is : new.talkers ≡ old.talkers
   pub controllers_is : new.controllers ≡ old.controllers
   pub known_is : new.known ≡ old.known
-  pub finished_is : new.finished ≡ old.finished
+  pub next_start_is : new.next_start ≡ old.next_start
   pub follows : Follows old.known old.shared_receiver bit level new.shared_receiver
   pub listens : IsListening old.shared_receiver → IsListening new.shared_receiver
 
@@ -77,7 +78,7 @@ pub record FollowsAck (level : Bool) (old new : Deferred) : Type 0 where
   pub any_deferred_is : new.any_deferred ≡ old.any_deferred
   pub talkers_is : new.talkers ≡ old.talkers
   pub controllers_is : new.controllers ≡ old.controllers
-  pub finished_is : new.finished ≡ old.finished
+  pub next_start_is : new.next_start ≡ old.next_start
   pub acknowledges : Acknowledges old.shared_receiver level new.shared_receiver
   pub listens : IsListening new.shared_receiver
 
@@ -87,7 +88,7 @@ pub record IsSameButCounts (old new : Deferred) : Type 0 where
   pub any_deferred_is : new.any_deferred ≡ old.any_deferred
   pub talkers_is : new.talkers ≡ old.talkers
   pub controllers_is : new.controllers ≡ old.controllers
-  pub finished_is : new.finished ≡ old.finished
+  pub next_start_is : new.next_start ≡ old.next_start
 
 -- The deferred nodes go through a bit at which they sample this level: the shared receiver followed it. Some may have
 -- been resumed before it.
@@ -102,24 +103,24 @@ pub record IsLess (old new : Deferred) : Type 0 where
   pub shared_receiver_is : new.shared_receiver ≡ old.shared_receiver
   pub any_deferred_is : new.any_deferred ≡ old.any_deferred
   pub knows : (counters : Counters) → Knows old.known counters → Knows new.known counters
-  pub finishes : new.finished ≡ true → old.finished ≡ true
+  pub sooner : new.next_start ≤ old.next_start
   pub talkers_is : new.talkers ≡ old.talkers
   pub controllers_is : new.controllers ≡ old.controllers
 
 -- a node that may have been deferred, and what is known of all deferred nodes then
-pub record Defers (bit : ℕ) (has_sent_all : Bool) (before after : Deferred) (old new : Member) : Type 0 where
+pub record Defers (bit next_due : ℕ) (before after : Deferred) (old new : Member) : Type 0 where
   pub less : IsLess before after
   pub may_defer : MayDefer before.shared_receiver bit old new
   pub some_deferred : old.is_deferred ≡ false → new.is_deferred ≡ true → after.any_deferred ≡ true
   pub known : old.is_deferred ≡ false → new.is_deferred ≡ true → Knows after.known (counters_in new.station.node)
-  pub finished : old.is_deferred ≡ false → new.is_deferred ≡ true → after.finished ≡ true → has_sent_all ≡ true
+  pub not_due : old.is_deferred ≡ false → new.is_deferred ≡ true → after.next_start ≤ next_due
 
 -- nothing changed of what the deferred nodes have in common
 pub record IsSame (old new : Deferred) : Type 0 where
   pub shared_receiver_is : new.shared_receiver ≡ old.shared_receiver
   pub any_deferred_is : new.any_deferred ≡ old.any_deferred
   pub known_is : new.known ≡ old.known
-  pub finished_is : new.finished ≡ old.finished
+  pub next_start_is : new.next_start ≡ old.next_start
 
 -- where no node is deferred, the shared receiver may be taken from another node
 pub record ChoosesReceiver (old new : Deferred) : Type 0 where
@@ -141,7 +142,7 @@ driven_beside bit deferred_level = list_all (λ member. if member.is_deferred th
 -- An uneventful bit: the shared receiver follows it for the deferred nodes, and the active ones sample the AND of what
 -- all drive. Nothing is reported of any node.
 pub record IsUneventfulBit (bit : ℕ) (level : Bool) (old new : Deferred) (t0 t1 c0 c1 : List Member) : Type 0 where
-  pub starts_none : NoneStarts old
+  pub starts_none : NoneStarts old bit
   pub through : FollowsThrough bit level old new
   pub deferred_level : Bool
   pub drives : Drives old deferred_level
@@ -165,14 +166,15 @@ AreRecessive (level ∷ levels) = (level ≡ true) × AreRecessive levels
 abbrev pub AllDeferred : List Member → Type 0
 AllDeferred members = (k : ℕ) (m : Member) → slice_get members k ≡ Some m → m.is_deferred ≡ true
 
--- no talker has a frame left
-abbrev pub AreAllFinished : List Talker → List Member → Type 0
-AreAllFinished plan members = (k : ℕ) (m : Member) (talker : Talker) → slice_get members k ≡ Some m →
-    slice_get plan k ≡ Some talker → slice_get talker.frames.items m.station.completed ≡ None
+-- none of these talkers has a frame that is due before this bit
+abbrev pub AreNoneDueBefore : ℕ → List Talker → List Member → Type 0
+AreNoneDueBefore limit plan members = (k : ℕ) (m : Member) (talker : Talker) → slice_get members k ≡ Some m →
+    slice_get plan k ≡ Some talker → IsNotDueBefore talker.queue.items m.station.completed limit
 
--- all nodes are deferred on an idle bus, and no talker has a frame left
-pub record AreIdle (deferred : Deferred) (plan : List Talker) (talkers controllers : List Member) : Type 0 where
-  pub idles : Idles deferred.shared_receiver
-  pub talkers_deferred : AllDeferred talkers
-  pub controllers_deferred : AllDeferred controllers
-  pub talkers_finished : AreAllFinished plan talkers
+-- all nodes are deferred on an idle bus, and no talker has a frame that is due before this bit
+pub record AreIdle (deferred : Deferred) (limit : ℕ) (plan : List Talker) (talkers controllers : List Member) : Type 0
+  where
+    pub idles : Idles deferred.shared_receiver
+    pub talkers_deferred : AllDeferred talkers
+    pub controllers_deferred : AllDeferred controllers
+    pub talkers_not_due : AreNoneDueBefore limit plan talkers

@@ -7,6 +7,7 @@ pub mod Brought
 pub mod Segments
 pub mod Attempts
 pub mod Copies
+pub mod Queues
 pub mod StepOutcome
 pub mod DeferredState
 pub mod UneventfulBits

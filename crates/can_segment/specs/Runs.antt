@@ -18,6 +18,7 @@ use Rattle.can_station.specs.declared.transmission.Transmission.{Transmission}
 use Rattle.can_station.specs.Faults.{line_level, sampled_level}
 use Rattle.can_segment.specs.Traces.{Act, Bit, with_act, past_of, completed_of, sending_now, sending_of}
 use Rattle.can_station.specs.Outcomes.{is_failure}
+use Rattle.can_station.specs.Queues.{due_at}
 use Rattle.can_segment.specs.Tells.{events_at}
 
 -- a node begins to send only where it wants to start, and the start is the SOF of what it sends then
@@ -31,11 +32,11 @@ pub record IsAct (past : Past) (level : Bool) (act : Act) : Type 0 where
   pub samples : act.sampled ≡ level
   pub begins : (sent : Transmission) → act.begun ≡ Some sent → IsBegun past sent
 
--- a talker that wants to start and has frames left begins the first one that was not completed, and no other
-pub record IsTalking (frames : List FrameValue) (completed : ℕ) (past : Past) (act : Act) : Type 0 where
+-- a talker that wants to start begins its next frame, where it has one, and no other
+pub record IsTalking (next : Option FrameValue) (past : Past) (act : Act) : Type 0 where
   pub wants : Bool
   pub is_wanting : IsWanting past wants
-  pub begins : option_map (λ sent. sent.frame) act.begun ≡ (if wants then slice_get frames completed else None)
+  pub begins : option_map (λ sent. sent.frame) act.begun ≡ (if wants then next else None)
   pub no_label : (sent : Transmission) → act.begun ≡ Some sent → sent.label ≡ None
   pub no_reaping : act.reaped ≡ None
 
@@ -71,13 +72,13 @@ pub record IsBit (plan : SegmentPlan) (trace : List Bit) (bit : Bit) : Type 0 wh
   pub each : length bit.acts ≡ length plan.talkers.items + length plan.controllers.items
   pub level_is : bit.level ≡ line_level plan.line_faults.items (length trace) (list_all drives bit.acts)
   pub talkers : (k : ℕ) (talker : Talker) → slice_get plan.talkers.items k ≡ Some talker →
-      ActsAt plan talker.on k (λ act. IsTalking talker.frames.items (completed_of k trace) (past_of talker.on k trace)
-      act) trace bit
+      ActsAt plan talker.on k (λ act. IsTalking (due_at talker.queue.items (completed_of k trace) (length trace))
+      (past_of talker.on k trace) act) trace bit
   pub controllers : (k : ℕ) (controller : Controller) → slice_get plan.controllers.items k ≡ Some controller →
       ActsAt plan controller.on (length plan.talkers.items + k)
       (λ act. IsControlling (sending_of (length plan.talkers.items + k) trace) act) trace bit
 
--- a run so far: its bits, the levels of the line, and what is told
+-- a run so far: its bits, the levels of the line, and what is reported
 pub data Run (plan : SegmentPlan) : List Bit → List Bool → List Event → Type 0 where
   no_bit : Run plan [] [] []
   one_more : {trace : List Bit} {levels : List Bool} {events : List Event} (bit : Bit) →

@@ -12,7 +12,7 @@ use Rattle.can_station.specs.declared.member.Member.{Member}
 use Rattle.can_station.specs.declared.plan.Controller.{Controller}
 use Rattle.can_station.specs.declared.plan.SegmentPlan.{SegmentPlan}
 use Rattle.can_segment.specs.declared.record.Record.{Record}
-use Rattle.can_segment.specs.Brought.{told_of, IsBrought}
+use Rattle.can_segment.specs.Brought.{kinds_of, IsBrought}
 use Rattle.can_segment.specs.Kept.{SegmentKept}
 use Rattle.can_station.specs.Members.{wants_at, AreOf}
 use Rattle.can_station.specs.Ports.{item_of}
@@ -72,7 +72,7 @@ pub record MakesBit {P : Type 0} (after : P → BusPast → Type 0) (asked : P �
   pub size : length to ≡ length from
   pub ports : (k : ℕ) (sends : Option Item) (p q : P) → slice_get new.sending k ≡ Some sends →
       slice_get from k ≡ Some p → slice_get to k ≡ Some q →
-      IsBrought after asked transmitting sink stays (told_of (length old.plan.talkers.items + k) lines)
+      IsBrought after asked transmitting sink stays (kinds_of (length old.plan.talkers.items + k) lines)
       (wants_next old k) sends p q
 
 -- a segment of this plan before its first bit
@@ -125,6 +125,6 @@ pub record Grows {P : Type 0} (after : P → BusPast → Type 0) (asked : P → 
   pub events_is : new.events.items ≡ old.events.items ++ lines
   pub ports : (k : ℕ) (a m : Member) (p q : P) → slice_get before k ≡ Some a → slice_get behind k ≡ Some m →
       slice_get from k ≡ Some p → slice_get to k ≡ Some q →
-      IsBrought after asked transmitting sink stays (told_of (length plan.talkers.items + k) lines)
+      IsBrought after asked transmitting sink stays (kinds_of (length plan.talkers.items + k) lines)
       (wants_at (length old.levels.items) a) (item_of m.station.sending) p q
   pub size : length to ≡ length from

@@ -1,11 +1,11 @@
 -- Bits at which no port is needed: nothing is reported of any node, and no controller wants to start.
 use Rattle.std.specs.Prelude.{◌≡◌, ℕ, Bool, true, false, List, [], ◌∷◌, ◌++◌, length}
-use Rattle.can_station.specs.declared.fault_order.FaultOrder.{FaultOrder}
+use Rattle.can_station.specs.declared.current_faults.CurrentFaults.{CurrentFaults}
 use Rattle.can_station.specs.declared.member.Member.{Member}
 use Rattle.can_station.specs.declared.plan.SegmentPlan.{SegmentPlan}
 use Rattle.can_segment.specs.declared.record.Record.{Record}
 use Rattle.can_segment.specs.declared.deferred.Deferred.{Deferred}
-use Rattle.can_station.specs.FaultOrder.{IsFaultless, StandsAt}
+use Rattle.can_station.specs.CurrentFaults.{IsFaultless, IsCurrent}
 use Rattle.can_segment.specs.DeferredState.{IsUneventfulBit}
 use Rattle.can_segment.specs.Segments.{SegmentValue, wants_next}
 
@@ -41,11 +41,11 @@ pub data MakeIdleBits : SegmentValue → SegmentValue → Type 0 where
 
 -- A record grows by the level of a bit at which nothing is reported of any node, and by nothing else. No fault is at
 -- it.
-pub record GrowsUneventfully (faults : FaultOrder) (old new : Record) (deferred after : Deferred)
+pub record GrowsUneventfully (faults : CurrentFaults) (old new : Record) (deferred after : Deferred)
     (t0 t1 c0 c1 : List Member) : Type 0 where
   pub level : Bool
   pub sends : IsUneventfulBit (length old.levels.items) level deferred after t0 t1 c0 c1
-  pub faultless : (plan : SegmentPlan) → StandsAt plan (length old.levels.items) faults →
+  pub faultless : (plan : SegmentPlan) → IsCurrent plan (length old.levels.items) faults →
       IsFaultless plan (length old.levels.items)
   pub levels_is : new.levels.items ≡ old.levels.items ++ level ∷ []
   pub events_is : new.events ≡ old.events

@@ -2,7 +2,7 @@
 
 ghost use Rattle.std.specs.Prelude.{◌≡◌, ◌≤◌, ◌<◌, ◌+◌, ◌&&◌, ℕ, false, Some, length, slice_get};
 ghost use Rattle.std.specs.List.{list_all};
-ghost use Rattle.can_station.specs.FaultOrder.{StandsAt};
+ghost use Rattle.can_station.specs.CurrentFaults.{IsCurrent};
 ghost use Rattle.can_station.specs.Faults.{sampled_level};
 ghost use Rattle.can_station.specs.Actions.{AreUneventful};
 ghost use Rattle.can_station.specs.Members.{NodeSamples, PortSettles, PortStarts, TalkerStarts, drives_at, wants_at};
@@ -17,8 +17,8 @@ use crate::deferred::Deferred;
 use crate::shared_sample::sample_together;
 use crate::step_outcome::StepOutcome;
 use can_station::{
-    FaultOrder, Member, NodeFault, RxSink, SegmentPlan, Talker, driven_by_all, sample_controllers,
-    sample_nodes, start_controllers, start_talkers,
+    CurrentFaults, Member, NodeFault, RxSink, SegmentPlan, Talker, driven_by_all,
+    sample_controllers, sample_nodes, start_controllers, start_talkers,
 };
 
 /// Lets all nodes start, after the deferred nodes that may have something to start were resumed. Returns the AND of the
@@ -33,6 +33,7 @@ fn start_all<R, P: RxSink<R>>(
     bit: u64,
 ) -> bool
     requires talkers { length plan.now ≡ length talkers.old }
+    requires bit { bit < u64.MAX }
     requires ports { length ports.old ≡ length controllers.old }
     requires port { TransmitsAll P.transmitting (materialized deferred.old bit controllers.old) ports.old }
     requires is_deferred { DeferredHolds deferred.old bit plan.now talkers.old controllers.old }
@@ -63,7 +64,7 @@ fn start_all<R, P: RxSink<R>>(
 #[derive(Clone, Copy)]
 pub(crate) struct Sampled {
     /// Something may have been reported of a node.
-    pub(crate) told: bool,
+    pub(crate) reported: bool,
     /// Deferred nodes counted a frame.
     pub(crate) counted: bool,
 }
@@ -95,8 +96,8 @@ fn sample_active<R, P: RxSink<R>>(
         → ActiveAreUneventful bit talkers.new × ActiveAreUneventful bit controllers.new }
 {
     let first = talkers.len() as u32;
-    let talkers_told = sample_nodes(talkers, faults, 0, bit, level, deferred.talkers);
-    let controllers_told = sample_controllers(
+    let talkers_reported = sample_nodes(talkers, faults, 0, bit, level, deferred.talkers);
+    let controllers_reported = sample_controllers(
         rt,
         controllers,
         ports,
@@ -106,7 +107,7 @@ fn sample_active<R, P: RxSink<R>>(
         level,
         deferred.controllers,
     );
-    talkers_told | controllers_told
+    talkers_reported | controllers_reported
 }
 
 /// Lets all nodes sample the line, each with its own faults. The deferred nodes are taken through the bit by the shared
@@ -134,7 +135,7 @@ fn sample_all<R, P: RxSink<R>>(
         (sampled_level faults.now (length talkers.old + k) bit level))
         (materialized deferred.old bit controllers.old) (materialized deferred.new (bit + 1) controllers.new)
         ports.old ports.new }
-    ensures uneventful { result.told ≡ false → AreUneventful bit (materialized deferred.new (bit + 1) talkers.new)
+    ensures uneventful { result.reported ≡ false → AreUneventful bit (materialized deferred.new (bit + 1) talkers.new)
         × AreUneventful bit (materialized deferred.new (bit + 1) controllers.new) }
     ensures is_deferred { DeferredHolds deferred.new (bit + 1) plan.now talkers.new controllers.new }
     ensures left { result.counted ≡ false
@@ -143,7 +144,7 @@ fn sample_all<R, P: RxSink<R>>(
     deferred.resume_faulted(faults, plan, talkers, controllers, bit);
     match deferred.step_deferred(plan, talkers, controllers, bit, level) {
         StepOutcome::Through => {
-            let told = sample_active(
+            let reported = sample_active(
                 rt,
                 faults,
                 talkers,
@@ -154,12 +155,12 @@ fn sample_all<R, P: RxSink<R>>(
                 level,
             );
             Sampled {
-                told,
+                reported,
                 counted: false,
             }
         }
         StepOutcome::Acknowledged => {
-            let told = sample_active(
+            let reported = sample_active(
                 rt,
                 faults,
                 talkers,
@@ -171,12 +172,12 @@ fn sample_all<R, P: RxSink<R>>(
             );
             deferred.count_received(talkers, controllers);
             Sampled {
-                told,
+                reported,
                 counted: true,
             }
         }
         StepOutcome::Shares(shared) => {
-            let told = sample_together(
+            let reported = sample_together(
                 rt,
                 faults,
                 talkers,
@@ -188,7 +189,7 @@ fn sample_all<R, P: RxSink<R>>(
                 &shared,
             );
             Sampled {
-                told,
+                reported,
                 counted: false,
             }
         }
@@ -210,9 +211,10 @@ pub(crate) fn move_nodes<R, P: RxSink<R>>(
     ports: &mut [P],
     deferred: &mut Deferred,
     bit: u64,
-    faults: &FaultOrder,
+    faults: &CurrentFaults,
 ) -> Moved
-    requires stands { StandsAt plan.now bit faults.now }
+    requires faults { IsCurrent plan.now bit faults.now }
+    requires bit { bit < u64.MAX }
     requires talkers { length talkers.old ≡ length plan.now.talkers.items }
     requires ports { length ports.old ≡ length controllers.old }
     requires few { length talkers.old + length controllers.old ≤ 1000 }
@@ -229,7 +231,7 @@ pub(crate) fn move_nodes<R, P: RxSink<R>>(
         → slice_get ports.old k ≡ Some p → slice_get ports.new k ≡ Some q
         → PortMoves P.bus_after P.bus_asked P.transmitting P.sink_after P.port_stays bit (wants_at bit a) m p q }
     ensures size { length ports.new ≡ length ports.old }
-    ensures uneventful { result.sampled.told ≡ false → AreUneventful bit (materialized deferred.new (bit + 1)
+    ensures uneventful { result.sampled.reported ≡ false → AreUneventful bit (materialized deferred.new (bit + 1)
         talkers.new)
         × AreUneventful bit (materialized deferred.new (bit + 1) controllers.new) }
     ensures is_deferred { DeferredHolds deferred.new (bit + 1) plan.now.talkers.items talkers.new controllers.new }
@@ -238,8 +240,8 @@ pub(crate) fn move_nodes<R, P: RxSink<R>>(
 {
     let talkers_plan = plan.talkers.as_slice();
     let driven = start_all(rt, talkers_plan, talkers, controllers, ports, deferred, bit);
-    let level = faults.line_level(bit, driven);
-    let here = faults.inverting(bit);
+    let level = faults.line_level(driven);
+    let here = faults.inverting();
     let sampled = sample_all(
         rt,
         here,

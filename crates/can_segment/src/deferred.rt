@@ -9,7 +9,7 @@
 //! A deferred node keeps two things of its own: its error counters, and what it has to send. The rest of its own state
 //! is stale. It is resumed, that is, the shared receiver is copied into it (`Node::materialize`), before a bit at which
 //!
-//! - it may start (`resume_starters`: each talker with a frame left, and each controller),
+//! - it may start (`resume_starters`: each talker of which a frame is due, and each controller),
 //! - it has a fault of its own (`resume_faulted`),
 //! - the deferred nodes cannot come through the bit together (`step_deferred`, below); where they sample a level
 //!   together, only controllers are resumed, since their ports learn the outcome, or
@@ -18,22 +18,23 @@
 //!
 //! What holds before each bit is `DeferredHolds` (specs/DeferredState.antt). If a node is deferred, then
 //! `any_deferred` is true, the node is switched on, nothing of its last bit is left to report, its error counters are
-//! within `known`, and the shared receiver transmits no frame. If `finished` is true, no deferred talker has a frame
-//! left, and no controller is deferred. `talkers` and `controllers` contain every active node.
+//! within `known`, and the shared receiver transmits no frame. No deferred talker has a frame that is due before the bit
+//! `next_start`, and no controller is deferred unless `next_start` is 0. `talkers` and `controllers` contain every
+//! active node.
 //!
 //! These affect speed only: which nodes are deferred; from which node the shared receiver was taken
-//! (receiver_choice.rt); `any_deferred` true where no node is deferred; `finished` false; a wider `known`; a deferred
+//! (receiver_choice.rt); `any_deferred` true where no node is deferred; a lower `next_start`; a wider `known`; a deferred
 //! node in `talkers` or `controllers`; `Segment::idles`; `asks_at_each_bit`. The opposite errors would change the
 //! simulated bits, and the prover refuses them: a deferred node that does not match, an active node missing in
-//! `talkers` or `controllers`, `finished` true with a frame left, a `known` that is too narrow.
+//! `talkers` or `controllers`, a frame that is due before `next_start`, a `known` that is too narrow.
 //!
 //! The caller chooses among three calls, and each of them among ways to simulate bits:
 //!
 //! - `Segment::idle_bits`, where no request waits for a controller: `Segment::idle_burst`, repeated. It needs an idle
-//!   bus, all nodes deferred, and no talker with a frame left.
+//!   bus, all nodes deferred, and no talker of which a frame is due.
 //! - `Segment::uneventful_bits`, where no port is needed: `transmit_burst`, then one `uneventful_level`, and again,
 //!   until `uneventful_level` refuses. Where the shared receiver wants to start, `transmit_burst` calls `idle_burst`
-//!   of idle_burst.rt. That needs all nodes deferred and `finished`, so it simulates no bit if there is a controller.
+//!   of idle_burst.rt. That needs all nodes deferred, and ends before `next_start`, so it simulates no bit if there is a controller.
 //! - `Segment::bit`, always: `make_bit`. It alone asks ports, reports events and makes room in the record.
 //!
 //! | Way | When | Bits at once | Busy | Idle |
@@ -62,7 +63,7 @@ ghost use Rattle.can_segment.specs.DeferredState.{FollowsThrough, NoneStarts, ma
 use crate::step_outcome::StepOutcome;
 use can_node::{KnownCounts, Node, SharedReceiver, SharedSample};
 use can_station::{
-    Member, NodeFault, PlaceSet, Talker, resume_each, resume_each_faulted, resume_each_unfinished,
+    Member, NodeFault, PlaceSet, Talker, resume_each, resume_each_due, resume_each_faulted,
 };
 
 /// What the deferred nodes have in common. Each node says itself whether it is deferred (`Member::is_deferred`).
@@ -74,8 +75,9 @@ pub(crate) struct Deferred {
     pub(crate) any_deferred: bool,
     /// What is known of the error counters of each deferred node.
     pub(crate) known: KnownCounts,
-    /// No controller is deferred, and no deferred talker has a frame left.
-    pub(crate) finished: bool,
+    /// The number of a bit: before it, no deferred node has anything to start. Each deferred talker's next frame is due
+    /// at it or later, and no controller is deferred, unless it is 0.
+    pub(crate) next_start: u64,
     /// The places of all active talkers, and maybe of some that are deferred.
     pub(crate) talkers: PlaceSet,
     /// The places of all active controllers, and maybe of some that are deferred.
@@ -94,7 +96,7 @@ impl Deferred {
             shared_receiver: Node::new(0).shared_receiver(),
             any_deferred: false,
             known: KnownCounts::Any,
-            finished: false,
+            next_start: 0,
             talkers: PlaceSet::of_active(talkers),
             controllers: PlaceSet::of_active(controllers),
         }
@@ -107,11 +109,11 @@ impl Deferred {
         self.shared_receiver.drive()
     }
 
-    /// Returns whether no deferred node wants to start at the next bit, or none has anything to send.
-    pub(crate) fn starts_none(&self) -> bool
-        ensures { result ≡ true → NoneStarts self.now }
+    /// Returns whether no deferred node wants to start at this bit, the next one, or none has anything to send at it.
+    pub(crate) fn starts_none(&self, bit: u64) -> bool
+        ensures { result ≡ true → NoneStarts self.now bit }
     {
-        if self.finished {
+        if bit < self.next_start {
             return true;
         }
         !self.shared_receiver.wants_start()
@@ -139,19 +141,19 @@ impl Deferred {
         bit: u64,
     )
         requires plan { length plan.now ≡ length talkers.old }
+        requires bit { bit < u64.MAX }
         requires holds { DeferredHolds self.old bit plan.now talkers.old controllers.old }
         ensures talkers { materialized self.new bit talkers.new ≡ materialized self.old bit talkers.old }
         ensures controllers { materialized self.new bit controllers.new ≡ materialized self.old bit controllers.old }
         ensures left { LeavesDeferred talkers.old talkers.new × LeavesDeferred controllers.old controllers.new }
         ensures holds { DeferredHolds self.new bit plan.now talkers.new controllers.new }
-        ensures none { NoneStarts self.new }
+        ensures none { NoneStarts self.new bit }
     {
-        if self.starts_none() {
+        if self.starts_none(bit) {
             return;
         }
-        resume_each_unfinished(talkers, plan, &self.shared_receiver, bit);
+        self.next_start = resume_each_due(talkers, plan, &self.shared_receiver, bit);
         resume_each(controllers, &self.shared_receiver, bit);
-        self.finished = true;
         self.find_active(talkers, controllers);
     }
 

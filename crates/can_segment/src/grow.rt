@@ -1,7 +1,7 @@
 //! One more bit of a segment and its record.
 
 ghost use Rattle.std.specs.Prelude.{◌≡◌, ◌+◌, ◌*◌, ◌<◌, ◌≤◌, length, vec_len, vec_capacity};
-ghost use Rattle.can_station.specs.FaultOrder.{StandsAt};
+ghost use Rattle.can_station.specs.CurrentFaults.{IsCurrent};
 ghost use Rattle.can_station.specs.DeferredNodes.{TransmitsAll};
 ghost use Rattle.can_segment.specs.DeferredState.{DeferredHolds, materialized};
 ghost use Rattle.can_segment.specs.Segments.{SegmentHolds, Grows};
@@ -10,7 +10,7 @@ use crate::counts_shown::show_all;
 use crate::deferred::Deferred;
 use crate::make_bit::make_bit;
 use crate::record::Record;
-use can_station::{FaultOrder, Member, RxSink, SegmentPlan};
+use can_station::{CurrentFaults, Member, RxSink, SegmentPlan};
 
 /// Simulates one bit at which any node may have something to do: each active node is simulated by itself. Before the
 /// next bit nodes may be deferred; with `idles` also controllers that want to start.
@@ -24,10 +24,10 @@ pub(crate) fn grow<R, P: RxSink<R>>(
     controllers: &mut [Member],
     ports: &mut [P],
     deferred: &mut Deferred,
-    faults: &FaultOrder,
+    faults: &CurrentFaults,
     idles: bool,
 )
-    requires stands { StandsAt plan.now (length made.old.levels.items) faults.now }
+    requires faults { IsCurrent plan.now (length made.old.levels.items) faults.now }
     requires holds { SegmentHolds plan.now made.old
         (materialized deferred.old (length made.old.levels.items) talkers.old)
         (materialized deferred.old (length made.old.levels.items) controllers.old) }
@@ -72,7 +72,7 @@ pub(crate) fn grow<R, P: RxSink<R>>(
         talkers,
         controllers,
         made.levels.len() as u64,
-        sampled.told,
+        sampled.reported,
         idles,
     );
 }

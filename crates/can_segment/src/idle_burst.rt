@@ -1,8 +1,8 @@
 //! Bits of an idle bus on which all nodes are deferred, many at once.
 
-ghost use Rattle.std.specs.Prelude.{◌≡◌, ◌≤◌, ◌+◌, ◌++◌, true, Bool, List, length, vec_capacity, vec_len};
+ghost use Rattle.std.specs.Prelude.{◌≡◌, ◌≤◌, ◌<◌, ◌+◌, ◌++◌, true, Bool, List, length, vec_capacity, vec_len};
 ghost use Rattle.can_station.specs.DeferredNodes.{ActiveWithin};
-ghost use Rattle.can_segment.specs.DeferredState.{AreAllFinished, AreIdle, AreRecessive, AreUneventfulBits};
+ghost use Rattle.can_segment.specs.DeferredState.{AreIdle, AreNoneDueBefore, AreRecessive, AreUneventfulBits};
 
 use crate::deferred::Deferred;
 use can_station::{Member, Talker};
@@ -16,9 +16,10 @@ pub(crate) fn recessive<'a>(most: usize) -> &'a [bool]
     &RECESSIVE[..most.min(RECESSIVE.len())]
 }
 
-/// Simulates bits of an idle bus where all nodes are deferred and `finished` is true: up to `most`, and at most 256;
-/// none where that is not so. Appends their levels, for which there is room. On a segment that has a controller it
-/// simulates none, since `finished` says that no controller is deferred: see `Segment::idle_bits`.
+/// Simulates bits of an idle bus where all nodes are deferred, before the bit at which one may have something to start:
+/// up to `most`, and at most 256; none where that is not so. Appends their levels, for which there is room. On a
+/// segment that has a controller it simulates none, since a deferred controller may always have something to start: see
+/// `Segment::idle_bits`.
 pub(crate) fn idle_burst(
     levels: &mut Vec<bool>,
     talkers: &[Member],
@@ -33,43 +34,46 @@ pub(crate) fn idle_burst(
         × AreUneventfulBits (length levels.old.items) sent deferred.now deferred.now talkers.now talkers.now
         controllers.now controllers.now }
 {
-    if !deferred.finished || !deferred.shared_receiver.is_idle() {
+    if !deferred.shared_receiver.is_idle() {
         return;
     }
     if !deferred.talkers.is_empty() || !deferred.controllers.is_empty() {
         return;
     }
-    let _ = levels.extend_from_slice(recessive(most));
+    let until_start = deferred.next_start.saturating_sub(levels.len() as u64) as usize;
+    let _ = levels.extend_from_slice(recessive(most.min(until_start)));
 }
 
-/// Returns whether each of these talkers has completed its frames.
-fn are_finished(plan: &[Talker], talkers: &[Member]) -> bool
+/// Returns a bit before which none of these talkers has a frame that is due; `u64::MAX` where none has a frame left.
+fn next_due(plan: &[Talker], talkers: &[Member]) -> u64
     requires { length plan.now ≡ length talkers.now }
-    ensures { result ≡ true → AreAllFinished plan.now talkers.now }
+    ensures { AreNoneDueBefore result plan.now talkers.now }
 {
+    let mut first = u64::MAX;
     for place in 0..talkers.len() {
-        if !talkers[place].has_sent_all(plan[place].frames.as_slice()) {
-            return false;
-        }
+        first = first.min(talkers[place].next_due(plan[place].queue.as_slice()));
     }
-    true
+    first
 }
 
-/// Returns whether all nodes are deferred on an idle bus and no talker has a frame left: then the bus stays idle as
-/// long as no controller is given a request.
-pub(crate) fn are_idle(
+/// Returns a bit before which the bus stays idle as long as no controller is given a request: all nodes are deferred on
+/// an idle bus, and no talker has a frame that is due before that bit. It is 0 where that is not so.
+pub(crate) fn idle_until(
     plan: &[Talker],
     talkers: &[Member],
     controllers: &[Member],
     deferred: &Deferred,
-) -> bool
+) -> u64
     requires plan { length plan.now ≡ length talkers.now }
     requires talkers_within { ActiveWithin deferred.now.talkers talkers.now }
     requires controllers_within { ActiveWithin deferred.now.controllers controllers.now }
-    ensures { result ≡ true → AreIdle deferred.now plan.now talkers.now controllers.now }
+    ensures { 0 < result → AreIdle deferred.now result plan.now talkers.now controllers.now }
 {
-    deferred.talkers.is_empty()
-        && deferred.controllers.is_empty()
-        && deferred.shared_receiver.is_idle()
-        && are_finished(plan, talkers)
+    if !deferred.talkers.is_empty() || !deferred.controllers.is_empty() {
+        return 0;
+    }
+    if !deferred.shared_receiver.is_idle() {
+        return 0;
+    }
+    next_due(plan, talkers)
 }

@@ -24,5 +24,6 @@ pub use crate::record::Record;
 pub use crate::seg_fault::SegFault;
 pub use crate::segment::Segment;
 pub use can_station::{
-    Controller, Event, Label, LineFault, NodeFault, RxSink, SegmentPlan, Talker, Told,
+    Controller, DueFrame, Event, EventKind, Label, LineFault, NodeFault, RxSink, SegmentPlan,
+    Talker,
 };

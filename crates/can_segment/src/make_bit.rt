@@ -2,7 +2,7 @@
 
 ghost use Rattle.std.specs.Prelude.{◌≡◌, false, ◌+◌, ◌*◌, ◌<◌, ◌≤◌, ◌++◌, ◌∷◌, [], ℕ, Bool, Some};
 ghost use Rattle.std.specs.Prelude.{length, slice_get, vec_len, vec_capacity};
-ghost use Rattle.can_station.specs.FaultOrder.{StandsAt};
+ghost use Rattle.can_station.specs.CurrentFaults.{IsCurrent};
 ghost use Rattle.can_station.specs.DeferredNodes.{LeavesDeferred, TransmitsAll};
 ghost use Rattle.can_segment.specs.DeferredState.{DeferredHolds, materialized};
 ghost use Rattle.can_station.specs.Members.{wants_at};
@@ -13,7 +13,7 @@ ghost use Rattle.can_station.specs.declared.member.Member.{Member};
 
 use crate::all_nodes::{Moved, Sampled, move_nodes};
 use crate::deferred::Deferred;
-use can_station::{Event, FaultOrder, Member, RxSink, SegmentPlan, tell_rests, tell_starts};
+use can_station::{CurrentFaults, Event, Member, RxSink, SegmentPlan, tell_rests, tell_starts};
 
 /// Appends one level, for which there is room.
 pub(crate) fn keep(levels: &mut Vec<bool>, level: bool)
@@ -23,15 +23,21 @@ pub(crate) fn keep(levels: &mut Vec<bool>, level: bool)
     let _ = levels.push(level);
 }
 
-/// Appends the events of a bit: what starts, then the rest, each in the order of nodes. With `told` false, as at most
+/// Appends the events of a bit: what starts, then the rest, each in the order of nodes. With `reported` false, as at most
 /// bits, nothing is reported.
-fn tell(events: &mut Vec<Event>, bit: u64, talkers: &[Member], controllers: &[Member], told: bool)
-    requires uneventful { told ≡ false → bit_lines bit talkers.now controllers.now ≡ [] }
+fn tell(
+    events: &mut Vec<Event>,
+    bit: u64,
+    talkers: &[Member],
+    controllers: &[Member],
+    reported: bool,
+)
+    requires uneventful { reported ≡ false → bit_lines bit talkers.now controllers.now ≡ [] }
     requires few { length talkers.now + length controllers.now ≤ 1000 }
     requires room { vec_len events.old + 3 * (length talkers.now + length controllers.now) ≤ vec_capacity events.old }
     ensures { events.new.items ≡ events.old.items ++ bit_lines bit talkers.now controllers.now }
 {
-    if !told {
+    if !reported {
         return;
     }
     let first = talkers.len() as u32;
@@ -51,9 +57,9 @@ pub(crate) fn make_bit<R, P: RxSink<R>>(
     deferred: &mut Deferred,
     levels: &mut Vec<bool>,
     events: &mut Vec<Event>,
-    faults: &FaultOrder,
+    faults: &CurrentFaults,
 ) -> Sampled
-    requires stands { StandsAt plan.now (length levels.old.items) faults.now }
+    requires faults { IsCurrent plan.now (length levels.old.items) faults.now }
     requires kept { SegmentKept plan.now levels.old.items events.old.items
         (materialized deferred.old (length levels.old.items) talkers.old)
         (materialized deferred.old (length levels.old.items) controllers.old) }
@@ -97,7 +103,7 @@ pub(crate) fn make_bit<R, P: RxSink<R>>(
         bit,
         faults,
     );
-    tell(events, bit, talkers, controllers, sampled.told);
+    tell(events, bit, talkers, controllers, sampled.reported);
     keep(levels, level);
     sampled
 }

@@ -1,8 +1,8 @@
 //! Deferring nodes: before which bit which nodes are deferred.
 
-ghost use Rattle.std.specs.Prelude.{◌≡◌, true, length};
+ghost use Rattle.std.specs.Prelude.{◌≡◌, ◌<◌, true, length};
 ghost use Rattle.can_station.specs.DeferredNodes.{ActiveWithin, MayDefer, NoneDeferred};
-ghost use Rattle.can_segment.specs.DeferredState.{AreDeferred, AreFinished, ChoosesReceiver, Regroups, IsLess, Defers};
+ghost use Rattle.can_segment.specs.DeferredState.{AreDeferred, AreNotDue, ChoosesReceiver, Regroups, IsLess, Defers};
 ghost use Rattle.can_segment.specs.DeferredState.{DeferredHolds};
 ghost use Rattle.can_segment.specs.DeferredState.{materialized};
 ghost use Rattle.can_station.specs.Places.{AtPlaces};
@@ -15,7 +15,7 @@ use can_station::{Member, Talker, clear_actions};
 
 impl Deferred {
     /// Defers the active nodes that match the shared receiver before this bit, and clears what the others did at the
-    /// bit before, if `told` says that something may have been reported of them. With `idles` it also defers
+    /// bit before, if `reported` says that something may have been reported of them. With `idles` it also defers
     /// controllers that want to start: the caller knows that no request waits for them. Materialized nodes stay alike:
     /// only what they did is cleared.
     pub(crate) fn regroup(
@@ -24,15 +24,15 @@ impl Deferred {
         talkers: &mut [Member],
         controllers: &mut [Member],
         bit: u64,
-        told: bool,
+        reported: bool,
         idles: bool,
     )
         requires plan { length plan.now ≡ length talkers.old }
         requires holds { DeferredHolds self.old bit plan.now talkers.old controllers.old }
         ensures { Regroups bit plan.now self.old self.new talkers.old talkers.new controllers.old controllers.new }
     {
-        clear_actions(talkers, told, self.talkers);
-        clear_actions(controllers, told, self.controllers);
+        clear_actions(talkers, reported, self.talkers);
+        clear_actions(controllers, reported, self.controllers);
         if !idles && asks_at_each_bit(controllers.first()) {
             return;
         }
@@ -93,22 +93,23 @@ impl Deferred {
         member.station.node.copy_to(&mut self.shared_receiver);
         self.any_deferred = true;
         self.known = KnownCounts::Zero;
-        self.finished = true;
+        self.next_start = u64::MAX;
     }
 
     /// Defers this node before this bit if it listens and matches the shared receiver, and would not be resumed at
-    /// once: it has sent all (`finished`), or nothing is given to it (`idles`), or it may not start at this bit.
+    /// once: its next frame is due at a later bit than this one (`next_due`), or nothing is given to it (`idles`), or it
+    /// may not start at this bit.
     /// Returns whether it listens and stays active.
     // so that the loops over nodes make no call
     #[inline(always)]
     fn defer_matching_node(
         &mut self,
         member: &mut Member,
-        finished: bool,
+        next_due: u64,
         idles: bool,
         bit: u64,
     ) -> bool
-        ensures { Defers bit finished self.old self.new member.old member.new }
+        ensures { Defers bit next_due self.old self.new member.old member.new }
     {
         if !member.listens_at(bit) {
             return false;
@@ -117,11 +118,11 @@ impl Deferred {
             return true;
         }
         // it would be resumed at once
-        if !finished && !idles && self.shared_receiver.wants_start() {
+        if next_due <= bit && !idles && self.shared_receiver.wants_start() {
             return true;
         }
         self.known = self.known.and(member.known_counts());
-        self.finished &= finished;
+        self.next_start = self.next_start.min(next_due);
         member.defer();
         false
     }
@@ -131,18 +132,18 @@ impl Deferred {
         requires plan { length plan.now ≡ length members.old }
         requires within { ActiveWithin self.old.talkers members.old }
         requires is_deferred { AreDeferred self.old bit members.old }
-        requires finished { AreFinished self.old plan.now members.old }
+        requires not_due { AreNotDue self.old plan.now members.old }
         ensures less { IsLess self.old self.new }
         ensures defer_some { AtPlaces (λ k. MayDefer self.old.shared_receiver bit) members.old members.new }
         ensures is_deferred { AreDeferred self.new bit members.new }
-        ensures finished { AreFinished self.new plan.now members.new }
+        ensures not_due { AreNotDue self.new plan.now members.new }
         ensures active { ActiveWithin result.places members.new }
     {
         let mut active = ActiveNodes::none(members.len());
         let mut left = self.talkers;
         while let Some(place) = left.take_first() {
-            let finished = members[place].has_sent_all(plan[place].frames.as_slice());
-            let listens = self.defer_matching_node(&mut members[place], finished, false, bit);
+            let next_due = members[place].next_due(plan[place].queue.as_slice());
+            let listens = self.defer_matching_node(&mut members[place], next_due, false, bit);
             active.count(&members[place], place, listens);
         }
         active
@@ -153,17 +154,17 @@ impl Deferred {
     fn defer_controllers(&mut self, members: &mut [Member], bit: u64, idles: bool) -> ActiveNodes
         requires within { ActiveWithin self.old.controllers members.old }
         requires is_deferred { AreDeferred self.old bit members.old }
-        requires finished { self.old.finished ≡ true → NoneDeferred members.old }
+        requires none { 0 < self.old.next_start → NoneDeferred members.old }
         ensures less { IsLess self.old self.new }
         ensures defer_some { AtPlaces (λ k. MayDefer self.old.shared_receiver bit) members.old members.new }
         ensures is_deferred { AreDeferred self.new bit members.new }
-        ensures finished { self.new.finished ≡ true → NoneDeferred members.new }
+        ensures none { 0 < self.new.next_start → NoneDeferred members.new }
         ensures active { ActiveWithin result.places members.new }
     {
         let mut active = ActiveNodes::none(members.len());
         let mut left = self.controllers;
         while let Some(place) = left.take_first() {
-            let listens = self.defer_matching_node(&mut members[place], false, idles, bit);
+            let listens = self.defer_matching_node(&mut members[place], 0, idles, bit);
             active.count(&members[place], place, listens);
         }
         active

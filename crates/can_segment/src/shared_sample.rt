@@ -98,11 +98,11 @@ pub(crate) fn sample_together<R, P: RxSink<R>>(
     ensures fit { (length talkers.new ≤ 64) × (length controllers.new ≤ 64) }
 {
     let first = talkers.len() as u32;
-    let active_told = sample_nodes(talkers, faults, 0, bit, level, deferred.talkers);
-    let deferred_told = share_all(talkers, shared, bit, level);
+    let active_reported = sample_nodes(talkers, faults, 0, bit, level, deferred.talkers);
+    let deferred_reported = share_all(talkers, shared, bit, level);
     resume_each(controllers, &deferred.shared_receiver, bit);
     let all = PlaceSet::of_active(controllers);
-    let controllers_told = sample_controllers(
+    let controllers_reported = sample_controllers(
         rt,
         controllers,
         ports,
@@ -113,5 +113,5 @@ pub(crate) fn sample_together<R, P: RxSink<R>>(
         all,
     );
     deferred.end(talkers, controllers);
-    active_told | deferred_told | controllers_told
+    active_reported | deferred_reported | controllers_reported
 }

@@ -5,7 +5,7 @@
 
 ghost use Rattle.std.specs.Prelude.{◌≡◌, ◌<◌, ◌-◌, true, false, length, IfSome, IfNone};
 ghost use Rattle.std.specs.Prelude.{vec_capacity, vec_len};
-ghost use Rattle.can_station.specs.FaultOrder.{IsFaultless, StandsAt};
+ghost use Rattle.can_station.specs.CurrentFaults.{IsFaultless, IsCurrent};
 ghost use Rattle.can_station.specs.declared.plan.SegmentPlan.{SegmentPlan};
 ghost use Rattle.can_segment.specs.UneventfulBits.{GrowsUneventfully};
 ghost use Rattle.can_segment.specs.DeferredState.{IsUneventfulBit};
@@ -15,7 +15,7 @@ use crate::active::asks_at_each_bit;
 use crate::deferred::Deferred;
 use crate::make_bit::keep;
 use crate::record::Record;
-use can_station::{FaultOrder, Member, all_go_on, driven_by_all, go_on};
+use can_station::{CurrentFaults, Member, all_go_on, driven_by_all, go_on};
 
 /// Simulates one bit at which no fault stands and no node starts, if all nodes continue with the AND of what they
 /// drive: the deferred ones through the shared receiver, the active ones each by itself. We check that every node can
@@ -27,23 +27,27 @@ fn uneventful_level(
     controllers: &mut [Member],
     deferred: &mut Deferred,
     bit: u64,
-    faults: &FaultOrder,
+    faults: &CurrentFaults,
 ) -> Option<bool>
+    requires bit { bit < u64.MAX }
     requires talkers_within { ActiveWithin deferred.old.talkers talkers.old }
     requires controllers_within { ActiveWithin deferred.old.controllers controllers.old }
     requires talker_room { HasRoom u64.MAX bit talkers.old }
     requires room { HasRoom u64.MAX bit controllers.old }
     ensures uneventful { IfSome result (λ level. IsUneventfulBit bit level deferred.old deferred.new
         talkers.old talkers.new controllers.old controllers.new) }
-    ensures faultless { IfSome result (λ level. (plan : SegmentPlan) → StandsAt plan bit faults.now
+    ensures faultless { IfSome result (λ level. (plan : SegmentPlan) → IsCurrent plan bit faults.now
         → IsFaultless plan bit) }
     ensures none { IfNone result ((deferred.new ≡ deferred.old) × (talkers.new ≡ talkers.old)
         × (controllers.new ≡ controllers.old)) }
 {
-    if asks_at_each_bit(controllers.first()) || !deferred.any_deferred || !deferred.starts_none() {
+    if asks_at_each_bit(controllers.first())
+        || !deferred.any_deferred
+        || !deferred.starts_none(bit)
+    {
         return None;
     }
-    if !faults.none_at(bit) {
+    if !faults.are_none() {
         return None;
     }
     let active = deferred.talkers;
@@ -76,8 +80,9 @@ pub(crate) fn grow_uneventfully(
     talkers: &mut [Member],
     controllers: &mut [Member],
     deferred: &mut Deferred,
-    faults: &FaultOrder,
+    faults: &CurrentFaults,
 ) -> bool
+    requires bit { length made.old.levels.items < u64.MAX }
     requires talkers_within { ActiveWithin deferred.old.talkers talkers.old }
     requires controllers_within { ActiveWithin deferred.old.controllers controllers.old }
     requires talker_room { HasRoom u64.MAX (length made.old.levels.items) talkers.old }

@@ -66,7 +66,7 @@ by_taken is_sender bit n levels member h = record {
   goes = may_taken is_sender n levels member.station.node h.goes;
 }
 
--- so does one that is awake, but the one at this place
+-- so does one that is active, but the one at this place
 abbrev pub StaysBeside : ℕ → ℕ → List Bool → ℕ → Member → Type 0
 StaysBeside but bit levels k m = k ≢ but → m.is_deferred ≡ false → MayGoBy false bit levels m
 

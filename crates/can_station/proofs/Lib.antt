@@ -2,7 +2,9 @@ pub mod Places
 pub mod Tellings
 pub mod Events
 pub mod Settles
-pub mod FaultsInOrder
+pub mod FaultRanges
 pub mod Resuming
 pub mod PlaceSets
 pub mod GoingBy
+pub mod Earliest
+pub mod OutsideWindows

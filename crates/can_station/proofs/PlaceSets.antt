@@ -1,5 +1,5 @@
--- Sets of places, and loops over those at which nodes may be awake.
-use Rattle.std.proofs.Common.{◌≡◌, ℕ, zero, suc, ◌*◌, ◌%◌, ◌^◌, ◌<◌, ◌≤◌, ◌&&◌, inl, inr, Bool, true, false}
+-- Sets of places, and loops over those at which nodes may be active.
+use Rattle.std.proofs.Common.{◌≡◌, ℕ, zero, suc, ◌*◌, ◌%◌, ◌^◌, ◌<◌, ◌&&◌, inl, inr, Bool, true, false}
 use Rattle.std.proofs.Common.{List, [], ◌∷◌, Some, length, set, slice_get, refl, sym, ap, subst, arith, w64, ◌∙◌}
 use Rattle.std.proofs.Common.{bit_and, bit_or}
 use Rattle.std.specs.Int.{bit_at, bit_not, trailing_zeros}
@@ -80,13 +80,13 @@ fewer set place room has = elim (cases_eq (bit_and set.bits mask) set.bits) [
     mask : ℕ
     mask = bit_not w64 (1 * 2 ^ place % 2 ^ 64)
 
--- those of the first of these that are awake have the places of the set
+-- those of the first of these that are active have the places of the set
 pub record ActiveBelow (set : PlaceSet) (members : List Member) (i : ℕ) : Type 0 where
   pub within : (k : ℕ) → HasPlace set k → k < i
   pub has : (k : ℕ) (m : Member) → k < i → slice_get members k ≡ Some m → m.is_deferred ≡ false → HasPlace set k
   pub active : (k : ℕ) (m : Member) → HasPlace set k → slice_get members k ≡ Some m → m.is_deferred ≡ false
 
--- one whose place isn't in the set rests
+-- one whose place isn't in the set is deferred
 pub deferred_outside : (set : PlaceSet) (members : List Member) (k : ℕ) (m : Member) → ActiveWithin set members →
     slice_get members k ≡ Some m → (HasPlace set k → ⊥) → m.is_deferred ≡ true
 deferred_outside set members k m h e out = by m.is_deferred refl
@@ -95,7 +95,7 @@ deferred_outside set members k m h e out = by m.is_deferred refl
     by true is = is
     by false is = absurd (out (h.has k m e is))
 
--- one that rests makes no step
+-- a deferred node makes no step
 deferred_step : (Step : Member → Member → Type 0) (old new : Member) → new ≡ old → old.is_deferred ≡ true → IfActive
     Step old new
 deferred_step Step old new same is =
@@ -109,7 +109,7 @@ deferred_both Step old new from to same same_port is = record {
   steps = λ e. absurd (cc (e, is));
 }
 
--- before a loop over the places at which nodes may be awake those elsewhere have made none
+-- before a loop over the places at which nodes may be active those elsewhere have made none
 pub but_start : (Step : ℕ → Member → Member → Type 0) (xs : List Member) (set : PlaceSet) → ActiveWithin set xs →
     AtPlacesBut (λ k. IfActive (Step k)) xs xs set
 but_start Step xs set h = record {
@@ -131,7 +131,7 @@ both_start Step xs ps set h = record {
   size_too = refl;
 }
 
--- no other node is awake behind such steps
+-- no other node is active behind such steps
 pub within_places : (Step : ℕ → Member → Member → Type 0) (set : PlaceSet) (old new : List Member) →
     AtPlaces (λ k. IfActive (Step k)) old new → ActiveWithin set old → ActiveWithin set new
 within_places Step set old new h w = record {

@@ -76,7 +76,7 @@ uneventful_settled bit mid new t uneventful on =
     let calm = uneventful (omega (arith, on, t.on_is)) in
     subst (λ m. IsUneventful m.action) (sym (t.uneventful calm.no_end)) calm
 
--- the same of one that is awake, and of one that rests
+-- the same of one that is active, and of a deferred node
 was_active : (Step : Member → Member → Type 0) (old new : Member) → IfActive Step old new → new.is_deferred ≡ false →
     old.is_deferred ≡ false
 was_active Step old new s active = by old.is_deferred refl

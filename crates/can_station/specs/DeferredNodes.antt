@@ -21,6 +21,7 @@ use Rattle.can_station.specs.Members.{Samples, drives_at}
 use Rattle.can_station.specs.Places.{AtPlaces}
 use Rattle.can_station.specs.PlaceSets.{HasPlace}
 use Rattle.can_station.specs.Ports.{item_of}
+use Rattle.can_station.specs.Queues.{IsNotDueBefore}
 
 -- the node with the state of its shared receiver copied into it before this bit
 abbrev pub materialized_member : SharedReceiver → ℕ → Member → Member
@@ -102,12 +103,13 @@ pub record ActiveWithin (set : PlaceSet) (members : List Member) : Type 0 where
 abbrev pub MayResume : SharedReceiver → ℕ → Member → Member → Type 0
 MayResume shared_receiver bit old new = (new ≡ old) ⊎ (new ≡ resumed shared_receiver bit old)
 
--- the node may have been resumed; where it stays deferred, it is a talker with no frame left
-pub record ResumesUnfinished (shared_receiver : SharedReceiver) (bit : ℕ) (talkers : List Talker) (k : ℕ)
+-- the node may have been resumed before this bit; where it stays deferred, it is a talker with no frame due before
+-- `limit`
+pub record ResumesDue (shared_receiver : SharedReceiver) (bit limit : ℕ) (talkers : List Talker) (k : ℕ)
     (old new : Member) : Type 0 where
   pub resumes : MayResume shared_receiver bit old new
-  pub finished : new.is_deferred ≡ true → (talker : Talker) → slice_get talkers k ≡ Some talker →
-      slice_get talker.frames.items new.station.completed ≡ None
+  pub not_due : new.is_deferred ≡ true → (talker : Talker) → slice_get talkers k ≡ Some talker →
+      IsNotDueBefore talker.queue.items new.station.completed limit
 
 -- the node may have been resumed; where it stays deferred, it has no fault of its own at this bit
 pub record ResumesFaulted (shared_receiver : SharedReceiver) (bit : ℕ) (faults : List NodeFault) (first k : ℕ)
@@ -147,7 +149,7 @@ cleared member = record {
 
 -- what the node did is cleared where something was reported
 abbrev pub ClearsAction : Bool → Member → Member → Type 0
-ClearsAction told old new = new ≡ (if told then cleared old else old)
+ClearsAction reported old new = new ≡ (if reported then cleared old else old)
 
 -- the node is as it was, or was deferred
 abbrev pub MayDefer : SharedReceiver → ℕ → Member → Member → Type 0

@@ -1,9 +1,10 @@
 pub mod Faults
 pub mod Outcomes
-pub mod ToldParts
+pub mod EventKinds
 pub mod EventValues
 pub mod EventParts
 pub mod Lines
+pub mod Queues
 pub mod Stations
 pub mod Ports
 pub mod Actions
@@ -12,6 +13,7 @@ pub mod PlaceSets
 pub mod Places
 pub mod Tellings
 pub mod Fresh
-pub mod FaultOrder
+pub mod FaultWindows
+pub mod CurrentFaults
 pub mod DeferredNodes
 pub mod ManyBits

@@ -1,37 +1,37 @@
--- The lines of a record: what is told of a node at a bit.
+-- The lines of a record: what is reported of a node at a bit.
 use Rattle.std.specs.Prelude.{ℕ, Option, Some, None, List, [], ◌∷◌}
 use Rattle.can_node.specs.declared.outcome.Outcome.{Outcome}
 use Rattle.can_node.specs.declared.outcome.Outcome.TheVariants.{Nothing, Took, Completed}
 use Rattle.can_node.specs.declared.outcome.Outcome.TheVariants.{Lost, Errored, WentOff, CameBack}
 use Rattle.can_station.specs.declared.event.Event.{Event}
 use Rattle.can_station.specs.declared.event.Label.{Label}
-use Rattle.can_station.specs.declared.event.Told.{Told}
+use Rattle.can_station.specs.declared.event.EventKind.{EventKind}
 use Rattle.can_station.specs.declared.transmission.Transmission.{Transmission}
-use Rattle.can_station.specs.declared.event.Told.TheVariants as told
+use Rattle.can_station.specs.declared.event.EventKind.TheVariants as kinds
 
--- what is told of the beginning of a frame
-abbrev pub told_start : Option Transmission → List Told
-told_start None = []
-told_start (Some sent) = told.Started sent.frame sent.label ∷ []
+-- what is reported of the beginning of a frame
+abbrev pub start_kinds : Option Transmission → List EventKind
+start_kinds None = []
+start_kinds (Some sent) = kinds.Started sent.frame sent.label ∷ []
 
--- what is told of an outcome of a node that sends this, or nothing
-abbrev pub told_outcome : Option Transmission → Outcome → List Told
-told_outcome sending Nothing = []
-told_outcome sending (Took start frame) = told.Took start frame ∷ []
-told_outcome None Completed = []
-told_outcome (Some sent) Completed = told.Completed sent.start sent.frame sent.label ∷ []
-told_outcome None Lost = []
-told_outcome (Some sent) Lost = told.Lost sent.start ∷ []
-told_outcome sending (Errored kind) = told.Error kind ∷ []
-told_outcome sending WentOff = told.Off ∷ []
-told_outcome sending CameBack = told.Back ∷ []
+-- what is reported of an outcome of a node that sends this, or nothing
+abbrev pub outcome_kinds : Option Transmission → Outcome → List EventKind
+outcome_kinds sending Nothing = []
+outcome_kinds sending (Took start frame) = kinds.Took start frame ∷ []
+outcome_kinds None Completed = []
+outcome_kinds (Some sent) Completed = kinds.Completed sent.start sent.frame sent.label ∷ []
+outcome_kinds None Lost = []
+outcome_kinds (Some sent) Lost = kinds.Lost sent.start ∷ []
+outcome_kinds sending (Errored kind) = kinds.Error kind ∷ []
+outcome_kinds sending WentOff = kinds.Off ∷ []
+outcome_kinds sending CameBack = kinds.Back ∷ []
 
 -- and of a request that ended by its failure
-abbrev pub told_reaped : Option Label → List Told
-told_reaped None = []
-told_reaped (Some label) = told.Reaped label ∷ []
+abbrev pub reaped_kinds : Option Label → List EventKind
+reaped_kinds None = []
+reaped_kinds (Some label) = kinds.Reaped label ∷ []
 
 -- a node's lines at a bit
-abbrev pub lines : ℕ → ℕ → List Told → List Event
+abbrev pub lines : ℕ → ℕ → List EventKind → List Event
 lines bit node [] = []
-lines bit node (one ∷ more) = record { bit = bit; node = node; told = one } ∷ lines bit node more
+lines bit node (one ∷ more) = record { bit = bit; node = node; kind = one } ∷ lines bit node more

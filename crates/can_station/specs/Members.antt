@@ -7,13 +7,15 @@ use Rattle.can_confinement.specs.declared.counters.Counters.{Counters}
 use Rattle.can_node.specs.Node.{counters_in, StandsAfter, IsSample, bit_of, driven_by, may_begin}
 use Rattle.can_node.specs.declared.outcome.Outcome.TheVariants.{Nothing}
 use Rattle.bx_core.specs.TxBus.{Item, BusPast, BusCall}
-use Rattle.can_station.specs.declared.member.Action.{Action}
+use Rattle.can_station.specs.declared.action.Action.{Action}
 use Rattle.can_station.specs.declared.member.Member.{Member}
 use Rattle.can_station.specs.declared.plan.NodeFault.{NodeFault}
 use Rattle.can_station.specs.declared.transmission.Transmission.{Transmission}
 use Rattle.can_station.specs.declared.plan.Talker.{Talker}
 use Rattle.can_station.specs.Faults.{sampled_level}
 use Rattle.can_station.specs.Ports.{item_of, Undone, Asks, started, started_item, settled, taken_by, Reaps}
+use Rattle.can_station.specs.declared.due_frame.DueFrame.{DueFrame}
+use Rattle.can_station.specs.Queues.{due_at}
 use Rattle.can_station.specs.Stations.{IsTalk, IsRequest}
 use Rattle.can_station.specs.Actions.{Names}
 use Rattle.can_station.specs.Outcomes.{sending_after, completed_by}
@@ -27,10 +29,11 @@ abbrev pub wants_at : ℕ → Member → Bool
 wants_at bit member = is_on bit member && may_begin member.station.node
 
 -- a talker at the start of a bit
-pub record StartsTalking (bit : ℕ) (old new : Member) (frames : List FrameValue) : Type 0 where
+pub record StartsTalking (bit : ℕ) (old new : Member) (queue : List DueFrame) : Type 0 where
   pub off : bit < old.on → new ≡ old
   pub on_is : new.on ≡ old.on
-  pub talks : old.on ≤ bit → IsTalk old.station new.station frames new.action.began
+  pub talks : old.on ≤ bit →
+      IsTalk old.station new.station (due_at queue old.station.completed bit) new.action.began
 
 -- a controller at the start of a bit
 pub record StartsRequest (bit : ℕ) (old new : Member) : Type 0 where
@@ -102,7 +105,7 @@ NodeSamples first bit level faults k old new = Samples bit (sampled_level faults
 -- what each talker does at the start of a bit
 abbrev pub TalkerStarts : ℕ → List Talker → ℕ → Member → Member → Type 0
 TalkerStarts bit talkers k old new = (talker : Talker) → slice_get talkers k ≡ Some talker →
-    StartsTalking bit old new talker.frames.items
+    StartsTalking bit old new talker.queue.items
 
 -- each talker samples what its faults make of the level of the line
 abbrev pub TalkerSamples : ℕ → Bool → List NodeFault → ℕ → Member → Member → Type 0

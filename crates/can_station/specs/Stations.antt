@@ -1,5 +1,5 @@
 -- What a station does at a bit. Private clauses cite it.
-use Rattle.std.specs.Prelude.{◌≡◌, ℕ, ◌&&◌, Bool, true, false, Option, Some, None, is_some, List, slice_get}
+use Rattle.std.specs.Prelude.{◌≡◌, ℕ, ◌&&◌, Bool, true, false, Option, Some, None, is_some}
 use Rattle.can_frame.specs.Frames.{FrameValue}
 use Rattle.can_node.specs.Histories.{Past}
 use Rattle.can_node.specs.Node.{StandsAfter, IsSending, IsWanting, bit_of, with_begin}
@@ -15,14 +15,13 @@ pub record IsStart (old new : Station) (frame : FrameValue) (label : Option Labe
   pub stands : (past : Past) → StandsAfter old.node past → StandsAfter new.node (with_begin past frame)
   pub sends : (past : Past) → StandsAfter old.node past → IsSending (with_begin past frame) (Some start)
 
--- A talker takes its next message or not, whatever past its node stands after: it begins just where it wants to
--- start and has a frame left.
-pub record IsTalk (old new : Station) (frames : List FrameValue) (began : Bool) : Type 0 where
-  pub begins : began ≡ true → (frame : FrameValue) × (slice_get frames old.completed ≡ Some frame)
-      × IsStart old new frame None
+-- A talker begins its next frame or not, whatever past its node stands after: it begins exactly where it wants to start
+-- and has this next frame.
+pub record IsTalk (old new : Station) (next : Option FrameValue) (began : Bool) : Type 0 where
+  pub begins : began ≡ true → (frame : FrameValue) × (next ≡ Some frame) × IsStart old new frame None
   pub stays : began ≡ false → new ≡ old
   pub wants : (past : Past) → StandsAfter old.node past → (wanting : Bool) × IsWanting past wanting
-      × (began ≡ (wanting && is_some (slice_get frames old.completed)))
+      × (began ≡ (wanting && is_some next))
 
 -- A controller takes its next request or not: it begins only where it wants to start.
 pub record IsRequest (old new : Station) (began : Bool) : Type 0 where

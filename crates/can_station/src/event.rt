@@ -1,9 +1,9 @@
 //! The events of a record: what happened at a node at a bit.
 
 ghost use Rattle.std.specs.Prelude.{◌≡◌, ◌≢◌, true, false};
-ghost use Rattle.can_station.specs.ToldParts.{parts_in};
+ghost use Rattle.can_station.specs.EventKinds.{parts_in};
 
-use crate::kind::Kind;
+use crate::tag::Tag;
 use can_frame::Frame;
 use can_node::ErrorKind;
 use std::marker::Model;
@@ -21,7 +21,7 @@ pub struct Label {
 /// What happened at a node. A start is the number of the SOF bit, also where another node drove it. The label is that
 /// of a controller's request; a talker's frames have none.
 #[derive(Clone, Copy, Debug, PartialEq, Eq)]
-pub enum Told {
+pub enum EventKind {
     /// The bit is the first that the node drives of this frame.
     Started {
         /// The frame.
@@ -72,7 +72,7 @@ pub struct Event {
     number: u32,
     node: u16,
     route: u8,
-    kind: Kind,
+    tag: Tag,
 }
 
 const _: () = prove!(size_of::<Event>() == 40);
@@ -97,10 +97,10 @@ impl Event {
     /// Returns the event that this happened at the node with this index in the order of nodes, at the bit of this
     /// number.
     #[inline(always)]
-    pub fn new(bit: u64, node: u16, told: Told) -> Event
-        ensures { result ≡ record { bit = bit; node = node; told = told } }
+    pub fn new(bit: u64, node: u16, kind: EventKind) -> Event
+        ensures { result ≡ record { bit = bit; node = node; kind = kind } }
     {
-        let (kind, start, frame, label) = parts_of(&told);
+        let (tag, start, frame, label) = parts_of(&kind);
         Event {
             bit,
             start,
@@ -108,7 +108,7 @@ impl Event {
             number: label.number,
             node,
             route: label.route,
-            kind,
+            tag,
         }
     }
 
@@ -131,11 +131,11 @@ impl Event {
     /// Returns whether the same happened as in another event, whatever the nodes and bits of both are.
     #[inline(always)]
     pub fn tells_as(&self, other: &Event) -> bool
-        ensures same { result ≡ true → self.now.told ≡ other.now.told }
-        ensures another { result ≡ false → self.now.told ≢ other.now.told }
+        ensures same { result ≡ true → self.now.kind ≡ other.now.kind }
+        ensures another { result ≡ false → self.now.kind ≢ other.now.kind }
     {
         // part by part: neither is put together for it
-        self.kind == other.kind
+        self.tag == other.tag
             && self.start == other.start
             && self.frame.is_same(&other.frame)
             && self.number == other.number
@@ -144,8 +144,8 @@ impl Event {
 
     /// Returns what happened.
     #[inline(always)]
-    pub fn told(&self) -> Told
-        ensures { result ≡ self.now.told }
+    pub fn kind(&self) -> EventKind
+        ensures { result ≡ self.now.kind }
     {
         let start = self.start;
         let frame = self.frame;
@@ -153,32 +153,32 @@ impl Event {
             route: self.route,
             number: self.number,
         };
-        match self.kind {
-            Kind::Started => Told::Started { frame, label: None },
-            Kind::StartedRequest => Told::Started {
+        match self.tag {
+            Tag::Started => EventKind::Started { frame, label: None },
+            Tag::StartedRequest => EventKind::Started {
                 frame,
                 label: Some(label),
             },
-            Kind::Took => Told::Took { start, frame },
-            Kind::Completed => Told::Completed {
+            Tag::Took => EventKind::Took { start, frame },
+            Tag::Completed => EventKind::Completed {
                 start,
                 frame,
                 label: None,
             },
-            Kind::CompletedRequest => Told::Completed {
+            Tag::CompletedRequest => EventKind::Completed {
                 start,
                 frame,
                 label: Some(label),
             },
-            Kind::Lost => Told::Lost { start },
-            Kind::BitError => Told::Error(ErrorKind::Bit),
-            Kind::StuffError => Told::Error(ErrorKind::Stuff),
-            Kind::FormError => Told::Error(ErrorKind::Form),
-            Kind::AckError => Told::Error(ErrorKind::Ack),
-            Kind::CrcError => Told::Error(ErrorKind::Crc),
-            Kind::Off => Told::Off,
-            Kind::Back => Told::Back,
-            Kind::Reaped => Told::Reaped(label),
+            Tag::Lost => EventKind::Lost { start },
+            Tag::BitError => EventKind::Error(ErrorKind::Bit),
+            Tag::StuffError => EventKind::Error(ErrorKind::Stuff),
+            Tag::FormError => EventKind::Error(ErrorKind::Form),
+            Tag::AckError => EventKind::Error(ErrorKind::Ack),
+            Tag::CrcError => EventKind::Error(ErrorKind::Crc),
+            Tag::Off => EventKind::Off,
+            Tag::Back => EventKind::Back,
+            Tag::Reaped => EventKind::Reaped(label),
         }
     }
 }
@@ -189,32 +189,32 @@ const NO_LABEL: Label = Label {
     number: 0,
 };
 
-/// Returns which kind of event this is, its start, its frame and its request.
+/// Returns the tag of this kind of event, its start, its frame and its request.
 #[inline(always)]
-fn parts_of(told: &Told) -> (Kind, u64, Frame, Label)
-    ensures { result ≡ parts_in told.now }
+fn parts_of(kind: &EventKind) -> (Tag, u64, Frame, Label)
+    ensures { result ≡ parts_in kind.now }
 {
-    match told {
-        Told::Started { frame, label: None } => (Kind::Started, 0, *frame, NO_LABEL),
-        Told::Started {
+    match kind {
+        EventKind::Started { frame, label: None } => (Tag::Started, 0, *frame, NO_LABEL),
+        EventKind::Started {
             frame,
             label: Some(label),
-        } => (Kind::StartedRequest, 0, *frame, *label),
-        Told::Took { start, frame } => (Kind::Took, *start, *frame, NO_LABEL),
-        Told::Completed {
+        } => (Tag::StartedRequest, 0, *frame, *label),
+        EventKind::Took { start, frame } => (Tag::Took, *start, *frame, NO_LABEL),
+        EventKind::Completed {
             start,
             frame,
             label: None,
-        } => (Kind::Completed, *start, *frame, NO_LABEL),
-        Told::Completed {
+        } => (Tag::Completed, *start, *frame, NO_LABEL),
+        EventKind::Completed {
             start,
             frame,
             label: Some(label),
-        } => (Kind::CompletedRequest, *start, *frame, *label),
-        Told::Lost { start } => (Kind::Lost, *start, Frame::default(), NO_LABEL),
-        Told::Error(error) => (Kind::of_error(*error), 0, Frame::default(), NO_LABEL),
-        Told::Off => (Kind::Off, 0, Frame::default(), NO_LABEL),
-        Told::Back => (Kind::Back, 0, Frame::default(), NO_LABEL),
-        Told::Reaped(label) => (Kind::Reaped, 0, Frame::default(), *label),
+        } => (Tag::CompletedRequest, *start, *frame, *label),
+        EventKind::Lost { start } => (Tag::Lost, *start, Frame::default(), NO_LABEL),
+        EventKind::Error(error) => (Tag::of_error(*error), 0, Frame::default(), NO_LABEL),
+        EventKind::Off => (Tag::Off, 0, Frame::default(), NO_LABEL),
+        EventKind::Back => (Tag::Back, 0, Frame::default(), NO_LABEL),
+        EventKind::Reaped(label) => (Tag::Reaped, 0, Frame::default(), *label),
     }
 }

@@ -1,31 +1,23 @@
 //! Faults of a line and of the nodes on it.
 
 ghost use Rattle.std.specs.Prelude.{◌≡◌};
-ghost use Rattle.can_station.specs.Faults.{line_level, is_inverted, sampled_level};
+ghost use Rattle.can_station.specs.Faults.{is_inverted, sampled_level, stands};
 
-use crate::plan::{LineFault, NodeFault};
+use crate::plan::NodeFault;
 
-/// Returns the level of the line at a bit: the one that the nodes make, or that of the last fault in the list at this
-/// bit.
-pub(crate) fn line_level(faults: &[LineFault], bit: u64, made: bool) -> bool
-    ensures { result ≡ line_level faults.now bit made }
+/// Returns whether a fault from bit `from` on and before bit `until` stands at this bit.
+#[inline]
+pub(crate) fn stands(from: u64, until: u64, bit: u64) -> bool
+    ensures { result ≡ stands from until bit }
 {
-    let mut level = made;
-    for fault in faults {
-        if fault.bit == bit {
-            level = fault.level;
-        }
-    }
-    level
+    from <= bit && bit < until
 }
 
 /// Returns whether a node samples the opposite of the line at a bit.
 pub(crate) fn is_inverted(faults: &[NodeFault], node: u32, bit: u64) -> bool
     ensures { result ≡ is_inverted faults.now node bit }
 {
-    faults
-        .iter()
-        .any(|fault| fault.node == node && fault.bit == bit)
+    faults.iter().any(|fault| fault.node == node && stands(fault.bit, fault.until, bit))
 }
 
 /// Returns what a node samples at a bit at which the line has this level.

@@ -8,6 +8,7 @@ ghost use Rattle.can_confinement.specs.KnownCounts.{Knows};
 ghost use Rattle.can_node.specs.Node.{bit_of, counters_in};
 ghost use Rattle.can_station.specs.Ports.{item_of, Undone, Asks, started, started_item};
 ghost use Rattle.can_station.specs.Fresh.{IsFresh};
+ghost use Rattle.can_station.specs.Queues.{IsNotDueBefore};
 ghost use Rattle.can_station.specs.Actions.{IsUneventful, Names, no_action};
 ghost use Rattle.can_station.specs.Outcomes.{sending_after, completed_by};
 ghost use Rattle.can_station.specs.DeferredNodes.{GoesAsItMay, MayGo, MayGoBy, MayResume};
@@ -27,52 +28,12 @@ ghost use Rattle.can_station.specs.Members.{
   drives_at,
 };
 
-use crate::event::Label;
+use crate::action::Action;
+use crate::due_frame::DueFrame;
 use crate::port::settle;
 use crate::rx_sink::RxSink;
 use crate::station::Station;
-use crate::transmission::Transmission;
-use can_frame::Frame;
 use can_node::{Counters, KnownCounts, Outcome, SharedReceiver, SharedSample};
-
-/// What a node did at the last bit that it sampled. `sent` is up to date only where something is reported.
-#[derive(Clone, Copy)]
-pub struct Action {
-    /// It began to send.
-    pub began: bool,
-    /// What it sent, or began to send, at that bit.
-    pub sent: Option<Transmission>,
-    /// What the bit brought to an end.
-    pub outcome: Outcome,
-    /// The request whose transmission failed at this bit, after its abort had been requested (ABRQ): its mailbox is
-    /// empty, and it is not sent again.
-    pub reaped: Option<Label>,
-}
-
-impl Action {
-    /// Returns what a node did that was never on: nothing.
-    fn none() -> Action
-        ensures { result ≡ no_action }
-    {
-        Action {
-            began: false,
-            sent: None,
-            outcome: Outcome::Nothing,
-            reaped: None,
-        }
-    }
-
-    /// Returns whether nothing is reported of it.
-    pub(crate) fn is_uneventful(&self) -> bool
-        ensures uneventful { result ≡ true → IsUneventful self.now }
-        ensures told { IsUneventful self.now → result ≡ true }
-    {
-        if self.began || self.reaped.is_some() {
-            return false;
-        }
-        matches!(self.outcome, Outcome::Nothing)
-    }
-}
 
 /// A node of a segment, from the bit on at which it is switched on.
 #[derive(Drop)]
@@ -158,6 +119,31 @@ impl Member {
         self.resume(shared_receiver, bit);
     }
 
+    /// Resumes a talker before this bit, if it is deferred and the next frame of its queue is due at this bit. Returns a
+    /// bit after this one: if the talker stays deferred, no frame is due before the returned bit.
+    pub(crate) fn resume_due(
+        &mut self,
+        queue: &[DueFrame],
+        shared_receiver: &SharedReceiver,
+        bit: u64,
+    ) -> u64
+        requires { bit < u64.MAX }
+        ensures resumes { MayResume shared_receiver.now bit self.old self.new }
+        ensures not_due { self.new.is_deferred ≡ true
+            → IsNotDueBefore queue.now self.new.station.completed result }
+        ensures later { bit < result }
+    {
+        if !self.is_deferred {
+            return u64::MAX;
+        }
+        let due = self.next_due(queue);
+        if due <= bit {
+            self.resume(shared_receiver, bit);
+            return u64::MAX;
+        }
+        due
+    }
+
     /// If it is deferred, it samples this level as each node does that its shared receiver stands for (`Node::take_up`,
     /// `Node::hear`), and is active then. Returns whether something may be reported of it.
     pub(crate) fn share(&mut self, shared: &SharedSample, bit: u64, level: bool) -> bool
@@ -224,23 +210,25 @@ impl Member {
         self.action = Action::none();
     }
 
-    /// Returns whether it has completed all of these frames.
-    pub fn has_sent_all(&self, frames: &[Frame]) -> bool
-        ensures { result ≡ true → slice_get frames.now self.now.station.completed ≡ None }
+    /// Returns the bit at which the next frame of a talker's queue is due: no frame is due before it. `u64::MAX` where
+    /// none is left.
+    pub fn next_due(&self, queue: &[DueFrame]) -> u64
+        ensures { IsNotDueBefore queue.now self.now.station.completed result }
     {
-        frames.len() as u64 <= self.station.completed
+        self.station.next_due(queue)
     }
 
-    /// Lets an active talker take its next message at the start of this bit.
-    pub(crate) fn start_talking(&mut self, bit: u64, frames: &[Frame])
+    /// Lets an active talker begin the next frame of its queue at the start of this bit, if it wants to start and the
+    /// frame is due.
+    pub(crate) fn start_talking(&mut self, bit: u64, queue: &[DueFrame])
         ensures is_deferred { self.old.is_deferred ≡ true → self.new ≡ self.old }
         ensures active { self.new.is_deferred ≡ self.old.is_deferred }
-        ensures starts { self.old.is_deferred ≡ false → StartsTalking bit self.old self.new frames.now }
+        ensures starts { self.old.is_deferred ≡ false → StartsTalking bit self.old self.new queue.now }
     {
         if self.is_deferred || bit < self.on {
             return;
         }
-        self.action.began = self.station.talk(frames);
+        self.action.began = self.station.talk(bit, queue);
     }
 
     /// Lets an active controller take its next request at the start of this bit.

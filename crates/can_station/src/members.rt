@@ -23,7 +23,8 @@ use crate::place_set::PlaceSet;
 use crate::plan::{NodeFault, Talker};
 use crate::rx_sink::RxSink;
 
-/// Lets the active talkers take their next messages at the start of this bit. Each stands at the index of its plan. All
+/// Lets the active talkers begin the next frames of their queues that are due at this bit, at its start. Each talker is
+/// at the index of its plan. All
 /// nodes but those of the set are deferred, and are left as they are.
 pub fn start_talkers(members: &mut [Member], talkers: &[Talker], bit: u64, active: PlaceSet)
     requires talkers { length talkers.now ≡ length members.old }
@@ -32,7 +33,7 @@ pub fn start_talkers(members: &mut [Member], talkers: &[Talker], bit: u64, activ
 {
     let mut left = active;
     while let Some(place) = left.take_first() {
-        members[place].start_talking(bit, talkers[place].frames.as_slice());
+        members[place].start_talking(bit, talkers[place].queue.as_slice());
     }
 }
 
@@ -120,13 +121,13 @@ pub fn sample_nodes(
     ensures samples { AtPlaces (λ k. IfActive (NodeSamples first bit level faults.now k)) members.old members.new }
     ensures uneventful { result ≡ false → ActiveAreUneventful bit members.new }
 {
-    let mut told = false;
+    let mut reported = false;
     let mut left = active;
     while let Some(place) = left.take_first() {
         let own = sampled_level(faults, first + place as u32, bit, level);
-        told |= members[place].sample(bit, own);
+        reported |= members[place].sample(bit, own);
     }
-    told
+    reported
 }
 
 /// Tells the ports of controllers, which have sampled the line, what became of it.
@@ -180,7 +181,7 @@ pub fn sample_controllers<R, P: RxSink<R>>(
     if active.is_empty() {
         return false;
     }
-    let told = sample_nodes(members, faults, first, bit, level, active);
+    let reported = sample_nodes(members, faults, first, bit, level, active);
     settle_ports(rt, members, ports, bit, active);
-    told
+    reported
 }

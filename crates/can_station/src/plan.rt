@@ -1,14 +1,14 @@
 //! What a segment is made of.
 
-use can_frame::Frame;
+use crate::due_frame::DueFrame;
 
-/// A node that sends its list of frames and receives: it has no mailboxes and no filters.
+/// A node that sends the frames of its queue and receives: it has no mailboxes and no filters.
 #[derive(Drop)]
 pub struct Talker {
     /// The number of its first bit.
     pub on: u64,
-    /// What it sends, in this order: each frame until it is completed.
-    pub frames: Vec<Frame>,
+    /// The frames that it sends, in this order: each until it is completed, and none before it is due.
+    pub queue: Vec<DueFrame>,
 }
 
 /// A node with transmit mailboxes and receive FIFOs, which are its port.
@@ -18,22 +18,26 @@ pub struct Controller {
     pub on: u64,
 }
 
-/// A fault at a node: at this bit it samples the opposite of the level on the line. Two at one node and bit count as
-/// one.
+/// A fault at a node: from `bit` on and before `until` it samples the opposite of the level on the line. Two at one node
+/// and bit count as one.
 #[derive(Clone, Copy)]
 pub struct NodeFault {
     /// The index of the node in the order of nodes.
     pub node: u32,
-    /// The number of the bit.
+    /// The number of the first bit at which it stands.
     pub bit: u64,
+    /// The number of the bit after the last one at which it stands.
+    pub until: u64,
 }
 
-/// A fault on the line: at this bit it has this level, true being recessive, whatever the nodes drive. Of two at one
-/// bit the later one in the list counts.
+/// A fault on the line: from `bit` on and before `until` the line has this level, true being recessive, whatever the
+/// nodes drive. Of two at one bit the later one in the list counts.
 #[derive(Clone, Copy)]
 pub struct LineFault {
-    /// The number of the bit.
+    /// The number of the first bit at which it stands.
     pub bit: u64,
+    /// The number of the bit after the last one at which it stands.
+    pub until: u64,
     /// The level.
     pub level: bool,
 }

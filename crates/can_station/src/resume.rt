@@ -4,7 +4,7 @@ ghost use Rattle.std.specs.Prelude.{◌≡◌, ◌+◌, ◌<◌, ◌≤◌, ℕ,
 ghost use Rattle.can_station.specs.Places.{AtPlaces};
 ghost use Rattle.can_station.specs.DeferredNodes.{ActiveWithin, CountsReceived, ClearsAction, IfActive, KnowsDeferred};
 ghost use Rattle.can_station.specs.DeferredNodes.{Shares, TellsNone};
-ghost use Rattle.can_station.specs.DeferredNodes.{ResumesFaulted, ResumesUnfinished, resumed};
+ghost use Rattle.can_station.specs.DeferredNodes.{ResumesFaulted, ResumesDue, resumed};
 ghost use Rattle.can_station.specs.declared.member.Member.{Member as MemberValue};
 
 use crate::faults::is_inverted;
@@ -15,11 +15,11 @@ use can_node::{KnownCounts, SharedReceiver, SharedSample};
 
 /// Clears what the active nodes did at the last bit, if something was reported. All nodes but those of the set are
 /// deferred.
-pub fn clear_actions(members: &mut [Member], told: bool, active: PlaceSet)
+pub fn clear_actions(members: &mut [Member], reported: bool, active: PlaceSet)
     requires { ActiveWithin active members.old }
-    ensures { AtPlaces (λ k. IfActive (ClearsAction told)) members.old members.new }
+    ensures { AtPlaces (λ k. IfActive (ClearsAction reported)) members.old members.new }
 {
-    if !told {
+    if !reported {
         return;
     }
     let mut left = active;
@@ -46,11 +46,11 @@ pub fn share_all(members: &mut [Member], shared: &SharedSample, bit: u64, level:
     ensures shares { AtPlaces (λ k. Shares shared.now bit level) members.old members.new }
     ensures uneventful { result ≡ false → AtPlaces (λ k. TellsNone) members.old members.new }
 {
-    let mut told = false;
+    let mut reported = false;
     for place in 0..members.len() {
-        told |= members[place].share(shared, bit, level);
+        reported |= members[place].share(shared, bit, level);
     }
-    told
+    reported
 }
 
 /// Lets all deferred nodes of these count that they received a frame; they stay deferred. Returns what is known of the
@@ -66,20 +66,26 @@ pub fn receive_all(members: &mut [Member]) -> KnownCounts
     known
 }
 
-/// Resumes before this bit the deferred talkers that have a frame left. Each stands at the index of its plan.
-pub fn resume_each_unfinished(
+/// Resumes before this bit the deferred talkers of which a frame is due at it. Each talker is at the index of its plan.
+/// Returns a bit after this one: no talker that stays deferred has a frame due before the returned bit. It is
+/// `u64::MAX` where none of them has a frame left.
+pub fn resume_each_due(
     members: &mut [Member],
     plan: &[Talker],
     shared_receiver: &SharedReceiver,
     bit: u64,
-)
-    requires { length plan.now ≡ length members.old }
-    ensures { AtPlaces (ResumesUnfinished shared_receiver.now bit plan.now) members.old members.new }
+) -> u64
+    requires plan { length plan.now ≡ length members.old }
+    requires bit { bit < u64.MAX }
+    ensures resumes { AtPlaces (ResumesDue shared_receiver.now bit result plan.now) members.old members.new }
+    ensures later { bit < result }
 {
+    let mut next_due = u64::MAX;
     for place in 0..members.len() {
-        let finished = members[place].has_sent_all(plan[place].frames.as_slice());
-        members[place].resume_unless(finished, shared_receiver, bit);
+        let queue = plan[place].queue.as_slice();
+        next_due = next_due.min(members[place].resume_due(queue, shared_receiver, bit));
     }
+    next_due
 }
 
 /// Resumes before this bit the deferred nodes that have a fault of their own at it. The first of these nodes has the

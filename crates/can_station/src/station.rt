@@ -1,13 +1,16 @@
 //! A node of a segment, with what it sends.
 
-ghost use Rattle.std.specs.Prelude.{◌≡◌, ℕ, ◌+◌, ◌<◌, Bool, true, Option, Some, None, IsSome, IfSome, IfNone};
+ghost use Rattle.std.specs.Prelude.{◌≡◌, ℕ, ◌+◌, ◌<◌, Bool, true, Option, Some, None, IsSome, IfSome, IfNone, slice_get};
+ghost use Rattle.std.specs.Option.{option_map};
 ghost use Rattle.can_node.specs.Histories.{Past, no_past};
 ghost use Rattle.can_node.specs.Node.{StandsAfter, IsSending, bit_of, may_begin, sends_from};
 ghost use Rattle.bx_core.specs.TxBus.{BusPast};
 ghost use Rattle.can_station.specs.Ports.{item_of, Undone, Asks, started, started_item};
+ghost use Rattle.can_station.specs.Queues.{IsNotDueBefore, due_at};
 ghost use Rattle.can_station.specs.Stations.{IsStart, IsTalk, IsRequest};
 ghost use Rattle.can_station.specs.Outcomes.{ends_sending, sending_after, completed_by};
 
+use crate::due_frame::DueFrame;
 use crate::event::Label;
 use crate::rx_sink::RxSink;
 use crate::transmission::Transmission;
@@ -65,21 +68,41 @@ impl Station {
         });
     }
 
-    /// Lets a talker take its next message, if it wants to start and has one left: the first frame that was not
-    /// completed. Returns whether it began.
-    pub(crate) fn talk(&mut self, frames: &[Frame]) -> bool
-        ensures { IsTalk self.old self.new frames.now result }
+    /// Returns the next frame of a talker's queue: the first one that was not completed.
+    fn next_of<'q>(&self, queue: &'q [DueFrame]) -> Option<&'q DueFrame>
+        ensures { option_map (λ next. next.now) result ≡ slice_get queue.now self.now.completed }
+    {
+        let Ok(next) = usize::try_from(self.completed) else {
+            return None;
+        };
+        queue.get(next)
+    }
+
+    /// Returns the bit at which the next frame of a talker's queue is due; `u64::MAX` where none is left.
+    pub(crate) fn next_due(&self, queue: &[DueFrame]) -> u64
+        ensures { IsNotDueBefore queue.now self.now.completed result }
+    {
+        match self.next_of(queue) {
+            Some(next) => next.due,
+            None => u64::MAX,
+        }
+    }
+
+    /// Lets a talker begin the next frame of its queue at this bit, if it wants to start and the frame is due. Returns
+    /// whether it began.
+    pub(crate) fn talk(&mut self, bit: u64, queue: &[DueFrame]) -> bool
+        ensures { IsTalk self.old self.new (due_at queue.now self.old.completed bit) result }
     {
         if !self.node.wants_start() {
             return false;
         }
-        let Ok(next) = usize::try_from(self.completed) else {
+        let Some(next) = self.next_of(queue) else {
             return false;
         };
-        let Some(frame) = frames.get(next) else {
+        if bit < next.due {
             return false;
-        };
-        self.begin(*frame, None);
+        }
+        self.begin(next.frame, None);
         true
     }
 

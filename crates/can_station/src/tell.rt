@@ -1,24 +1,25 @@
 //! Appends the events of a bit to the record: what the nodes did.
 
 ghost use Rattle.std.specs.Prelude.{◌≡◌, ◌+◌, ◌*◌, ◌≤◌, ◌<◌, ◌++◌, ◌∷◌, [], length, vec_len, vec_capacity};
-ghost use Rattle.can_station.specs.Lines.{lines, told_outcome, told_reaped};
-ghost use Rattle.can_station.specs.Tellings.{start_of, rest_by, told_by};
+ghost use Rattle.can_station.specs.Lines.{lines, outcome_kinds, reaped_kinds};
+ghost use Rattle.can_station.specs.Tellings.{start_of, rest_by, events_by};
 
-use crate::event::{Event, Label, Told};
-use crate::member::{Action, Member};
+use crate::action::Action;
+use crate::event::{Event, EventKind, Label};
+use crate::member::Member;
 use crate::transmission::Transmission;
 use can_node::Outcome;
 
 /// Appends one event, for which there is room.
 // inlined: the kind is known here, so that one arm of `Event::new` is left
 #[inline(always)]
-fn push(events: &mut Vec<Event>, bit: u64, node: u16, told: Told)
+fn push(events: &mut Vec<Event>, bit: u64, node: u16, reported: EventKind)
     requires { vec_len events.old < vec_capacity events.old }
-    ensures value { events.new.items ≡ events.old.items ++ lines bit node (told ∷ []) }
+    ensures value { events.new.items ≡ events.old.items ++ lines bit node (reported ∷ []) }
     ensures len { vec_len events.new ≡ vec_len events.old + 1 }
     ensures capacity { vec_capacity events.old ≤ vec_capacity events.new }
 {
-    let _ = events.push(Event::new(bit, node, told));
+    let _ = events.push(Event::new(bit, node, reported));
 }
 
 /// Appends the event that the node began to send a frame, if it did.
@@ -34,7 +35,7 @@ fn tell_start(events: &mut Vec<Event>, bit: u64, node: u16, action: &Action)
                 events,
                 bit,
                 node,
-                Told::Started {
+                EventKind::Started {
                     frame: sent.frame,
                     label: sent.label,
                 },
@@ -52,7 +53,7 @@ fn tell_outcome(
     outcome: &Outcome,
 )
     requires { vec_len events.old < vec_capacity events.old }
-    ensures value { events.new.items ≡ events.old.items ++ lines bit node (told_outcome sent.now outcome.now) }
+    ensures value { events.new.items ≡ events.old.items ++ lines bit node (outcome_kinds sent.now outcome.now) }
     ensures len { vec_len events.new ≤ vec_len events.old + 1 }
     ensures capacity { vec_capacity events.old ≤ vec_capacity events.new }
 {
@@ -62,7 +63,7 @@ fn tell_outcome(
             events,
             bit,
             node,
-            Told::Took {
+            EventKind::Took {
                 start: *start,
                 frame: *frame,
             },
@@ -73,7 +74,7 @@ fn tell_outcome(
                     events,
                     bit,
                     node,
-                    Told::Completed {
+                    EventKind::Completed {
                         start: sent.start,
                         frame: sent.frame,
                         label: sent.label,
@@ -83,24 +84,24 @@ fn tell_outcome(
         }
         Outcome::Lost => {
             if let Some(sent) = sent {
-                push(events, bit, node, Told::Lost { start: sent.start });
+                push(events, bit, node, EventKind::Lost { start: sent.start });
             }
         }
-        Outcome::Errored(kind) => push(events, bit, node, Told::Error(*kind)),
-        Outcome::WentOff => push(events, bit, node, Told::Off),
-        Outcome::CameBack => push(events, bit, node, Told::Back),
+        Outcome::Errored(kind) => push(events, bit, node, EventKind::Error(*kind)),
+        Outcome::WentOff => push(events, bit, node, EventKind::Off),
+        Outcome::CameBack => push(events, bit, node, EventKind::Back),
     }
 }
 
 /// Appends the event that a request was reaped, if one was.
 fn tell_reaped(events: &mut Vec<Event>, bit: u64, node: u16, reaped: Option<Label>)
     requires { vec_len events.old < vec_capacity events.old }
-    ensures value { events.new.items ≡ events.old.items ++ lines bit node (told_reaped reaped) }
+    ensures value { events.new.items ≡ events.old.items ++ lines bit node (reaped_kinds reaped) }
     ensures len { vec_len events.new ≤ vec_len events.old + 1 }
     ensures capacity { vec_capacity events.old ≤ vec_capacity events.new }
 {
     if let Some(label) = reaped {
-        push(events, bit, node, Told::Reaped(label));
+        push(events, bit, node, EventKind::Reaped(label));
     }
 }
 
@@ -120,7 +121,7 @@ fn tell_rest(events: &mut Vec<Event>, bit: u64, node: u16, action: &Action)
 pub fn tell_starts(events: &mut Vec<Event>, bit: u64, first: u32, members: &[Member])
     requires room { vec_len events.old + length members.now ≤ vec_capacity events.old }
     requires few { first + length members.now ≤ 1000 }
-    ensures value { events.new.items ≡ events.old.items ++ told_by start_of bit first members.now }
+    ensures value { events.new.items ≡ events.old.items ++ events_by start_of bit first members.now }
     ensures len { vec_len events.new ≤ vec_len events.old + length members.now }
     ensures capacity { vec_capacity events.old ≤ vec_capacity events.new }
 {
@@ -135,7 +136,7 @@ pub fn tell_starts(events: &mut Vec<Event>, bit: u64, first: u32, members: &[Mem
 pub fn tell_rests(events: &mut Vec<Event>, bit: u64, first: u32, members: &[Member])
     requires room { vec_len events.old + 2 * length members.now ≤ vec_capacity events.old }
     requires few { first + length members.now ≤ 1000 }
-    ensures value { events.new.items ≡ events.old.items ++ told_by rest_by bit first members.now }
+    ensures value { events.new.items ≡ events.old.items ++ events_by rest_by bit first members.now }
     ensures len { vec_len events.new ≤ vec_len events.old + 2 * length members.now }
     ensures capacity { vec_capacity events.old ≤ vec_capacity events.new }
 {

@@ -2,7 +2,7 @@
 
 use super::{Port, data_frame, make_all, plan_of, record_of, segment_of, started, talker, took};
 use can_frame::{Frame, Id};
-use can_segment::Told;
+use can_segment::EventKind;
 use std::test::Fail;
 
 #[test]
@@ -44,7 +44,7 @@ fn of_64_contenders_the_lowest_identifier_goes_first(rt: HostRuntime) -> Result<
     let record = record_of(rt.alloc(), plan)?;
     let mut winner = 64u16;
     for event in record.events.iter() {
-        if let Told::Completed { .. } = event.told() {
+        if let EventKind::Completed { .. } = event.kind() {
             winner = winner.saturating_sub(1);
             assert_eq!(rt; event.node(), u32::from(winner));
         }

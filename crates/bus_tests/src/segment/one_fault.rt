@@ -2,7 +2,7 @@
 
 use super::{record_of, sender_and_listener};
 use can_frame::Frame;
-use can_segment::{Event, LineFault, NodeFault, Record, SegmentPlan, Told};
+use can_segment::{Event, EventKind, LineFault, NodeFault, Record, SegmentPlan};
 use std::alloc::Global;
 use std::process::Abort;
 use std::test::Fail;
@@ -41,13 +41,19 @@ impl Turned {
 fn record_with(alloc: Global, turned: Option<Turned>, level: bool) -> Result<Record, Fail> {
     let mut plan: SegmentPlan = sender_and_listener(alloc, 200, 1)?;
     if let Some(Turned { place, bit }) = turned {
+        let until = bit + 1;
         match place {
-            Place::Sender => plan.node_faults.push(NodeFault { node: SENDER, bit })?,
+            Place::Sender => plan.node_faults.push(NodeFault {
+                node: SENDER,
+                bit,
+                until,
+            })?,
             Place::Receiver => plan.node_faults.push(NodeFault {
                 node: RECEIVER,
                 bit,
+                until,
             })?,
-            Place::Line => plan.line_faults.push(LineFault { bit, level })?,
+            Place::Line => plan.line_faults.push(LineFault { bit, until, level })?,
         }
     }
     record_of(alloc, plan)
@@ -55,10 +61,10 @@ fn record_with(alloc: Global, turned: Option<Turned>, level: bool) -> Result<Rec
 
 /// The receiver took this frame of this start at this bit.
 fn is_taken(events: &[Event], bit: u64, start: u64, frame: Frame) -> bool {
-    let took = Told::Took { start, frame };
+    let took = EventKind::Took { start, frame };
     events.iter().any(|event| event.node() == RECEIVER
         && event.bit() == bit
-        && event.told() == took)
+        && event.kind() == took)
 }
 
 /// The sender, which is error active throughout, met an error: an attempt that began at the first of these bits ended
@@ -66,8 +72,8 @@ fn is_taken(events: &[Event], bit: u64, start: u64, frame: Frame) -> bool {
 fn look_behind_an_error(rt: &impl Abort, events: &[Event], turned: Turned, first: u64, end: u64) {
     for event in events {
         if event.node() == RECEIVER && event.bit() > end {
-            let told = event.told();
-            if let Told::Took { start, .. } = &told {
+            let reported = event.kind();
+            if let EventKind::Took { start, .. } = &reported {
                 // the start is the first bit that the sender drives, or the bit before, where it joined
                 if *start == first || start.saturating_add(1) == first {
                     assert!(rt; turned.touches_receiver(end, event.bit()), "{turned:?}");
@@ -82,20 +88,20 @@ fn look_through(rt: &impl Abort, events: &[Event], turned: Turned) -> u64 {
     let mut begun: Option<u64> = None;
     let mut sent: u64 = 0;
     for event in events.iter().filter(|event| event.node() == SENDER) {
-        let told = event.told();
-        match &told {
-            Told::Started { .. } => {
+        let reported = event.kind();
+        match &reported {
+            EventKind::Started { .. } => {
                 // what was completed is not begun again
                 assert!(rt; sent == 0, "{turned:?}");
                 begun = Some(event.bit());
             }
-            Told::Error(_) => {
+            EventKind::Error(_) => {
                 if let Some(first) = begun {
                     look_behind_an_error(rt, events, turned, first, event.bit());
                 }
                 begun = None;
             }
-            Told::Completed { start, frame, .. } => {
+            EventKind::Completed { start, frame, .. } => {
                 let taken = is_taken(events, event.bit().saturating_sub(1), *start, *frame);
                 assert!(rt;
                     taken || turned.touches_any(*start, event.bit()),

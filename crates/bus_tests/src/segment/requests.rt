@@ -10,7 +10,7 @@ use super::{
 };
 use bx_core::{NoGate, PlainMail, PlainRoute, RouteTx, Sent};
 use can_frame::{Frame, Id};
-use can_segment::{Controller, Event, Label, Record, SegFault, Segment, SegmentPlan, Told};
+use can_segment::{Controller, Event, EventKind, Label, Record, SegFault, Segment, SegmentPlan};
 use std::alloc::{AllocError, Global};
 use std::test::Fail;
 
@@ -81,13 +81,13 @@ fn a_request_is_sent_and_a_frame_is_taken(rt: HostRuntime) -> Result<(), Fail> {
         record.events.as_slice()
             == [
                 started(11, 0, second),
-                Event::new(11, 1, Told::Started { frame, label }),
-                Event::new(24, 0, Told::Lost { start: 11 }),
+                Event::new(11, 1, EventKind::Started { frame, label }),
+                Event::new(24, 0, EventKind::Lost { start: 11 }),
                 took(59, 0, 11, frame),
                 Event::new(
                     60,
                     1,
-                    Told::Completed {
+                    EventKind::Completed {
                         start: 11,
                         frame,
                         label
@@ -171,12 +171,12 @@ fn sends_in_spite(alloc: Global, frame: Frame) -> Option<bool> {
         number: 1,
     });
     let lines = [
-        Event::new(11, 1, Told::Started { frame, label }),
+        Event::new(11, 1, EventKind::Started { frame, label }),
         took(59, 0, 11, frame),
         Event::new(
             60,
             1,
-            Told::Completed {
+            EventKind::Completed {
                 start: 11,
                 frame,
                 label,

@@ -8,7 +8,7 @@ use bx_core::NoGate;
 use bx_mail::{AbortOutcome, BusSeat, Mail, RequestAnswer, RouteSeat};
 use bx_rx::Banks;
 use can_frame::{Frame, Id};
-use can_segment::{Controller, Event, Label, Record, Segment, SegmentPlan, Told};
+use can_segment::{Controller, Event, EventKind, Label, Record, Segment, SegmentPlan};
 use std::alloc::Global;
 use std::sync::Wait;
 use std::test::Fail;
@@ -66,17 +66,17 @@ fn expected(frame: Frame, second: Frame) -> [Event; 8] {
         route: 0,
         number: 1,
     });
-    let by_controller = |bit, told| Event::new(bit, 1, told);
+    let by_controller = |bit, reported| Event::new(bit, 1, reported);
     let start = 11;
-    let lost = Event::new(24, 0, Told::Lost { start });
-    let sent = Told::Completed {
+    let lost = Event::new(24, 0, EventKind::Lost { start });
+    let sent = EventKind::Completed {
         start,
         frame,
         label,
     };
     [
         started(11, 0, second),
-        by_controller(11, Told::Started { frame, label }),
+        by_controller(11, EventKind::Started { frame, label }),
         lost,
         took(59, 0, 11, frame),
         by_controller(60, sent),

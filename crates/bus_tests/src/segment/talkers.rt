@@ -6,7 +6,7 @@ use super::{
 };
 use can_frame::{Frame, Id};
 use can_node::{ErrorKind, ErrorState};
-use can_segment::{Event, LineFault, NodeFault, SegFault, Told};
+use can_segment::{Event, EventKind, LineFault, NodeFault, SegFault};
 use std::test::Fail;
 
 #[test]
@@ -75,7 +75,11 @@ fn uneventful_bits_are_simulated_at_once(rt: HostRuntime) -> Result<(), Fail> {
 fn in_one_bit_lines_stand_in_the_order_of_nodes(rt: HostRuntime) -> Result<(), Fail> {
     let frame = data_frame()?;
     let mut plan = sender_and_listener(rt.alloc(), 131, 1)?;
-    plan.node_faults.push(NodeFault { node: 0, bit: 59 })?;
+    plan.node_faults.push(NodeFault {
+        node: 0,
+        bit: 59,
+        until: 60,
+    })?;
     let record = record_of(rt.alloc(), plan)?;
     assert!(rt;
         record.events.as_slice()

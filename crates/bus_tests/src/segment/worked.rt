@@ -6,7 +6,7 @@ use super::{
 };
 use can_frame::{Frame, Id};
 use can_node::{ErrorKind, ErrorState};
-use can_segment::{Event, NodeFault, Record, Told};
+use can_segment::{Event, EventKind, NodeFault, Record};
 use std::test::Fail;
 
 /// Whether the counters at the end are these, node by node.
@@ -35,7 +35,7 @@ fn a_standard_frame_wins_over_an_extended_one(rt: HostRuntime) -> Result<(), Fai
             == [
                 started(11, 0, standard),
                 started(11, 1, extended),
-                Event::new(26, 1, Told::Lost { start: 11 }),
+                Event::new(26, 1, EventKind::Lost { start: 11 }),
                 took(56, 1, 11, standard),
                 completed(57, 0, 11, standard),
                 started(61, 1, extended),
@@ -54,7 +54,11 @@ fn a_standard_frame_wins_over_an_extended_one(rt: HostRuntime) -> Result<(), Fai
 fn an_error_at_the_last_bit_doubles_a_frame(rt: HostRuntime) -> Result<(), Fail> {
     let frame = data_frame()?;
     let mut plan = sender_and_listener(rt.alloc(), 132, 1)?;
-    plan.node_faults.push(NodeFault { node: 0, bit: 60 })?;
+    plan.node_faults.push(NodeFault {
+        node: 0,
+        bit: 60,
+        until: 61,
+    })?;
     let record = record_of(rt.alloc(), plan)?;
     assert!(rt;
         record.events.as_slice()

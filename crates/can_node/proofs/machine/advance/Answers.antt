@@ -42,7 +42,7 @@ returns-in-BusIdle c =
 pub returns-in-BusOffRecovery : goal.returns-in-BusOffRecovery
 returns-in-BusOffRecovery c =
     let runs = c.in-BusOffRecovery.runs in
-    let ones = c.in-BusOffRecovery.field-1 in
+    let ones = c.in-BusOffRecovery.ones in
     let reader = c.args.reader.now in
     rw (c.in-BusOffRecovery.is, c.if-not-level.true)
     (uneventful_steps (BusOffRecovery runs ones) (BusOffRecovery runs 0) c.args.counters.now reader reader

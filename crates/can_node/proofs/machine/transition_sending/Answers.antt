@@ -8,7 +8,7 @@ returns-then-is_taking c now = record {
   transition = c.after_sending-transition.result;
   errors = c.state-errors.result;
   shows = c.state-errors.ensures.counted;
-  advances = sending_advances c.args.start c.args.place c.args.reader.now c.read_behind.new.reader
+  advances = sending_advances c.args.position.start c.args.position.place c.args.reader.now c.read_behind.new.reader
       c.args.spelling.now now c.state-errors.result c.args.level c.after_sending-transition.result
       c.after_sending-transition.ensures.goes
       c.after_sending-transition.ensures.lost
@@ -22,7 +22,7 @@ returns c now = record {
   transition = c.after_sending-transition.result;
   errors = c.state-errors.result;
   shows = c.state-errors.ensures.counted;
-  advances = sending_advances c.args.start c.args.place c.args.reader.now c.args.reader.now c.args.spelling.now now
+  advances = sending_advances c.args.position.start c.args.position.place c.args.reader.now c.args.reader.now c.args.spelling.now now
       c.state-errors.result c.args.level c.after_sending-transition.result c.after_sending-transition.ensures.goes
       c.after_sending-transition.ensures.lost (λ is. absurd (cc (is, c.is_taking.ensures, c.if-is_taking.false)));
   is_made = c.make-2.ensures;

@@ -6,7 +6,7 @@ use Rattle.can_node.proofs.sends.overruled.Goals as goal
 
 pub returns-in-Arbitration-clause-goes : goal.returns-in-Arbitration-clause-goes
 returns-in-Arbitration-clause-goes c =
-    rw c.in-Arbitration.is (λ place spelling. send_lost c.args.start place spelling c.args.errors)
+    rw (c.in-Arbitration.is, c.receiving.ensures) (λ place spelling. send_lost c.args.start place spelling c.args.errors)
 
 pub returns-in-ArbitrationStuffBit-clause-goes : goal.returns-in-ArbitrationStuffBit-clause-goes
 returns-in-ArbitrationStuffBit-clause-goes c = rw c.in-ArbitrationStuffBit.is

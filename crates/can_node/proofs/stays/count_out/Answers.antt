@@ -7,4 +7,4 @@ returns-in-BusOffRecovery-clause-stays c =
     far_stays_all c.args.state.now here.runs here.ones c.args.levels.now here.is (c.is_far.ensures c.if-is_far.true)
 
 pub returns-in-PassiveErrorFlag-clause-few : goal.returns-in-PassiveErrorFlag-clause-few
-returns-in-PassiveErrorFlag-clause-few c = (c.stay_flagging.ensures.by c.in-PassiveErrorFlag.field-0).few
+returns-in-PassiveErrorFlag-clause-few c = (c.stay_flagging.ensures.by c.in-PassiveErrorFlag.role).few

@@ -1,4 +1,4 @@
-use Rattle.can_node.proofs.ErrorMoves.{delimit_on, delimit_ends, delimit_cut, delimit_overload}
+use Rattle.can_node.proofs.ErrorMoves.{delimit_on, delimit_ends, delimit_truncated, delimit_overload}
 use Rattle.can_node.proofs.transitions.after_delimiting.Goals as goal
 
 pub returns-then-ones-lt7-clause-goes : goal.returns-then-ones-lt7-clause-goes
@@ -11,11 +11,11 @@ returns-then-level-clause-goes c now = rw (c.plain-then-level.ensures, c.if-leve
 
 pub returns-then-ones-lt7-2-clause-goes : goal.returns-then-ones-lt7-2-clause-goes
 returns-then-ones-lt7-2-clause-goes c now = rw (c.if-level.false, c.error_event.ensures)
-    (delimit_cut c.args.role c.args.ones now c.args.errors c.error_flag.result c.if-ones-lt7-2.true
+    (delimit_truncated c.args.role c.args.ones now c.args.errors c.error_flag.result c.if-ones-lt7-2.true
     c.error_flag.ensures)
 
 pub returns-clause-goes : goal.returns-clause-goes
-returns-clause-goes c now = rw (c.plain-2.ensures, c.if-level.false)
+returns-clause-goes c now = rw (c.plain-2.ensures, c.dominant_flag.ensures, c.if-level.false)
     (delimit_overload c.args.role c.args.ones now c.args.errors c.if-ones-lt7-2.false)
 
 pub returns-then-ones-lt7-clause-alike : goal.returns-then-ones-lt7-clause-alike

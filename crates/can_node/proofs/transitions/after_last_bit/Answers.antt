@@ -5,4 +5,4 @@ pub returns-then-level : goal.returns-then-level
 returns-then-level c now errors = rw (c.plain.ensures, c.if-level.true) (last_bit_uneventful now errors)
 
 pub returns : goal.returns
-returns c now errors = rw (c.plain-2.ensures, c.if-level.false) (closing_late now errors)
+returns c now errors = rw (c.plain-2.ensures, c.dominant_flag.ensures, c.if-level.false) (closing_late now errors)

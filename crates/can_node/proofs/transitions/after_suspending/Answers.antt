@@ -3,7 +3,7 @@ use Rattle.can_node.proofs.transitions.after_suspending.Goals as goal
 
 pub returns-then-not-level-clause-goes : goal.returns-then-not-level-clause-goes
 returns-then-not-level-clause-goes c errors =
-    rw (c.plain.ensures, c.if-not-level.true) (suspend_overtaken c.args.ones c.args.now errors)
+    rw (c.plain.ensures, c.receiving.ensures, c.if-not-level.true) (suspend_overtaken c.args.ones c.args.now errors)
 
 pub returns-then-ones-lt7-clause-goes : goal.returns-then-ones-lt7-clause-goes
 returns-then-ones-lt7-clause-goes c errors = rw (c.plain-then-ones-lt7.ensures, c.if-not-level.false)

@@ -8,7 +8,7 @@ returns-then-ones-lt5-clause-goes c none now errors = rw c.if-level.true
     (passive_recessive c.args.role c.args.owes c.args.ones c.args.zeros now errors c.if-ones-lt5.true)
 
 pub returns-then-level-clause-goes : goal.returns-then-level-clause-goes
-returns-then-level-clause-goes c none now errors = rw c.if-level.true
+returns-then-level-clause-goes c none now errors = rw (c.awaiting.ensures, c.if-level.true)
     (passive_ends_recessive c.args.role c.args.owes c.args.ones c.args.zeros now errors c.if-ones-lt5.false)
 
 pub returns-then-zeros-lt5-clause-goes : goal.returns-then-zeros-lt5-clause-goes
@@ -21,5 +21,5 @@ returns-then-zeros-lt5-clause-goes c none now errors =
     by false many = refl
 
 pub returns-clause-goes : goal.returns-clause-goes
-returns-clause-goes c none now errors = rw c.if-level.false
+returns-clause-goes c none now errors = rw (c.awaiting-2.ensures, c.if-level.false)
     (passive_ends_dominant c.args.role c.args.owes c.args.ones c.args.zeros now errors c.if-zeros-lt5.false)

@@ -19,7 +19,7 @@ sample_all-sampled-requires-clause-talker_room g c k m e active on =
     let old = some_there (materialized deferred c.args.bit c.args.talkers.now) k (omega (arith, within, starts.size)) in
     let talker =
     some_there c.args.plan.now.talkers.items k (omega (arith, within, starts.size, size, c.requires.talkers)) in
-    talker_clock c.args.bit _ old.0 m talker.0.frames.items
+    talker_clock c.args.bit _ old.0 m talker.0.queue.items
     (starts.at k old.0 m old.1 e talker.0 (rw c.as_slice-talkers_plan.ensures.value talker.1))
     (c.requires.talker_clocks k old.0 old.1 (active_at deferred c.args.bit c.args.talkers.now k old.0 old.1)) on
 
@@ -85,7 +85,7 @@ returns-clause-nodes g c =
             let own : sampled_level c.inverting-here.result.now (0 + k) bit level
             ≡ sampled_level c.args.plan.now.node_faults.items k bit level =
             ap (λ n. sampled_level c.inverting-here.result.now n bit level) here
-            ∙ c.inverting-here.ensures c.args.plan.now c.requires.stands k level in
+            ∙ c.inverting-here.ensures c.args.plan.now bit c.requires.bit c.requires.faults k level in
             subst (λ l. Samples bit l a b) own (c.sample_all-sampled.ensures.talkers.at k a b e f);
         size = c.sample_all-sampled.ensures.talkers.size;
       };
@@ -105,13 +105,13 @@ returns-clause-nodes g c =
             subst (λ n. SamplesAndSettles bit (sampled_level c.args.plan.now.node_faults.items (n + k) bit level) a b)
             talkers_size
             (subst (λ l. SamplesAndSettles bit l a b)
-            (c.inverting-here.ensures c.args.plan.now c.requires.stands
+            (c.inverting-here.ensures c.args.plan.now bit c.requires.bit c.requires.faults
             (length c.start_all-driven.new.talkers + k) level)
             (settles.at k a b from.0 to.0 ea eb from.1 to.1).member);
         mid_size = starts.size;
         after_size = settles.size;
       };
-      level_is = c.line_level-level.ensures c.args.plan.now c.requires.stands
+      level_is = c.line_level-level.ensures c.args.plan.now bit c.requires.bit c.requires.faults
           ∙ ap (λ d. line_level c.args.plan.now.line_faults.items bit d) c.start_all-driven.ensures.driven;
     }
 

@@ -14,20 +14,20 @@ use Rattle.can_station.proofs.PlaceSets.{within_both, within_places}
 use Rattle.can_segment.proofs.Resumed.{left_both, left_on, left_places}
 use Rattle.can_segment.proofs.all_nodes.sample_all.Goals as goal
 
-pub sample_active-told-requires-clause-talker_room : goal.sample_active-told-requires-clause-talker_room
-sample_active-told-requires-clause-talker_room g c =
+pub sample_active-reported-requires-clause-talker_room : goal.sample_active-reported-requires-clause-talker_room
+sample_active-reported-requires-clause-talker_room g c =
     room_real _ c.resume_faulted.new.self c.args.bit c.step_deferred.new.talkers
     (subst (HasRoom _ c.args.bit) (sym (c.in-Through.ensures.talkers.same ∙ c.resume_faulted.ensures.talkers))
     c.requires.talker_room)
 
-pub sample_active-told-requires-clause-room : goal.sample_active-told-requires-clause-room
-sample_active-told-requires-clause-room g c =
+pub sample_active-reported-requires-clause-room : goal.sample_active-reported-requires-clause-room
+sample_active-reported-requires-clause-room g c =
     room_real _ c.resume_faulted.new.self c.args.bit c.step_deferred.new.controllers
     (subst (HasRoom _ c.args.bit) (sym (c.in-Through.ensures.controllers.same ∙ c.resume_faulted.ensures.controllers))
     c.requires.room)
 
-pub sample_active-told-requires-clause-port : goal.sample_active-told-requires-clause-port
-sample_active-told-requires-clause-port g c =
+pub sample_active-reported-requires-clause-port : goal.sample_active-reported-requires-clause-port
+sample_active-reported-requires-clause-port g c =
     transmits_real g.P.TxBus.transmitting c.resume_faulted.new.self c.args.bit c.step_deferred.new.controllers
     c.args.ports.now
     (subst (λ ms. TransmitsAll g.P.TxBus.transmitting ms c.args.ports.now)
@@ -40,13 +40,13 @@ returns-in-Through-clause-talkers g c =
     let t = c.step_deferred.new.talkers in
     let goes = c.in-Through.ensures.talkers in
     subst (λ ms. AtPlaces (NodeSamples 0 c.args.bit c.args.level c.args.faults.now) ms
-    (materialized after (c.args.bit + 1) c.sample_active-told.new.talkers))
+    (materialized after (c.args.bit + 1) c.sample_active-reported.new.talkers))
     (goes.same ∙ c.resume_faulted.ensures.talkers)
-    (members_sample before after c.args.bit 0 c.args.level c.args.faults.now t c.sample_active-told.new.talkers
+    (members_sample before after c.args.bit 0 c.args.level c.args.faults.now t c.sample_active-reported.new.talkers
     (left_deferred before c.args.bit c.resume_faulted.new.talkers t goes.left
     c.resume_faulted.ensures.holds.talkers_deferred)
     (λ k m e is. c.resume_faulted.ensures.talkers_unfaulted k m (goes.left k m e is) is) goes.through
-    c.sample_active-told.ensures.talkers)
+    c.sample_active-reported.ensures.talkers)
 
 pub returns-in-Through-clause-controllers : goal.returns-in-Through-clause-controllers
 returns-in-Through-clause-controllers g c =
@@ -54,7 +54,7 @@ returns-in-Through-clause-controllers g c =
     let after = c.step_deferred.new.self in
     let bit = c.args.bit in
     let cs = c.step_deferred.new.controllers in
-    let made = c.sample_active-told.new in
+    let made = c.sample_active-reported.new in
     let goes = c.in-Through.ensures in
     let same = goes.controllers.same ∙ c.resume_faulted.ensures.controllers in
     let first : length c.step_deferred.new.talkers ≡ length c.args.talkers.now =
@@ -81,36 +81,36 @@ returns-in-Through-clause-controllers g c =
     sends size
     (subst (λ n. AtBoth (λ k. IfActiveBoth (PortSettles g.P.TxBus.bus_after g.P.TxBus.bus_asked g.P.TxBus.transmitting
     g.P.RxSink.sink_after g.P.RxSink.port_stays bit (sampled_level c.args.faults.now (n + k) bit c.args.level)))
-    cs made.controllers c.args.ports.now made.ports) first c.sample_active-told.ensures.controllers))
+    cs made.controllers c.args.ports.now made.ports) first c.sample_active-reported.ensures.controllers))
 
 pub returns-in-Through-clause-is_deferred : goal.returns-in-Through-clause-is_deferred
 returns-in-Through-clause-is_deferred g c =
     let before = c.resume_faulted.new.self in
     let t = c.step_deferred.new.talkers in
     let cs = c.step_deferred.new.controllers in
-    let samples = c.sample_active-told.ensures.talkers in
-    let settles = c.sample_active-told.ensures.controllers in
+    let samples = c.sample_active-reported.ensures.talkers in
+    let settles = c.sample_active-reported.ensures.controllers in
     let same = c.in-Through.ensures.controllers.same ∙ c.resume_faulted.ensures.controllers in
     let size : length c.args.ports.now ≡ length cs = c.requires.ports
     ∙ sym (members_length c.args.deferred.now c.args.bit c.args.controllers.now) ∙ ap length (sym same)
     ∙ members_length before c.args.bit cs in
-    left_holds c.step_deferred.new.self (c.args.bit + 1) c.args.plan.now t c.sample_active-told.new.talkers cs
-    c.sample_active-told.new.controllers
-    (left_places _ t c.sample_active-told.new.talkers samples)
-    (left_both _ cs c.sample_active-told.new.controllers c.args.ports.now
-    c.sample_active-told.new.ports size settles)
-    (λ set. within_places _ set t c.sample_active-told.new.talkers samples)
-    (λ set. within_both _ set cs c.sample_active-told.new.controllers c.args.ports.now
-    c.sample_active-told.new.ports size settles)
+    left_holds c.step_deferred.new.self (c.args.bit + 1) c.args.plan.now t c.sample_active-reported.new.talkers cs
+    c.sample_active-reported.new.controllers
+    (left_places _ t c.sample_active-reported.new.talkers samples)
+    (left_both _ cs c.sample_active-reported.new.controllers c.args.ports.now
+    c.sample_active-reported.new.ports size settles)
+    (λ set. within_places _ set t c.sample_active-reported.new.talkers samples)
+    (λ set. within_both _ set cs c.sample_active-reported.new.controllers c.args.ports.now
+    c.sample_active-reported.new.ports size settles)
     (omega (arith, samples.size)) (omega (arith, settles.size)) c.in-Through.ensures.holds
 
 pub returns-in-Through-clause-uneventful : goal.returns-in-Through-clause-uneventful
 returns-in-Through-clause-uneventful g c none =
     let deferred = c.step_deferred.new.self in
     let is_deferred = returns-in-Through-clause-is_deferred g c in
-    let uneventful = c.sample_active-told.ensures.uneventful none in (
-      all_uneventful deferred c.args.bit c.sample_active-told.new.talkers is_deferred.talkers_deferred uneventful.0,
-      all_uneventful deferred c.args.bit c.sample_active-told.new.controllers is_deferred.controllers_deferred
+    let uneventful = c.sample_active-reported.ensures.uneventful none in (
+      all_uneventful deferred c.args.bit c.sample_active-reported.new.talkers is_deferred.talkers_deferred uneventful.0,
+      all_uneventful deferred c.args.bit c.sample_active-reported.new.controllers is_deferred.controllers_deferred
           uneventful.1,
     )
 
@@ -123,40 +123,40 @@ returns-in-Through-clause-left g c none =
     let size : length c.args.ports.now ≡ length cs = c.requires.ports
     ∙ sym (members_length c.args.deferred.now c.args.bit c.args.controllers.now) ∙ ap length (sym same)
     ∙ members_length before c.args.bit cs in (
-      left_on c.args.talkers.now c.resume_faulted.new.talkers c.sample_active-told.new.talkers
+      left_on c.args.talkers.now c.resume_faulted.new.talkers c.sample_active-reported.new.talkers
           c.resume_faulted.ensures.left.0
-          (left_on c.resume_faulted.new.talkers c.step_deferred.new.talkers c.sample_active-told.new.talkers
-          goes.talkers.left (left_places _ c.step_deferred.new.talkers c.sample_active-told.new.talkers
-          c.sample_active-told.ensures.talkers)),
-      left_on c.args.controllers.now c.resume_faulted.new.controllers c.sample_active-told.new.controllers
+          (left_on c.resume_faulted.new.talkers c.step_deferred.new.talkers c.sample_active-reported.new.talkers
+          goes.talkers.left (left_places _ c.step_deferred.new.talkers c.sample_active-reported.new.talkers
+          c.sample_active-reported.ensures.talkers)),
+      left_on c.args.controllers.now c.resume_faulted.new.controllers c.sample_active-reported.new.controllers
           c.resume_faulted.ensures.left.1
-          (left_on c.resume_faulted.new.controllers cs c.sample_active-told.new.controllers goes.controllers.left
-          (left_both _ cs c.sample_active-told.new.controllers c.args.ports.now
-          c.sample_active-told.new.ports size
-          c.sample_active-told.ensures.controllers)),
+          (left_on c.resume_faulted.new.controllers cs c.sample_active-reported.new.controllers goes.controllers.left
+          (left_both _ cs c.sample_active-reported.new.controllers c.args.ports.now
+          c.sample_active-reported.new.ports size
+          c.sample_active-reported.ensures.controllers)),
     )
 
-pub sample_active-told-requires-in-Acknowledged-clause-talker_room :
-    goal.sample_active-told-requires-in-Acknowledged-clause-talker_room
-sample_active-told-requires-in-Acknowledged-clause-talker_room g c =
+pub sample_active-reported-requires-in-Acknowledged-clause-talker_room :
+    goal.sample_active-reported-requires-in-Acknowledged-clause-talker_room
+sample_active-reported-requires-in-Acknowledged-clause-talker_room g c =
     let before = c.resume_faulted.new.self in
     room_real _ before c.args.bit c.step_deferred.new.talkers (subst (HasRoom _ c.args.bit)
     (sym (ap (materialized before c.args.bit) c.in-Acknowledged.ensures.acknowledges.1 ∙
     c.resume_faulted.ensures.talkers))
     c.requires.talker_room)
 
-pub sample_active-told-requires-in-Acknowledged-clause-room :
-    goal.sample_active-told-requires-in-Acknowledged-clause-room
-sample_active-told-requires-in-Acknowledged-clause-room g c =
+pub sample_active-reported-requires-in-Acknowledged-clause-room :
+    goal.sample_active-reported-requires-in-Acknowledged-clause-room
+sample_active-reported-requires-in-Acknowledged-clause-room g c =
     let before = c.resume_faulted.new.self in
     room_real _ before c.args.bit c.step_deferred.new.controllers (subst (HasRoom _ c.args.bit)
     (sym (ap (materialized before c.args.bit) c.in-Acknowledged.ensures.acknowledges.2 ∙
     c.resume_faulted.ensures.controllers))
     c.requires.room)
 
-pub sample_active-told-requires-in-Acknowledged-clause-port :
-    goal.sample_active-told-requires-in-Acknowledged-clause-port
-sample_active-told-requires-in-Acknowledged-clause-port g c =
+pub sample_active-reported-requires-in-Acknowledged-clause-port :
+    goal.sample_active-reported-requires-in-Acknowledged-clause-port
+sample_active-reported-requires-in-Acknowledged-clause-port g c =
     let before = c.resume_faulted.new.self in
     transmits_real g.P.TxBus.transmitting before c.args.bit c.step_deferred.new.controllers c.args.ports.now
     (subst (λ ms. TransmitsAll g.P.TxBus.transmitting ms c.args.ports.now)
@@ -176,10 +176,10 @@ returns-in-Acknowledged-clause-talkers g c =
     (materialized c.count_received.new.self (bit + 1) c.count_received.new.talkers))
     (ap (materialized before bit) same.1 ∙ c.resume_faulted.ensures.talkers)
     (counting_sample before c.count_received.new.self bit 0 c.args.level c.args.faults.now t
-    c.sample_active-told-in-Acknowledged.new.talkers c.count_received.new.talkers since
+    c.sample_active-reported-in-Acknowledged.new.talkers c.count_received.new.talkers since
     (subst (AreDeferred before bit) (sym same.1) c.resume_faulted.ensures.holds.talkers_deferred)
     (subst (Unfaulted c.args.faults.now 0 bit) (sym same.1) c.resume_faulted.ensures.talkers_unfaulted)
-    c.sample_active-told-in-Acknowledged.ensures.talkers c.count_received.ensures.talkers)
+    c.sample_active-reported-in-Acknowledged.ensures.talkers c.count_received.ensures.talkers)
 
 pub returns-in-Acknowledged-clause-controllers : goal.returns-in-Acknowledged-clause-controllers
 returns-in-Acknowledged-clause-controllers g c =
@@ -187,7 +187,7 @@ returns-in-Acknowledged-clause-controllers g c =
     let after = c.count_received.new.self in
     let bit = c.args.bit in
     let cs = c.step_deferred.new.controllers in
-    let made = c.sample_active-told-in-Acknowledged.new in
+    let made = c.sample_active-reported-in-Acknowledged.new in
     let same = c.in-Acknowledged.ensures.acknowledges in
     let resumed = ap (materialized before bit) same.2 ∙ c.resume_faulted.ensures.controllers in
     let first : length c.step_deferred.new.talkers ≡ length c.args.talkers.now =
@@ -210,7 +210,7 @@ returns-in-Acknowledged-clause-controllers g c =
     sends
     (subst (λ n. AtBoth (λ k. IfActiveBoth (PortSettles g.P.TxBus.bus_after g.P.TxBus.bus_asked g.P.TxBus.transmitting
     g.P.RxSink.sink_after g.P.RxSink.port_stays bit (sampled_level c.args.faults.now (n + k) bit c.args.level)))
-    cs made.controllers c.args.ports.now made.ports) first c.sample_active-told-in-Acknowledged.ensures.controllers)
+    cs made.controllers c.args.ports.now made.ports) first c.sample_active-reported-in-Acknowledged.ensures.controllers)
     c.count_received.ensures.controllers)
 
 pub returns-in-Acknowledged-clause-is_deferred : goal.returns-in-Acknowledged-clause-is_deferred
@@ -220,8 +220,8 @@ returns-in-Acknowledged-clause-is_deferred g c =
     let bit = c.args.bit in
     let t = c.step_deferred.new.talkers in
     let cs = c.step_deferred.new.controllers in
-    let made = c.sample_active-told-in-Acknowledged.new in
-    let steps = c.sample_active-told-in-Acknowledged.ensures in
+    let made = c.sample_active-reported-in-Acknowledged.new in
+    let steps = c.sample_active-reported-in-Acknowledged.ensures in
     let counted = c.count_received.ensures in
     let same = c.in-Acknowledged.ensures.acknowledges in
     let since = behind_slot c.args.level before c.step_deferred.new.self after same.0 counted.same in
@@ -243,9 +243,9 @@ returns-in-Acknowledged-clause-is_deferred g c =
 pub returns-in-Acknowledged-clause-uneventful : goal.returns-in-Acknowledged-clause-uneventful
 returns-in-Acknowledged-clause-uneventful g c none =
     let after = c.count_received.new.self in
-    let made = c.sample_active-told-in-Acknowledged.new in
+    let made = c.sample_active-reported-in-Acknowledged.new in
     let is_deferred = returns-in-Acknowledged-clause-is_deferred g c in
-    let uneventful = c.sample_active-told-in-Acknowledged.ensures.uneventful none in (
+    let uneventful = c.sample_active-reported-in-Acknowledged.ensures.uneventful none in (
       counting_all_uneventful after c.args.bit made.talkers c.count_received.new.talkers is_deferred.talkers_deferred
           c.count_received.ensures.talkers uneventful.0,
       counting_all_uneventful after c.args.bit made.controllers c.count_received.new.controllers
@@ -253,8 +253,8 @@ returns-in-Acknowledged-clause-uneventful g c none =
           c.count_received.ensures.controllers uneventful.1,
     )
 
-pub sample_together-told-requires-clause-any_deferred : goal.sample_together-told-requires-clause-any_deferred
-sample_together-told-requires-clause-any_deferred g c =
+pub sample_together-reported-requires-clause-any_deferred : goal.sample_together-reported-requires-clause-any_deferred
+sample_together-reported-requires-clause-any_deferred g c =
     let same = c.in-Shares.ensures.same in
     subst (λ deferred. AreDeferred deferred c.args.bit c.step_deferred.new.talkers) (sym same.0)
     (subst (AreDeferred c.resume_faulted.new.self c.args.bit) (sym same.1)
@@ -270,22 +270,22 @@ returns-in-Shares-clause-controllers g c =
     ≡ materialized c.args.deferred.now c.args.bit c.args.controllers.now =
     ap (λ deferred. materialized deferred c.args.bit c.step_deferred.new.controllers) same.0
     ∙ ap (materialized c.resume_faulted.new.self c.args.bit) same.2 ∙ c.resume_faulted.ensures.controllers in
-    let after = materialized c.sample_together-told.new.deferred (c.args.bit + 1) c.sample_together-told.new.controllers
+    let after = materialized c.sample_together-reported.new.deferred (c.args.bit + 1) c.sample_together-reported.new.controllers
     in
     subst (λ n. AtBoth (λ k. PortSettles g.P.TxBus.bus_after g.P.TxBus.bus_asked g.P.TxBus.transmitting
     g.P.RxSink.sink_after g.P.RxSink.port_stays c.args.bit
     (sampled_level c.args.faults.now (n + k) c.args.bit c.args.level))
     (materialized c.args.deferred.now c.args.bit c.args.controllers.now) after c.args.ports.now
-    c.sample_together-told.new.ports) first
+    c.sample_together-reported.new.ports) first
     (subst (λ ms. AtBoth (λ k. PortSettles g.P.TxBus.bus_after g.P.TxBus.bus_asked g.P.TxBus.transmitting
     g.P.RxSink.sink_after g.P.RxSink.port_stays c.args.bit
     (sampled_level c.args.faults.now (length c.step_deferred.new.talkers + k) c.args.bit c.args.level)) ms after
-    c.args.ports.now c.sample_together-told.new.ports) before c.sample_together-told.ensures.controllers)
+    c.args.ports.now c.sample_together-reported.new.ports) before c.sample_together-reported.ensures.controllers)
 
 pub returns-in-Shares-clause-is_deferred : goal.returns-in-Shares-clause-is_deferred
 returns-in-Shares-clause-is_deferred g c =
-    let made = c.sample_together-told.new in
-    let within = c.sample_together-told.ensures.within in
-    let fit = c.sample_together-told.ensures.fit in
+    let made = c.sample_together-reported.new in
+    let within = c.sample_together-reported.ensures.within in
+    let fit = c.sample_together-reported.ensures.fit in
     none_deferred made.deferred (c.args.bit + 1) c.args.plan.now made.talkers made.controllers
-    within.0 within.1 fit.0 fit.1 c.sample_together-told.ensures.active.0 c.sample_together-told.ensures.active.1
+    within.0 within.1 fit.0 fit.1 c.sample_together-reported.ensures.active.0 c.sample_together-reported.ensures.active.1

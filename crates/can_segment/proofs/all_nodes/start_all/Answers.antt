@@ -40,7 +40,7 @@ returns-clause-talkers g c =
     (materialized c.resume_starters.new.self c.args.bit c.start_talkers.new.members)) starters_resumed.talkers
     (talkers_start c.resume_starters.new.self c.args.bit c.args.plan.now c.resume_starters.new.talkers
     c.start_talkers.new.members
-    starters_resumed.none starters_resumed.holds.talkers_deferred starters_resumed.holds.talkers_finished
+    starters_resumed.none starters_resumed.holds.talkers_deferred starters_resumed.holds.talkers_not_due
     c.start_talkers.ensures)
 
 pub returns-clause-controllers : goal.returns-clause-controllers

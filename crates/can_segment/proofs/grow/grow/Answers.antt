@@ -1,6 +1,6 @@
 use Rattle.std.proofs.Common.{rules, ◌≡◌, ◌+◌, ◌∷◌, [], length, arith, sym, ap, subst, ◌∙◌, length-append}
 use Rattle.std.proofs.lemmas.Option.{slice_get_within}
-use Rattle.can_segment.specs.Brought.{IsBrought, told_of}
+use Rattle.can_segment.specs.Brought.{IsBrought, kinds_of}
 use Rattle.can_segment.specs.Kept.{SegmentKept}
 use Rattle.can_station.specs.Members.{wants_at}
 use Rattle.can_station.specs.Ports.{item_of}
@@ -155,12 +155,12 @@ returns-clause-bit g c =
           let stood = stands.controllers_stand k planned.0 x.0 planned.1 x.1 in
           let behind : length made.kept.trace ≡ bit + 1 = sym (run_length made.kept.run) ∙ sym longer in
           subst (λ sends. IsBrought g.P.TxBus.bus_after g.P.TxBus.bus_asked g.P.TxBus.transmitting g.P.RxSink.sink_after
-          g.P.RxSink.port_stays (told_of (length c.args.plan.now.talkers.items + k) lines) (wants_at bit a)
+          g.P.RxSink.port_stays (kinds_of (length c.args.plan.now.talkers.items + k) lines) (wants_at bit a)
           (item_of sends) p q)
           (sym (alike.at k x.0 m x.1 e).sending_is)
           (port_brought g.P.TxBus.bus_after g.P.TxBus.bus_asked g.P.TxBus.transmitting g.P.RxSink.sink_after
           g.P.RxSink.port_stays bit (wants_at bit a) _ x.0 p q
-          (ap (λ n. told_of (n + k) lines) (sym stands.talkers_size) ∙ of_controller bit talkers controllers k x.0 x.1)
+          (ap (λ n. kinds_of (n + k) lines) (sym stands.talkers_size) ∙ of_controller bit talkers controllers k x.0 x.1)
           (λ early. stood.uneventful (omega (arith, behind, early, stood.on_is))) (made.port k a x.0 p q d x.1 f h));
       size = made.size;
     }

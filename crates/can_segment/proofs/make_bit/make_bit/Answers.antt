@@ -75,7 +75,7 @@ returns-clause-kept g c =
     c.move_nodes-level.result.level (materialized old bit c.args.talkers.now) talkers
     (materialized old bit c.args.controllers.now) controllers
     kept here c.requires.still c.move_nodes-level.ensures.nodes in
-    let told : c.args.events.now.items ++ bit_lines bit talkers controllers ≡ c.tell.new.events.items =
+    let reported : c.args.events.now.items ++ bit_lines bit talkers controllers ≡ c.tell.new.events.items =
     ap (λ es. c.args.events.now.items ++ es)
     (lines_whole bit new (bit + 1) c.move_nodes-level.new.talkers c.move_nodes-level.new.controllers)
     ∙ sym c.tell.ensures in
@@ -84,7 +84,7 @@ returns-clause-kept g c =
     (materialized new (n + 1) c.move_nodes-level.new.controllers)) here
     (subst (λ ls. SegmentKept c.args.plan.now ls c.tell.new.events.items talkers controllers) (sym c.keep.ensures)
     (subst (λ es. SegmentKept c.args.plan.now (c.args.levels.now.items ++ c.move_nodes-level.result.level ∷ []) es
-    talkers controllers) told next))
+    talkers controllers) reported next))
 
 pub returns-clause-events : goal.returns-clause-events
 returns-clause-events g c =

@@ -30,10 +30,10 @@ loop-place-preserved c =
     let less = c.loop-place.invariant.samples.within place has in
     let found = slice_get-get_or members place c.index-members-place.result
     (omega (arith, less, c.loop-place.invariant.samples.size)) in
-    let sample = c.sample-told.ensures in
+    let sample = c.sample-reported.ensures in
     record {
       samples = but_step (λ k. IfActive (NodeSamples c.args.first c.args.bit c.args.level c.args.faults.now k))
-          c.args.members.now members c.loop-place.left c.take_first.new.self place _ c.sample-told.new.self has
+          c.args.members.now members c.loop-place.left c.take_first.new.self place _ c.sample-reported.new.self has
           c.in-Some.ensures.some.1 found
           (record {
             stays_deferred = sample.is_deferred;
@@ -41,9 +41,9 @@ loop-place-preserved c =
             steps = λ e. let samples = sample.member e in rw c.sampled_level-own.ensures at samples;
           })
           c.loop-place.invariant.samples;
-      uneventful = λ e. let none = or_parts c.loop-place.told c.sample-told.result e in
+      uneventful = λ e. let none = or_parts c.loop-place.reported c.sample-reported.result e in
           each_set (λ k m. m.is_deferred ≡ false → m.on ≤ c.args.bit → IsUneventful m.action) members c.loop-place.left
-          c.take_first.new.self place c.sample-told.new.self c.in-Some.ensures.some.1
+          c.take_first.new.self place c.sample-reported.new.self c.in-Some.ensures.some.1
           (omega (arith, less, c.loop-place.invariant.samples.size))
           (sample.uneventful none.1) (c.loop-place.invariant.uneventful none.0);
     }

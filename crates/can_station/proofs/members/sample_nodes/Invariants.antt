@@ -11,7 +11,7 @@ invariant-loop-place l =
     record {
       samples : AtPlacesBut (λ k. IfActive (NodeSamples l.first l.bit l.level l.faults k)) l.initial.members l.members
           l.left;
-      uneventful : l.told ≡ false → EachBut (λ k m. m.is_deferred ≡ false → m.on ≤ l.bit → IsUneventful m.action)
+      uneventful : l.reported ≡ false → EachBut (λ k m. m.is_deferred ≡ false → m.on ≤ l.bit → IsUneventful m.action)
           l.members l.left;
     }
 

@@ -40,7 +40,7 @@ loop-place-preserved c =
           (sym (slice_get-get_or c.args.talkers.now place c.index-talkers-place.result
           (omega (arith, less, c.requires.talkers))) ∙ is) in
           let starts = c.start_talking.ensures.starts e in
-          subst (λ x. StartsTalking c.args.bit old c.start_talking.new.self x.frames.items) same
+          subst (λ x. StartsTalking c.args.bit old c.start_talking.new.self x.queue.items) same
           (rw c.as_slice.ensures.value at starts);
     })
     c.loop-place.invariant

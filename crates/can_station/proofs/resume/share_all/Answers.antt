@@ -13,11 +13,11 @@ loop-place-preserved c =
     let found = slice_get-get_or members place c.index-members-place.result (omega (arith, c.loop-place-test.true)) in
     record {
       shares = places_step (λ k. Shares c.args.shared.now c.args.bit c.args.level) c.args.members.now members place _
-          c.share-told.new.self (omega (arith, c.loop-place-test.true, size)) found c.share-told.ensures.shares
+          c.share-reported.new.self (omega (arith, c.loop-place-test.true, size)) found c.share-reported.ensures.shares
           c.loop-place.invariant.shares;
-      uneventful = λ e. let none = or_parts c.loop-place.told c.share-told.result e in
-          places_step (λ k. TellsNone) c.args.members.now members place _ c.share-told.new.self
-          (omega (arith, c.loop-place-test.true, size)) found (c.share-told.ensures.uneventful none.1)
+      uneventful = λ e. let none = or_parts c.loop-place.reported c.share-reported.result e in
+          places_step (λ k. TellsNone) c.args.members.now members place _ c.share-reported.new.self
+          (omega (arith, c.loop-place-test.true, size)) found (c.share-reported.ensures.uneventful none.1)
           (c.loop-place.invariant.uneventful none.0);
     }
 

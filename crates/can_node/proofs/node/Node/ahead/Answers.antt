@@ -8,4 +8,4 @@ returns-in-Transmitting-clause-may c some =
     let place = c.in-Transmitting.place in
     let ahead : StandAhead c.args.self.now.spelling place c.ahead.result.now =
     rw c.spelling.ensures at c.ahead.ensures.ahead in
-    sends_on c.in-Transmitting.field-0 place refl c.in-Transmitting.is ahead c.ahead.ensures.short
+    sends_on c.in-Transmitting.start place refl c.in-Transmitting.is ahead c.ahead.ensures.short

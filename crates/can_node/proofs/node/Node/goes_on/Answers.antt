@@ -7,4 +7,4 @@ returns-in-Transmitting-clause-may c goes =
     let node = c.args.self.now in
     let on : SendsOn c.args.level node.spelling c.in-Transmitting.place =
     rw c.spelling.ensures at c.goes_on.ensures.yes goes in
-    sends c.in-Transmitting.field-0 c.in-Transmitting.place c.in-Transmitting.is on
+    sends c.in-Transmitting.start c.in-Transmitting.place c.in-Transmitting.is on

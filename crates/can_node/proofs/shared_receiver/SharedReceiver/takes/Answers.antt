@@ -5,4 +5,4 @@ pub returns : goal.returns
 returns c =
     let here = c.in-Receiving-default-default-AfterSlot in
     let push = c.in_ok-frame.ensures in
-    all_take c.args.self.now here.start here.field-1 here.field-2 c.args.level c.in_ok-frame.frame push.0 here.is push.1
+    all_take c.args.self.now here.start here.may_begin here.stage c.args.level c.in_ok-frame.frame push.0 here.is push.1

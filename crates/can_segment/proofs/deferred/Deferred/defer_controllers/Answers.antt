@@ -1,4 +1,4 @@
-use Rattle.std.proofs.Common.{◌<◌, arith, false, length, set}
+use Rattle.std.proofs.Common.{◌<◌, arith, length, set}
 use Rattle.std.proofs.lemmas.List.{length-set}
 use Rattle.std.proofs.lemmas.Option.{slice_get-get_or}
 use Rattle.can_segment.proofs.Regroups.{active_step, counted_end, counted_start, counted_step, deferring_end}
@@ -11,7 +11,7 @@ loop-place-init c = record {
   deferring = deferring_start c.args.self.now c.args.bit c.args.members.now c.args.self.now.controllers
       c.requires.within
       c.requires.is_deferred;
-  active = c.requires.finished;
+  active = c.requires.none;
   counted = counted_start c.none-active.result.places c.args.self.now.controllers c.args.members.now
       c.none-active.ensures c.requires.within;
 }
@@ -32,7 +32,7 @@ loop-place-preserved c =
     let room : place < length members = omega (arith, before, so_far.deferring.defer_some.size) in
     let here = slice_get-get_or members place c.index-members-place.result room in
     record {
-      deferring = deferring_step false c.args.self.now c.loop-place.self c.defer_matching_node-listens.new.self
+      deferring = deferring_step 0 c.args.self.now c.loop-place.self c.defer_matching_node-listens.new.self
           c.args.bit
           c.args.members.now members c.loop-place.left c.take_first.new.self place _
           c.defer_matching_node-listens.new.member has

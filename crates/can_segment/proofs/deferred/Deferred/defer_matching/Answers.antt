@@ -1,8 +1,10 @@
 use Rattle.std.proofs.Common.{arith, subst, sym, ap, ◌∙◌}
 use Rattle.can_station.specs.DeferredNodes.{AreAlike, ActiveWithin}
 use Rattle.can_segment.specs.DeferredState.{materialized}
-use Rattle.can_segment.proofs.Regroups.{alike_at_rest, alike_self, chosen_active, chosen_deferred, chosen_same}
-use Rattle.can_segment.proofs.Regroups.{chosen_finished, lain_within, less_deferred_all}
+use Rattle.can_segment.proofs.Holds.{sooner_not_due}
+use Rattle.can_segment.proofs.Alike.{alike_deferred_or_same, alike_self}
+use Rattle.can_segment.proofs.Regroups.{chosen_active, chosen_deferred, chosen_same}
+use Rattle.can_segment.proofs.Regroups.{chosen_not_due, lain_within, less_deferred_all}
 use Rattle.can_segment.proofs.deferred.Deferred.defer_matching.Goals as goal
 
 pub returns-then-not-self : goal.returns-then-not-self
@@ -20,8 +22,8 @@ returns-then-not-self c =
       holds = record {
         talkers_deferred = chosen_deferred old new bit talkers chosen held.talkers_deferred;
         controllers_deferred = chosen_deferred old new bit controllers chosen held.controllers_deferred;
-        talkers_finished = chosen_finished old new bit c.args.plan.now talkers chosen held.talkers_deferred
-            held.talkers_finished;
+        talkers_not_due = chosen_not_due old new bit c.args.plan.now talkers chosen held.talkers_deferred
+            held.talkers_not_due;
         controllers_active = chosen_active old new bit controllers chosen held.controllers_deferred
             held.controllers_active;
         talkers_within = subst (λ set. ActiveWithin set talkers) (sym chosen.talkers_is) held.talkers_within;
@@ -48,10 +50,10 @@ defer_talkers-active-requires-clause-is_deferred c = chosen_deferred c.args.self
     c.args.talkers.now
     c.choose_receiver.ensures c.requires.holds.talkers_deferred
 
-pub defer_talkers-active-requires-clause-finished : goal.defer_talkers-active-requires-clause-finished
-defer_talkers-active-requires-clause-finished c = chosen_finished c.args.self.now c.choose_receiver.new.self c.args.bit
+pub defer_talkers-active-requires-clause-not_due : goal.defer_talkers-active-requires-clause-not_due
+defer_talkers-active-requires-clause-not_due c = chosen_not_due c.args.self.now c.choose_receiver.new.self c.args.bit
     c.args.plan.now
-    c.args.talkers.now c.choose_receiver.ensures c.requires.holds.talkers_deferred c.requires.holds.talkers_finished
+    c.args.talkers.now c.choose_receiver.ensures c.requires.holds.talkers_deferred c.requires.holds.talkers_not_due
 
 pub defer_controllers-active_too-requires-clause-is_deferred :
     goal.defer_controllers-active_too-requires-clause-is_deferred
@@ -62,11 +64,11 @@ defer_controllers-active_too-requires-clause-is_deferred c =
     c.choose_receiver.ensures
     c.requires.holds.controllers_deferred)
 
-pub defer_controllers-active_too-requires-clause-finished : goal.defer_controllers-active_too-requires-clause-finished
-defer_controllers-active_too-requires-clause-finished c is =
+pub defer_controllers-active_too-requires-clause-none : goal.defer_controllers-active_too-requires-clause-none
+defer_controllers-active_too-requires-clause-none c later =
     chosen_active c.args.self.now c.choose_receiver.new.self c.args.bit c.args.controllers.now c.choose_receiver.ensures
     c.requires.holds.controllers_deferred c.requires.holds.controllers_active
-    (c.defer_talkers-active.ensures.less.finishes is)
+    (omega (arith, later, c.defer_talkers-active.ensures.less.sooner))
 
 pub settle-requires : goal.settle-requires
 settle-requires c =
@@ -85,9 +87,10 @@ settle-requires c =
             c.defer_talkers-active.new.members c.defer_controllers-active_too.ensures.less
             c.defer_talkers-active.ensures.is_deferred;
         controllers_deferred = c.defer_controllers-active_too.ensures.is_deferred;
-        talkers_finished = λ s. c.defer_talkers-active.ensures.finished
-            (c.defer_controllers-active_too.ensures.less.finishes s);
-        controllers_active = c.defer_controllers-active_too.ensures.finished;
+        talkers_not_due = sooner_not_due c.defer_talkers-active.new.self c.defer_controllers-active_too.new.self
+            c.args.plan.now c.defer_talkers-active.new.members c.defer_controllers-active_too.ensures.less.sooner
+            c.defer_talkers-active.ensures.not_due;
+        controllers_active = c.defer_controllers-active_too.ensures.none;
         talkers_within = subst (λ set. ActiveWithin set c.defer_talkers-active.new.members) (sym talkers_is)
             (lain_within c.choose_receiver.new.self.shared_receiver c.args.bit c.args.talkers.now
             c.defer_talkers-active.new.members
@@ -109,7 +112,7 @@ returns c = record {
   talkers =
       let before = c.defer_controllers-active_too.ensures.less.shared_receiver_is ∙
       c.defer_talkers-active.ensures.less.shared_receiver_is in
-      let lain = alike_at_rest c.choose_receiver.new.self.shared_receiver
+      let lain = alike_deferred_or_same c.choose_receiver.new.self.shared_receiver
       c.defer_controllers-active_too.new.self.shared_receiver c.args.bit
       c.args.talkers.now c.defer_talkers-active.new.members before c.defer_talkers-active.ensures.defer_some in
       subst (λ ms. AreAlike ms (materialized c.settle.new.self c.args.bit c.settle.new.talkers))
@@ -119,7 +122,7 @@ returns c = record {
       (sym c.settle.ensures.talkers) lain);
   controllers =
       let mid = c.defer_talkers-active.new.self in
-      let lain = alike_at_rest mid.shared_receiver c.defer_controllers-active_too.new.self.shared_receiver c.args.bit
+      let lain = alike_deferred_or_same mid.shared_receiver c.defer_controllers-active_too.new.self.shared_receiver c.args.bit
       c.args.controllers.now
       c.defer_controllers-active_too.new.members c.defer_controllers-active_too.ensures.less.shared_receiver_is
       c.defer_controllers-active_too.ensures.defer_some in
@@ -129,7 +132,7 @@ returns c = record {
         shared_receiver = shared_receiver;
         any_deferred = mid.any_deferred;
         known = mid.known;
-        finished = mid.finished;
+        next_start = mid.next_start;
         talkers = mid.talkers;
         controllers = mid.controllers;
       }) c.args.bit

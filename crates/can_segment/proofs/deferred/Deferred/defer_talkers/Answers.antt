@@ -1,17 +1,18 @@
-use Rattle.std.proofs.Common.{◌≡◌, ◌<◌, get_or, arith, None, length, sym, slice_get, subst, ◌∙◌, set}
+use Rattle.std.proofs.Common.{◌<◌, get_or, arith, length, sym, subst, ◌∙◌, set}
 use Rattle.std.proofs.lemmas.List.{length-set}
 use Rattle.std.proofs.lemmas.Option.{slice_get-get_or}
 use Rattle.can_segment.proofs.Regroups.{counted_end, counted_start, counted_step, deferring_end, deferring_start}
 use Rattle.can_segment.proofs.Regroups.{deferring_step}
-use Rattle.can_segment.proofs.Regroups.{finished_step}
+use Rattle.can_segment.proofs.Regroups.{not_due_step}
 use Rattle.can_station.proofs.Places.{same_some}
+use Rattle.can_station.specs.Queues.{IsNotDueBefore}
 use Rattle.can_segment.proofs.deferred.Deferred.defer_talkers.Goals as goal
 
 pub loop-place-init : goal.loop-place-init
 loop-place-init c = record {
   deferring = deferring_start c.args.self.now c.args.bit c.args.members.now c.args.self.now.talkers c.requires.within
       c.requires.is_deferred;
-  finished = c.requires.finished;
+  not_due = c.requires.not_due;
   counted = counted_start c.none-active.result.places c.args.self.now.talkers c.args.members.now
       c.none-active.ensures c.requires.within;
 }
@@ -38,19 +39,18 @@ loop-place-preserved c =
     let talker = get_or c.args.plan.now place c.index-plan-place.result in
     let there = slice_get-get_or c.args.plan.now place c.index-plan-place.result
     (omega (arith, before, c.requires.plan)) in
-    let finished = c.has_sent_all-finished.ensures in
-    let told = rw c.as_slice.ensures.value at finished in
     record {
-      deferring = deferring_step c.has_sent_all-finished.result c.args.self.now c.loop-place.self
+      deferring = deferring_step c.next_due-next_due.result c.args.self.now c.loop-place.self
           c.defer_matching_node-listens.new.self c.args.bit
           c.args.members.now members c.loop-place.left c.take_first.new.self place old
           c.defer_matching_node-listens.new.member has
           c.in-Some.ensures.some.1 here c.defer_matching_node-listens.ensures so_far.deferring;
-      finished = finished_step c.has_sent_all-finished.result c.loop-place.self c.defer_matching_node-listens.new.self
+      not_due = not_due_step c.next_due-next_due.result c.loop-place.self c.defer_matching_node-listens.new.self
           c.args.bit c.args.plan.now
           members place old c.defer_matching_node-listens.new.member talker room here there
           c.defer_matching_node-listens.ensures
-          (λ e. subst (λ m. slice_get talker.frames.items m.station.completed ≡ None) same (told e)) so_far.finished;
+          (subst (λ m. IsNotDueBefore talker.queue.items m.station.completed c.next_due-next_due.result) same
+          (rw c.as_slice.ensures.value at c.next_due-next_due.ensures)) so_far.not_due;
       counted = counted_step c.loop-place.active.places c.count.new.self.places c.loop-place.left c.take_first.new.self
           members place c.defer_matching_node-listens.new.member _ room c.in-Some.ensures.some.1
           (slice_get-get_or (set members place c.defer_matching_node-listens.new.member) place

@@ -2,7 +2,7 @@ use Rattle.std.proofs.Common.{arith}
 use Rattle.can_station.specs.DeferredNodes.{ClearsAction}
 use Rattle.can_station.proofs.PlaceSets.{within_places}
 use Rattle.can_segment.specs.DeferredState.{materialized}
-use Rattle.can_segment.proofs.Regroups.{all_alike_on, all_cleared}
+use Rattle.can_segment.proofs.Alike.{all_alike_on, all_cleared}
 use Rattle.can_segment.proofs.Holds.{left_holds}
 use Rattle.can_segment.proofs.Resumed.{left_places}
 use Rattle.can_segment.proofs.deferred.Deferred.regroup.Goals as goal
@@ -17,31 +17,31 @@ defer_matching-requires-clause-holds c =
     let c0 = c.args.controllers.now in
     let c1 = c.clear_actions-2.new.members in
     left_holds c.args.self.now c.args.bit c.args.plan.now t0 t1 c0 c1
-    (left_places (λ k. ClearsAction c.args.told) t0 t1 c.clear_actions.ensures)
-    (left_places (λ k. ClearsAction c.args.told) c0 c1 c.clear_actions-2.ensures)
-    (λ set. within_places (λ k. ClearsAction c.args.told) set t0 t1 c.clear_actions.ensures)
-    (λ set. within_places (λ k. ClearsAction c.args.told) set c0 c1 c.clear_actions-2.ensures)
+    (left_places (λ k. ClearsAction c.args.reported) t0 t1 c.clear_actions.ensures)
+    (left_places (λ k. ClearsAction c.args.reported) c0 c1 c.clear_actions-2.ensures)
+    (λ set. within_places (λ k. ClearsAction c.args.reported) set t0 t1 c.clear_actions.ensures)
+    (λ set. within_places (λ k. ClearsAction c.args.reported) set c0 c1 c.clear_actions-2.ensures)
     (omega (arith, c.clear_actions.ensures.size)) (omega (arith, c.clear_actions-2.ensures.size)) c.requires.holds
 
 pub returns-then-asks_at_each_bit : goal.returns-then-asks_at_each_bit
 returns-then-asks_at_each_bit c =
     let deferred = c.args.self.now in
     record {
-      talkers = all_cleared c.args.told deferred.shared_receiver c.args.bit c.args.talkers.now
+      talkers = all_cleared c.args.reported deferred.shared_receiver c.args.bit c.args.talkers.now
           c.clear_actions.new.members
           c.clear_actions.ensures;
-      controllers = all_cleared c.args.told deferred.shared_receiver c.args.bit c.args.controllers.now
+      controllers = all_cleared c.args.reported deferred.shared_receiver c.args.bit c.args.controllers.now
           c.clear_actions-2.new.members
           c.clear_actions-2.ensures;
       holds = left_holds deferred c.args.bit c.args.plan.now c.args.talkers.now c.clear_actions.new.members
           c.args.controllers.now c.clear_actions-2.new.members
-          (left_places (λ k. ClearsAction c.args.told) c.args.talkers.now c.clear_actions.new.members
+          (left_places (λ k. ClearsAction c.args.reported) c.args.talkers.now c.clear_actions.new.members
           c.clear_actions.ensures)
-          (left_places (λ k. ClearsAction c.args.told) c.args.controllers.now c.clear_actions-2.new.members
+          (left_places (λ k. ClearsAction c.args.reported) c.args.controllers.now c.clear_actions-2.new.members
           c.clear_actions-2.ensures)
-          (λ set. within_places (λ k. ClearsAction c.args.told) set c.args.talkers.now c.clear_actions.new.members
+          (λ set. within_places (λ k. ClearsAction c.args.reported) set c.args.talkers.now c.clear_actions.new.members
           c.clear_actions.ensures)
-          (λ set. within_places (λ k. ClearsAction c.args.told) set c.args.controllers.now c.clear_actions-2.new.members
+          (λ set. within_places (λ k. ClearsAction c.args.reported) set c.args.controllers.now c.clear_actions-2.new.members
           c.clear_actions-2.ensures)
           (omega (arith, c.clear_actions.ensures.size)) (omega (arith, c.clear_actions-2.ensures.size))
           c.requires.holds;
@@ -55,14 +55,14 @@ returns-else-defer_matching c =
           all_alike_on (materialized deferred c.args.bit c.args.talkers.now)
           (materialized deferred c.args.bit c.clear_actions.new.members)
           (materialized c.defer_matching.new.self c.args.bit c.defer_matching.new.talkers)
-          (all_cleared c.args.told deferred.shared_receiver c.args.bit c.args.talkers.now c.clear_actions.new.members
+          (all_cleared c.args.reported deferred.shared_receiver c.args.bit c.args.talkers.now c.clear_actions.new.members
           c.clear_actions.ensures)
           c.defer_matching.ensures.talkers;
       controllers =
           all_alike_on (materialized deferred c.args.bit c.args.controllers.now)
           (materialized deferred c.args.bit c.clear_actions-2.new.members)
           (materialized c.defer_matching.new.self c.args.bit c.defer_matching.new.controllers)
-          (all_cleared c.args.told deferred.shared_receiver c.args.bit c.args.controllers.now
+          (all_cleared c.args.reported deferred.shared_receiver c.args.bit c.args.controllers.now
           c.clear_actions-2.new.members
           c.clear_actions-2.ensures) c.defer_matching.ensures.controllers;
       holds = c.defer_matching.ensures.holds;
@@ -88,7 +88,7 @@ returns-then-defer_matching c =
           (all_alike_on (materialized deferred bit c.args.talkers.now) (materialized deferred bit
           c.clear_actions.new.members)
           (materialized mid bit c.defer_matching.new.talkers)
-          (all_cleared c.args.told deferred.shared_receiver bit c.args.talkers.now c.clear_actions.new.members
+          (all_cleared c.args.reported deferred.shared_receiver bit c.args.talkers.now c.clear_actions.new.members
           c.clear_actions.ensures)
           c.defer_matching.ensures.talkers) c.defer_matching-then-defer_matching.ensures.talkers;
       controllers =
@@ -98,7 +98,7 @@ returns-then-defer_matching c =
           (all_alike_on (materialized deferred bit c.args.controllers.now) (materialized deferred bit
           c.clear_actions-2.new.members)
           (materialized mid bit c.defer_matching.new.controllers)
-          (all_cleared c.args.told deferred.shared_receiver bit c.args.controllers.now c.clear_actions-2.new.members
+          (all_cleared c.args.reported deferred.shared_receiver bit c.args.controllers.now c.clear_actions-2.new.members
           c.clear_actions-2.ensures)
           c.defer_matching.ensures.controllers) c.defer_matching-then-defer_matching.ensures.controllers;
       holds = c.defer_matching-then-defer_matching.ensures.holds;

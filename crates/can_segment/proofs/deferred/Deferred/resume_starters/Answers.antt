@@ -1,17 +1,17 @@
 use Rattle.std.proofs.Common.{arith, map, inr, ap, ◌∙◌}
-use Rattle.can_station.specs.DeferredNodes.{ResumesUnfinished, resumed}
+use Rattle.can_station.specs.DeferredNodes.{ResumesDue, resumed}
 use Rattle.can_segment.proofs.Holds.{same_deferred}
 use Rattle.can_segment.proofs.Resumed.{all_resumed, resumes_left, resumes_same}
-use Rattle.can_station.proofs.Resuming.{unfinished_at}
+use Rattle.can_station.proofs.Resuming.{not_due_at}
 use Rattle.can_segment.proofs.deferred.Deferred.resume_starters.Goals as goal
 
 pub returns-clause-talkers : goal.returns-clause-talkers
 returns-clause-talkers c =
-    ap (λ shared_receiver. map (resumed shared_receiver c.args.bit) c.resume_each_unfinished.new.members)
+    ap (λ shared_receiver. map (resumed shared_receiver c.args.bit) c.resume_each_due-self.new.members)
     c.find_active.ensures.same.shared_receiver_is
-    ∙ resumes_same (ResumesUnfinished c.args.self.now.shared_receiver c.args.bit c.args.plan.now)
+    ∙ resumes_same (ResumesDue c.args.self.now.shared_receiver c.args.bit c.resume_each_due-self.result c.args.plan.now)
     c.args.self.now.shared_receiver c.args.bit
-    c.args.talkers.now c.resume_each_unfinished.new.members (λ k a b h. h.resumes) c.resume_each_unfinished.ensures
+    c.args.talkers.now c.resume_each_due-self.new.members (λ k a b h. h.resumes) c.resume_each_due-self.ensures.resumes
 
 pub returns-clause-controllers : goal.returns-clause-controllers
 returns-clause-controllers c =
@@ -22,9 +22,9 @@ returns-clause-controllers c =
 
 pub returns-clause-left : goal.returns-clause-left
 returns-clause-left c = (
-  resumes_left (ResumesUnfinished c.args.self.now.shared_receiver c.args.bit c.args.plan.now)
+  resumes_left (ResumesDue c.args.self.now.shared_receiver c.args.bit c.resume_each_due-self.result c.args.plan.now)
       c.args.self.now.shared_receiver c.args.bit
-      c.args.talkers.now c.resume_each_unfinished.new.members (λ k a b h. h.resumes) c.resume_each_unfinished.ensures,
+      c.args.talkers.now c.resume_each_due-self.new.members (λ k a b h. h.resumes) c.resume_each_due-self.ensures.resumes,
   resumes_left _ c.args.self.now.shared_receiver c.args.bit c.args.controllers.now c.resume_each.new.members
       (λ k a b h. inr h) c.resume_each.ensures,
 )
@@ -37,7 +37,7 @@ returns-clause-holds c =
     c.resume_each.ensures in
     let everywhere = c.find_active.ensures in
     record {
-      talkers_deferred = same_deferred _ c.find_active.new.self c.args.bit c.resume_each_unfinished.new.members
+      talkers_deferred = same_deferred _ c.find_active.new.self c.args.bit c.resume_each_due-self.new.members
           everywhere.same
           (λ k m e is. let h = held.talkers_deferred k m (left.0 k m e is) is in
           record {
@@ -49,11 +49,13 @@ returns-clause-holds c =
                 h.listening;
           });
       controllers_deferred = λ k m e is. absurd (let not = active k m e in cc (is, not));
-      talkers_finished = λ s k m talker e f is. unfinished_at c.args.self.now.shared_receiver c.args.bit c.args.plan.now
-          c.args.talkers.now c.resume_each_unfinished.new.members c.resume_each_unfinished.ensures k m talker e f is;
+      talkers_not_due = λ k m talker e f is at before. not_due_at c.args.self.now.shared_receiver c.args.bit
+          c.resume_each_due-self.result c.args.plan.now c.args.talkers.now c.resume_each_due-self.new.members
+          c.resume_each_due-self.ensures.resumes k m talker e f is at
+          (omega (arith, before, everywhere.same.next_start_is));
       controllers_active = λ s. active;
       talkers_within = everywhere.talkers;
       controllers_within = everywhere.controllers;
-      talkers_fit = omega (arith, c.resume_each_unfinished.ensures.size, held.talkers_fit);
+      talkers_fit = omega (arith, c.resume_each_due-self.ensures.resumes.size, held.talkers_fit);
       controllers_fit = omega (arith, c.resume_each.ensures.size, held.controllers_fit);
     }

@@ -25,7 +25,7 @@ returns-clause-holds c =
             listening =
                 h.listening;
           };
-      talkers_finished = held.talkers_finished;
+      talkers_not_due = held.talkers_not_due;
       controllers_active = held.controllers_active;
       talkers_within = c.requires.talkers;
       controllers_within = c.requires.controllers;

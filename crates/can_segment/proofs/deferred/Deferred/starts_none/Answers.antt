@@ -3,4 +3,4 @@ use Rattle.std.proofs.lemmas.Bool.{not-true}
 use Rattle.can_segment.proofs.deferred.Deferred.starts_none.Goals as goal
 
 pub returns : goal.returns
-returns c none = inr (λ node bit. sym (c.wants_start.ensures node bit) ∙ not-true c.wants_start.result none)
+returns c none = inr (λ node next. sym (c.wants_start.ensures node next) ∙ not-true c.wants_start.result none)

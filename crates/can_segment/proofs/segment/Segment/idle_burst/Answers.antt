@@ -1,4 +1,4 @@
-use Rattle.std.proofs.Common.{rules, ◌≡◌, ◌++◌, true, is_ok, length, arith, subst}
+use Rattle.std.proofs.Common.{rules, ◌≡◌, ◌<◌, ◌++◌, true, is_ok, length, arith, subst}
 use Rattle.can_segment.specs.UneventfulBits.{MakeIdleBits}
 use Rattle.can_segment.specs.UneventfulBits.MakeIdleBits.{no_idle_bit}
 use Rattle.can_segment.specs.DeferredState.{AreIdle}
@@ -9,9 +9,6 @@ use Rattle.can_segment.proofs.segment.Segment.idle_burst.Goals.{After-extend_fro
 
 pub returns-then-most-eq0-clause-bits : goal.returns-then-most-eq0-clause-bits
 returns-then-most-eq0-clause-bits c = no_idle_bit
-
-pub returns-then-not-are_idle-clause-bits : goal.returns-then-not-are_idle-clause-bits
-returns-then-not-are_idle-clause-bits c = no_idle_bit
 
 -- what stands behind them, and that they were made one after another
 ran : (c : After-extend_from_slice) →
@@ -26,14 +23,24 @@ ran c =
     let made = inside.made in
     let here : c.len-made.result ≡ length made.levels.items = search rules in
     let fine : is_ok c.extend_from_slice.result ≡ true = search rules in
-    let idle : AreIdle inside.deferred inside.plan.talkers.items inside.talkers.items inside.controllers.items =
+    let later : 0 < c.idle_until-idle.result = omega (
+      arith,
+      c.if-most-eq0.false,
+      c.min-most.ensures,
+      c.saturating_sub.ensures,
+      c.faultless_until-last.ensures.limit,
+      c.min-2.ensures,
+    ) in
+    let idle : AreIdle inside.deferred c.idle_until-idle.result inside.plan.talkers.items inside.talkers.items
+    inside.controllers.items =
     rw (c.as_slice.ensures.value, c.as_slice-2.ensures.value, c.as_slice-3.ensures.value) at
-    c.are_idle.ensures c.if-not-are_idle.false in
+    c.idle_until-idle.ensures later in
     let items : c.extend_from_slice.new.self.items ≡ made.levels.items ++ c.recessive.result.now =
     rw fine at c.extend_from_slice.ensures.items in
     rw items (idle_burst inside.plan inside.faults made.levels.items made.events.items made.counters.items
-    c.recessive.result.now inside.deferred inside.talkers.items inside.controllers.items c.faultless_until-last.result
-    c.recessive.ensures.recessive idle
+    c.recessive.result.now inside.deferred c.idle_until-idle.result inside.talkers.items inside.controllers.items
+    c.faultless_until-last.result c.recessive.ensures.recessive idle
+    (omega (arith, c.faultless_until-last.ensures.limit, c.min-2.ensures))
     (record { holds = c.self.invariant.0; stands = c.self.invariant.1; is_deferred = c.self.invariant.2 })
     (c.faultless_until-last.ensures.uneventful inside.plan)
     (omega (arith, c.faultless_until-last.ensures.limit, c.min.ensures))

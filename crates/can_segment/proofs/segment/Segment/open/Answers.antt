@@ -2,7 +2,7 @@ use Rattle.std.proofs.Common.{rules, length, arith, sym, ap, subst, refl, ◌≡
 use Rattle.std.proofs.lemmas.List.{length-map}
 use Rattle.can_segment.specs.declared.record.Record.{Record}
 use Rattle.can_station.specs.Ports.{item_of}
-use Rattle.can_station.specs.FaultOrder.{StandsAt}
+use Rattle.can_station.specs.CurrentFaults.{IsCurrent}
 use Rattle.can_station.specs.Fresh.{AreFresh}
 use Rattle.can_segment.specs.DeferredState.{materialized}
 use Rattle.can_segment.specs.Segments.{SegmentHolds}
@@ -35,7 +35,7 @@ invariant_of-result c =
       holds_active c.args.plan made c.none-deferred.result (length made.levels.items) talkers controllers active
           active_too
           held,
-      subst (λ n. StandsAt c.args.plan n c.in_ok-faults.faults) (sym (ap length c.new-2.ensures.items))
+      subst (λ n. IsCurrent c.args.plan n c.in_ok-faults.faults) (sym (ap length c.new-2.ensures.items))
           c.in_ok-faults.ensures,
       none_deferred c.none-deferred.result (length made.levels.items) c.args.plan.talkers.items talkers controllers
           (search rules) (search rules)

@@ -1,6 +1,6 @@
 use Rattle.std.proofs.Common.{rules, length-append, ◌≡◌, ◌+◌, ◌<◌, ◌++◌, ◌∷◌, [], length, slice_get, refl, arith, sym}
 use Rattle.std.proofs.Common.{ap, subst, ◌∙◌}
-use Rattle.can_station.specs.FaultOrder.{StandsAt}
+use Rattle.can_station.specs.CurrentFaults.{IsCurrent}
 use Rattle.can_segment.specs.UneventfulBits.{GrowsUneventfully}
 use Rattle.can_segment.specs.DeferredState.{materialized}
 use Rattle.can_segment.specs.Segments.{sending_of_all, wants_next}
@@ -55,13 +55,13 @@ invariant_of-self-2 c =
     let new = c.grow_uneventfully.new.deferred in
     let bit = length inside.made.levels.items in
     let next = length c.grow_uneventfully.new.made.levels.items in
-    let told = c.grow_uneventfully.ensures.uneventful (search rules) in
+    let reported = c.grow_uneventfully.ensures.uneventful (search rules) in
     let grown = subst (λ ms. GrowsUneventfully inside.faults inside.made c.grow_uneventfully.new.made deferred new
     inside.talkers.items c.grow_uneventfully.new.talkers ms c.grow_uneventfully.new.controllers)
     c.as_mut_slice-2.ensures.value
     (subst (λ ms. GrowsUneventfully inside.faults inside.made c.grow_uneventfully.new.made deferred new ms
     c.grow_uneventfully.new.talkers
-    c.as_mut_slice-2.result.now c.grow_uneventfully.new.controllers) c.as_mut_slice.ensures.value told) in
+    c.as_mut_slice-2.result.now c.grow_uneventfully.new.controllers) c.as_mut_slice.ensures.value reported) in
     let t_size = grown.sends.talkers.size in
     let c_size = grown.sends.controllers.size in
     let controllers = put_back inside.controllers.len c.grow_uneventfully.new.controllers inside.controllers.items
@@ -81,10 +81,10 @@ invariant_of-self-2 c =
     let here : c.len-made.result ≡ bit = search rules in
     let longer : c.len-made.result + 1 ≡ next =
     omega (arith, here, ap length grown.levels_is, length-append inside.made.levels.items (grown.level ∷ [])) in
-    let stood = subst (λ n. StandsAt inside.plan n inside.faults) (sym here) held.1 in (
+    let stood = subst (λ n. IsCurrent inside.plan n inside.faults) (sym here) held.1 in (
       rw (talkers, controllers) holds,
-      subst (λ n. StandsAt inside.plan n c.pass.new.self) longer
-          (c.pass.ensures.stands inside.plan stood),
+      subst (λ n. IsCurrent inside.plan n c.pass.new.self) longer
+          (c.pass.ensures.current inside.plan stood),
       rw (talkers, controllers) is_deferred,
     )
 
@@ -95,13 +95,13 @@ returns-clause-made c was_made =
     let new = c.grow_uneventfully.new.deferred in
     let bit = length inside.made.levels.items in
     let next = length c.grow_uneventfully.new.made.levels.items in
-    let told = c.grow_uneventfully.ensures.uneventful (search rules) in
+    let reported = c.grow_uneventfully.ensures.uneventful (search rules) in
     let grown = subst (λ ms. GrowsUneventfully inside.faults inside.made c.grow_uneventfully.new.made deferred new
     inside.talkers.items c.grow_uneventfully.new.talkers ms c.grow_uneventfully.new.controllers)
     c.as_mut_slice-2.ensures.value
     (subst (λ ms. GrowsUneventfully inside.faults inside.made c.grow_uneventfully.new.made deferred new ms
     c.grow_uneventfully.new.talkers
-    c.as_mut_slice-2.result.now c.grow_uneventfully.new.controllers) c.as_mut_slice.ensures.value told) in
+    c.as_mut_slice-2.result.now c.grow_uneventfully.new.controllers) c.as_mut_slice.ensures.value reported) in
     let c_size = grown.sends.controllers.size in
     let controllers = put_back inside.controllers.len c.grow_uneventfully.new.controllers inside.controllers.items
     (omega (arith, c.as_mut_slice-2.ensures.len, ap length c.as_mut_slice-2.ensures.value, c_size)) (sym c_size) in

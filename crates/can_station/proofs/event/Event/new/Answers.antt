@@ -11,5 +11,5 @@ invariant_of-result c = subst (λ parts. IsEvent (record {
   number = parts.3.number;
   node = c.args.node;
   route = parts.3.route;
-  kind = parts.0;
-})) (sym c.parts_of-kind.ensures) (parts_stand c.args.bit c.args.node c.args.told)
+  tag = parts.0;
+})) (sym c.parts_of-tag.ensures) (parts_stand c.args.bit c.args.node c.args.kind)
