@@ -8,7 +8,7 @@ use crate::nodes::frame_of;
 use crate::rate::millions;
 use bx_controller::Port;
 use bx_core::PlainMail;
-use can_segment::{Event, RxSink, SegFault, Segment, SegmentPlan, Talker};
+use can_segment::{DueFrame, Event, RxSink, SegFault, Segment, SegmentPlan, Talker};
 use std::alloc::{AllocError, Global};
 use std::io;
 use std::mem::size_of;
@@ -19,11 +19,12 @@ use std::time::Instant;
 const BITS: u64 = 1_000_000;
 
 fn talker(alloc: Global, id: u16, times: u32) -> Result<Talker, AllocError> {
-    let mut frames = Vec::new(alloc);
+    let mut queue = Vec::new(alloc);
     for _ in 0..times {
-        frames.push(frame_of(id))?;
+        let frame = frame_of(id);
+        queue.push(DueFrame { due: 0, frame })?;
     }
-    Ok(Talker { on: 0, frames })
+    Ok(Talker { on: 0, queue })
 }
 
 fn plan_of(alloc: Global, size: u16, times: u32) -> Result<SegmentPlan, AllocError> {

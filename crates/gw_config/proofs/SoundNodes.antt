@@ -1,5 +1,5 @@
 -- Controllers, routes and planned faults that are read without a fault are sound.
-use Rattle.std.proofs.Common.{◌≡◌, ◌∙◌, ap, sym, refl, subst, ℕ, zero, suc, ◌+◌, ◌-◌, ◌<◌, ◌≤◌, ◌==◌, ◌&&◌, nat_lt}
+use Rattle.std.proofs.Common.{◌≡◌, ◌∙◌, ap, sym, refl, subst, ℕ, zero, suc, ◌+◌, ◌<◌, ◌≤◌, ◌==◌, ◌&&◌, nat_lt}
 use Rattle.std.proofs.Common.{List, [], ◌∷◌, ◌++◌, length, count_by, get_or, slice_get, Bool, true, false, cond, Option}
 use Rattle.std.proofs.Common.{Some, None, Ok, Err, if◌then◌else◌, AllPairs, append_assoc, codes, arith}
 use Rattle.std.proofs.lemmas.Bool.{ltb-true, eq-eqb, eqb-true}
@@ -10,26 +10,31 @@ use Rattle.std.specs.List.{list_any}
 use Rattle.serde_json.specs.Data.{Data}
 use Rattle.bx_core.specs.Lists.{Each}
 use Rattle.gw_config.specs.declared.version.Version.{Version}
+use Rattle.gw_config.specs.declared.format.Format.{Format}
 use Rattle.gw_config.specs.declared.planned_fault.PlannedFault.{PlannedFault}
 use Rattle.gw_config.specs.declared.planned_fault.PlannedFault.TheVariants.{AtNode, OnLine}
 use Rattle.gw_fields.specs.Faults.{Fault, too_many, fifo_twice}
-use Rattle.gw_fields.specs.Fields.{object_of, whole, optional_truth, list}
+use Rattle.gw_fields.specs.Fields.{whole, optional_truth, list}
 use Rattle.gw_fields.specs.Names.{is_among, new_name, place_named}
-use Rattle.gw_config.specs.Talkers.{talker_names, most_nodes}
+use Rattle.gw_config.specs.Versions.{most_nodes}
+use Rattle.gw_config.specs.Objects.{element_of}
+use Rattle.gw_config.specs.Formats.{bit_of}
+use Rattle.gw_config.specs.Talkers.{talker_names}
 use Rattle.gw_config.specs.Segments.{SegmentValue, segment_names, all_talker_names, segments_of}
 use Rattle.gw_config.specs.BankLists.{banks_of}
 use Rattle.gw_config.specs.Rewrites.{rewrites_of}
 use Rattle.gw_config.specs.Controllers.{ControllerValue, controller_names, controllers_on, node_names, node_count}
-use Rattle.gw_config.specs.Controllers.{controller_with, controller_of, controllers_of}
-use Rattle.gw_config.specs.Routes.{RouteValue, route_names, takes_from, routes_into, placed, route_with, route_of}
-use Rattle.gw_config.specs.Routes.{routes_of}
+use Rattle.gw_config.specs.Controllers.{controller_with, controller_fields, controller_of, controllers_of}
+use Rattle.gw_config.specs.Routes.{RouteValue, route_names, takes_from, routes_into, placed, route_with}
+use Rattle.gw_config.specs.Routes.{route_fields, route_of, routes_of}
 use Rattle.gw_config.specs.PlannedFaults.{planned_faults_of}
 use Rattle.gw_config.specs.Scripts.{ScriptValue}
 use Rattle.gw_config.specs.Nodes.{talkers_on, names_of_nodes}
-use Rattle.gw_config.specs.SoundScripts.{HasFewFrames, IsAtNode, AreApart, TakesElsewhere}
+use Rattle.gw_config.specs.SoundScripts.{HasFewMessages, IsAtNode, AreApart, TakesElsewhere}
 use Rattle.gw_config.proofs.NodeLaws.{length-names}
 use Rattle.gw_fields.proofs.Readings.{from_bind, passed_ok, each_after_keeps, new_name_ok}
-use Rattle.gw_config.proofs.SoundLaws.{HasFewTalkers, segments_ok, apart_more, none_passes}
+use Rattle.gw_config.proofs.Lists.{each_weaker}
+use Rattle.gw_config.proofs.SoundLaws.{HasFewTalkers, nodes_below, segments_ok, apart_more, none_passes}
 use Rattle.gw_config.proofs.SoundFaults.{IsFaultAtNode, faults_ok}
 
 -- one element more is counted where it passes
@@ -40,9 +45,9 @@ count-more test xs x =
     sum_by-append (λ y. cond (test y) 1 0) xs (x ∷ []) in
     parts ∙ ap (λ n. count_by test xs + n) (let one : 0 + cond (test x) 1 0 ≡ cond (test x) 1 0 = omega arith in one)
 
--- no segment has more than 16 nodes with these controllers
+-- no segment has more than 64 nodes with these controllers
 abbrev pub HaveFewNodes : List SegmentValue → List ControllerValue → Type 0
-HaveFewNodes segments cs = (place : ℕ) → node_count cs place (slice_get segments place) ≤ 16
+HaveFewNodes segments cs = (place : ℕ) → node_count cs place (slice_get segments place) ≤ 64
 
 pub record AreNewControllers (segments : List SegmentValue) (cs : List ControllerValue) : Type 0 where
   pub names : AreApart (all_talker_names segments ++ controller_names cs)
@@ -51,17 +56,17 @@ pub record AreNewControllers (segments : List SegmentValue) (cs : List Controlle
 record IsNewController (segments : List SegmentValue) (front : List ControllerValue)
     (c : ControllerValue) : Type 0 where
   pub name : is_among c.name (all_talker_names segments ++ controller_names front) ≡ false
-  pub room : node_count front c.segment (slice_get segments c.segment) < 16
+  pub room : node_count front c.segment (slice_get segments c.segment) < 64
 
 -- one controller more, where its segment has room
-count_stays : (b : Bool) (few count : ℕ) → few + count ≤ 16 → (b ≡ true → few + count < 16) →
-    few + (count + cond b 1 0) ≤ 16
+count_stays : (b : Bool) (few count : ℕ) → few + count ≤ 64 → (b ≡ true → few + count < 64) →
+    few + (count + cond b 1 0) ≤ 64
 count_stays true few count before room = omega (arith, room refl)
 count_stays false few count before room = omega (arith, before)
 
 more_on : (o : Option SegmentValue) (front : List ControllerValue) (c : ControllerValue) (place : ℕ) →
-    node_count front place o ≤ 16 → (c.segment ≡ place → node_count front place o < 16) →
-    node_count (front ++ c ∷ []) place o ≤ 16
+    node_count front place o ≤ 64 → (c.segment ≡ place → node_count front place o < 64) →
+    node_count (front ++ c ∷ []) place o ≤ 64
 more_on None front c place before room = omega arith
 more_on (Some s) front c place before room =
     let test : ControllerValue → Bool = λ one. one.segment == place in
@@ -69,10 +74,10 @@ more_on (Some s) front c place before room =
     (λ on. room (eqb-true c.segment place on)))
 
 nodes_more : (segments : List SegmentValue) (front : List ControllerValue) (c : ControllerValue) →
-    HaveFewNodes segments front → node_count front c.segment (slice_get segments c.segment) < 16 →
+    HaveFewNodes segments front → node_count front c.segment (slice_get segments c.segment) < 64 →
     HaveFewNodes segments (front ++ c ∷ [])
 nodes_more segments front c before room place = more_on (slice_get segments place) front c place (before place)
-    (λ on. let P : ℕ → Type 0 = λ k. node_count front k (slice_get segments k) < 16 in subst P on room)
+    (λ on. let P : ℕ → Type 0 = λ k. node_count front k (slice_get segments k) < 64 in subst P on room)
 
 controllers_more : (segments : List SegmentValue) (front : List ControllerValue) (c : ControllerValue) →
     AreNewControllers segments front → IsNewController segments front c →
@@ -85,32 +90,31 @@ controllers_more segments front c before here = record {
   few = nodes_more segments front c before.few here.room;
 }
 
-controller_room : (version : Version) (bits : ℕ) (segments : List SegmentValue) (front : List ControllerValue)
-    (name : List ℕ) (segment : ℕ) (from : Data) (c : ControllerValue) →
-    controller_with version bits segments front name segment from ≡ Ok c → (name ≡ c.name)
-    × (node_count front c.segment (slice_get segments c.segment) < 16)
+controller_room : (format : Format) (segments : List SegmentValue) (front : List ControllerValue) (name : List ℕ)
+    (segment : ℕ) (from : Data) (c : ControllerValue) →
+    controller_with format segments front name segment from ≡ Ok c → (name ≡ c.name)
+    × (node_count front c.segment (slice_get segments c.segment) < 64)
 unfolding controller_with
-controller_room version bits segments front name segment from c e =
-    from_bind (whole (codes "on") 0 (bits - 1) from) _ c e (λ on is_on e1.
+controller_room format segments front name segment from c e =
+    from_bind (bit_of format (codes "on") from) _ c e (λ on is_on e1.
     from_bind (optional_truth (codes "txfp") true from) _ c e1 (λ txfp is_txfp e2.
-    from_bind (banks_of version from) _ c e2 (λ banks are_banks e3.
+    from_bind (banks_of format.version from) _ c e2 (λ banks are_banks e3.
     let read : ControllerValue = record { name = name; segment = segment; on = on; txfp = txfp; banks = banks } in
-    let test = passed_ok (nat_lt (node_count front segment (slice_get segments segment)) most_nodes) read c
-    (too_many (codes "controllers")) e3 in
+    let count : ℕ = node_count front segment (slice_get segments segment) in
+    let test = passed_ok (nat_lt count (most_nodes format.version)) read c (too_many (codes "controllers")) e3 in
     let P : ControllerValue → Type 0 =
-    λ one. (name ≡ one.name) × (node_count front one.segment (slice_get segments one.segment) < 16) in
-    subst P test.1 (refl, ltb-true (node_count front segment (slice_get segments segment)) 16 test.0))))
+    λ one. (name ≡ one.name) × (node_count front one.segment (slice_get segments one.segment) < 64) in
+    subst P test.1 (refl, nodes_below format.version count test.0))))
 
-controller_ok : (version : Version) (bits : ℕ) (segments : List SegmentValue) (front : List ControllerValue)
-    (value : Data) (c : ControllerValue) → controller_of version bits segments front value ≡ Ok c →
-    IsNewController segments front c
+controller_ok : (format : Format) (segments : List SegmentValue) (front : List ControllerValue) (value : Data)
+    (c : ControllerValue) → controller_of format segments front value ≡ Ok c → IsNewController segments front c
 unfolding controller_of
-controller_ok version bits segments front value c e =
-    from_bind (object_of (codes "controllers") value) _ c e (λ from is_object e1.
+controller_ok format segments front value c e =
+    from_bind (element_of format.version (codes "controllers") controller_fields value) _ c e (λ from is_object e1.
     from_bind (new_name (codes "controllers") (all_talker_names segments ++ controller_names front) from) _ c e1
     (λ name is_name e2.
     from_bind (place_named (codes "segment") (segment_names segments) from) _ c e2 (λ segment is_segment e3.
-    let room = controller_room version bits segments front name segment from c e3 in
+    let room = controller_room format segments front name segment from c e3 in
     record {
       name = ap (λ n. is_among n (all_talker_names segments ++ controller_names front)) (sym room.0)
           ∙ new_name_ok (codes "controllers") (all_talker_names segments ++ controller_names front) from name is_name;
@@ -119,20 +123,20 @@ controller_ok version bits segments front value c e =
 
 -- without controllers
 few_at : (segments : List SegmentValue) (k place : ℕ) → Each HasFewTalkers segments →
-    node_count [] place (slice_get segments k) ≤ 16
+    node_count [] place (slice_get segments k) ≤ 64
 few_at [] k place few = omega arith
 few_at (s ∷ ss) zero place few = omega (arith, few.0)
 few_at (s ∷ ss) (suc k) place few = few_at ss k place few.1
 
-pub controllers_ok : (version : Version) (bits : ℕ) (segments : List SegmentValue) (from : Data)
-    (cs : List ControllerValue) → AreApart (all_talker_names segments) → Each HasFewTalkers segments →
-    controllers_of version bits segments from ≡ Ok cs → AreNewControllers segments cs
+pub controllers_ok : (format : Format) (segments : List SegmentValue) (from : Data) (cs : List ControllerValue) →
+    AreApart (all_talker_names segments) → Each HasFewTalkers segments → controllers_of format segments from ≡ Ok cs →
+    AreNewControllers segments cs
 unfolding controllers_of
-controllers_ok version bits segments from cs apart few e =
+controllers_ok format segments from cs apart few e =
     from_bind (list (codes "controllers") 16 from) _ cs e (λ items is_list e1.
-    each_after_keeps (controller_of version bits segments) (AreNewControllers segments)
-    (λ front d c before is. controllers_more segments front c before
-    (controller_ok version bits segments front d c is)) [] cs items
+    each_after_keeps (controller_of format segments) (AreNewControllers segments)
+    (λ front d c before is. controllers_more segments front c before (controller_ok format segments front d c is)) [] cs
+    items
     (record {
       names = subst AreApart (sym (append-nil (all_talker_names segments))) apart;
       few = λ place. few_at segments place place few;
@@ -198,7 +202,7 @@ route_ok : (version : Version) (controllers : List ControllerValue) (front : Lis
     (r : RouteValue) → route_of version controllers front value ≡ Ok r → IsNewRoute front r
 unfolding route_of route_with
 route_ok version controllers front value r e =
-    from_bind (object_of (codes "routes") value) _ r e (λ from is_object e1.
+    from_bind (element_of version (codes "routes") route_fields value) _ r e (λ from is_object e1.
     from_bind (new_name (codes "routes") (route_names front) from) _ r e1 (λ name is_name e2.
     from_bind (place_named (codes "from") (controller_names controllers) from) _ r e2 (λ source is_source e3.
     from_bind (whole (codes "fifo") 0 1 from) _ r e3 (λ fifo is_fifo e4.
@@ -228,9 +232,9 @@ routes_ok version controllers from rs e =
 
 -- what the lists of a script keep
 pub record IsOrderly (s : ScriptValue) : Type 0 where
-  pub few_nodes : (segment : ℕ) → segment < length s.segments → length (names_of_nodes s segment) ≤ most_nodes
+  pub few_nodes : (segment : ℕ) → segment < length s.segments → length (names_of_nodes s segment) ≤ 64
   pub few_into : (controller : ℕ) → routes_into controller s.routes ≤ 8
-  pub few_frames : Each (λ (segment : SegmentValue). Each HasFewFrames segment.talkers) s.segments
+  pub few_messages : Each (λ (segment : SegmentValue). Each HasFewMessages segment.talkers) s.segments
   pub own_fifos : AllPairs TakesElsewhere s.routes
   pub fault_nodes : Each (IsAtNode s) s.faults
   pub segment_names : AreApart (segment_names s.segments)
@@ -248,42 +252,37 @@ names-count : (controllers : List ControllerValue) (place : ℕ) (s : SegmentVal
 names-count controllers place s = length-names s.talkers place controllers
 
 few_on : (s : ScriptValue) (segment : ℕ) (here : SegmentValue) → slice_get s.segments segment ≡ Some here →
-    HaveFewNodes s.segments s.controllers → length (names_of_nodes s segment) ≤ most_nodes
+    HaveFewNodes s.segments s.controllers → length (names_of_nodes s segment) ≤ 64
 few_on s segment here is few =
-    let P : ℕ → Type 0 = λ n. n ≤ 16 in
-    let at : length (node_names s.controllers segment here) ≤ 16 =
+    let P : ℕ → Type 0 = λ n. n ≤ 64 in
+    let at : length (node_names s.controllers segment here) ≤ 64 =
     subst P (ap (node_count s.controllers segment) is ∙ sym (names-count s.controllers segment here)) (few segment) in
     subst P (ap (λ o. length (talker_names (talkers_on o) ++ controller_names (controllers_on segment s.controllers)))
     (sym is)) at
 
 at_node : (s : ScriptValue) (f : PlannedFault) → IsFaultAtNode s.segments s.controllers f → IsAtNode s f
-at_node s (AtNode node bit) (here, is, below) =
+at_node s (AtNode node bit until) (here, is, below) =
     let P : ℕ → Type 0 = λ n. node.place < n in
     subst P
     (ap (λ o. length (talker_names (talkers_on o) ++ controller_names (controllers_on node.segment s.controllers)))
     (sym is)) below
-at_node s (OnLine segment bit level) at = tt
-
-each_weaker : {A : Type 0} (P Q : A → Type 0) → ((x : A) → P x → Q x) → (xs : List A) → Each P xs → Each Q xs
-each_weaker P Q goes [] h = tt
-each_weaker P Q goes (x ∷ xs) h = (goes x h.0, each_weaker P Q goes xs h.1)
+at_node s (OnLine segment bit until level) at = tt
 
 -- a script whose lists are read is orderly
-pub script_orderly : (version : Version) (s : ScriptValue) (bits : ℕ) (from : Data) →
-    segments_of bits from ≡ Ok s.segments → controllers_of version bits s.segments from ≡ Ok s.controllers →
-    routes_of version s.controllers from ≡ Ok s.routes → planned_faults_of bits s.segments s.controllers from
-    ≡ Ok s.faults → IsOrderly s
-script_orderly version s bits from segments controllers routes faults =
-    let a = segments_ok bits from s.segments segments in
-    let b = controllers_ok version bits s.segments from s.controllers a.talkers a.few controllers in
-    let d = routes_ok version s.controllers from s.routes routes in
+pub script_orderly : (format : Format) (s : ScriptValue) (from : Data) → segments_of format from ≡ Ok s.segments →
+    controllers_of format s.segments from ≡ Ok s.controllers → routes_of format.version s.controllers from
+    ≡ Ok s.routes → planned_faults_of format s.segments s.controllers from ≡ Ok s.faults → IsOrderly s
+script_orderly format s from segments controllers routes faults =
+    let a = segments_ok format from s.segments segments in
+    let b = controllers_ok format s.segments from s.controllers a.talkers a.few controllers in
+    let d = routes_ok format.version s.controllers from s.routes routes in
     record {
       few_nodes = λ segment lt. let h = within s.segments segment lt in few_on s segment h.0 h.1 b.few;
       few_into = d.few;
-      few_frames = a.frames;
+      few_messages = a.messages;
       own_fifos = d.fifos;
       fault_nodes = each_weaker (IsFaultAtNode s.segments s.controllers) (IsAtNode s) (at_node s) s.faults
-          (faults_ok bits s.segments s.controllers from s.faults faults);
+          (faults_ok format s.segments s.controllers from s.faults faults);
       segment_names = a.names;
       node_names = b.names;
       route_names = d.names;

@@ -1,9 +1,14 @@
 pub mod Versions
+pub mod Formats
+pub mod Objects
 pub mod Rewrites
+pub mod Messages
+pub mod MessageParts
 pub mod Talkers
 pub mod TalkerParts
 pub mod Segments
 pub mod SegmentParts
+pub mod Filters
 pub mod BankLists
 pub mod Controllers
 pub mod ControllerParts

@@ -1,13 +1,14 @@
 -- A route: from a FIFO of one controller into a mailbox of another, or of the same.
-use Rattle.std.specs.Prelude.{ℕ, ◌&&◌, ◌==◌, nat_lt, Bool, List, [], length}
+use Rattle.std.specs.Prelude.{ℕ, ◌&&◌, ◌==◌, nat_lt, Bool, List, [], ◌∷◌, length}
 use Rattle.std.specs.Prelude.{map, count_by, codes, Result, Ok, Err, if◌then◌else◌}
 use Rattle.std.specs.List.{list_any}
 use Rattle.serde_json.specs.Data.{Data}
 use Rattle.can_frame.specs.declared.rewrite.Rewrite.{Rewrite}
 use Rattle.gw_config.specs.declared.version.Version.{Version}
 use Rattle.gw_fields.specs.Faults.{Fault, fifo_twice, too_many}
-use Rattle.gw_fields.specs.Fields.{◌>>=◌, object_of, whole, list, each_after}
+use Rattle.gw_fields.specs.Fields.{◌>>=◌, whole, list, each_after}
 use Rattle.gw_fields.specs.Names.{new_name, place_named}
+use Rattle.gw_config.specs.Objects.{element_of}
 use Rattle.gw_config.specs.Controllers.{ControllerValue, controller_names}
 use Rattle.gw_config.specs.Rewrites.{rewrites_of}
 
@@ -47,10 +48,13 @@ route_with version controllers front name from = do
   rewrites ← rewrites_of version from
   placed front (record { name = name; source = source; fifo = fifo; target = target; rewrites = rewrites })
 
+abbrev pub route_fields : List (List ℕ)
+route_fields = codes "name" ∷ codes "from" ∷ codes "fifo" ∷ codes "to" ∷ codes "rewrite" ∷ []
+
 -- a route behind those in front of it
 unfoldable pub route_of : Version → List ControllerValue → List RouteValue → Data → Result RouteValue Fault
 route_of version controllers front value = do
-  from ← object_of (codes "routes") value
+  from ← element_of version (codes "routes") route_fields value
   name ← new_name (codes "routes") (route_names front) from
   route_with version controllers front name from
 

@@ -4,6 +4,7 @@ use Rattle.gw_config.specs.declared.script.Script.TheInside.{Inside}
 
 abbrev pub script_view : Inside → ScriptValue
 script_view s = record {
+  rate = s.bitrate;
   bits = s.bits;
   segments = s.segments.items;
   controllers = s.controllers.items;

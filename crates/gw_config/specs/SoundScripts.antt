@@ -1,20 +1,30 @@
 -- What holds of every script that is read: its ranges, that each place which it names is there, and that names and
 -- FIFOs are not used twice.
-use Rattle.std.specs.Prelude.{◌≡◌, ◌≢◌, ℕ, ◌<◌, ◌≤◌, List, ◌++◌, length, AllPairs}
+use Rattle.std.specs.Prelude.{◌≡◌, ◌≢◌, ℕ, ◌+◌, ◌-◌, ◌*◌, ◌<◌, ◌≤◌, List, ◌++◌, length, AllPairs}
 use Rattle.bx_core.specs.Lists.{Each}
 use Rattle.gw_config.specs.declared.planned_fault.PlannedFault.{PlannedFault}
 use Rattle.gw_config.specs.declared.planned_fault.PlannedFault.TheVariants.{AtNode, OnLine}
 use Rattle.gw_config.specs.declared.planned_abort.PlannedAbort.{PlannedAbort}
-use Rattle.gw_config.specs.Talkers.{TalkerValue, most_nodes}
+use Rattle.gw_config.specs.Messages.{MessageValue, instances_of}
+use Rattle.gw_config.specs.Talkers.{TalkerValue}
 use Rattle.gw_config.specs.Segments.{SegmentValue, segment_names, all_talker_names}
 use Rattle.gw_config.specs.Controllers.{ControllerValue, controller_names}
 use Rattle.gw_config.specs.Routes.{RouteValue, routes_into, route_names}
 use Rattle.gw_config.specs.Scripts.{ScriptValue}
 use Rattle.gw_config.specs.Nodes.{names_of_nodes}
 
--- it is switched on within the run
-abbrev pub IsTalkerIn : ℕ → TalkerValue → Type 0
-IsTalkerIn bits t = t.on < bits
+-- it has at least one instance, and all of its instances are due within the run
+pub record IsMessageIn (bits : ℕ) (m : MessageValue) : Type 0 where
+  pub some : 1 ≤ m.count
+  pub first : m.at < bits
+  pub last : m.at + (m.count - 1) * m.every < bits
+  pub few : m.every ≤ 100000000
+
+-- it is switched on within the run, its messages are due within the run, and they have at most 1,000,000 instances
+pub record IsTalkerIn (bits : ℕ) (t : TalkerValue) : Type 0 where
+  pub on : t.on < bits
+  pub messages : Each (IsMessageIn bits) t.messages
+  pub few : instances_of t.messages ≤ 1000000
 
 abbrev pub IsSegmentIn : ℕ → SegmentValue → Type 0
 IsSegmentIn bits s = Each (IsTalkerIn bits) s.talkers
@@ -27,24 +37,28 @@ IsControllerIn bits segments c = (c.on < bits) × (c.segment < length segments)
 abbrev pub IsRouteIn : List ControllerValue → RouteValue → Type 0
 IsRouteIn controllers r = (r.source < length controllers) × (r.fifo ≤ 1) × (r.target < length controllers)
 
--- its segment is there, and its bit within the run
+-- it begins at a bit of the run, lasts at least one bit, and ends with the run at the latest
+abbrev pub LastsIn : ℕ → ℕ → ℕ → Type 0
+LastsIn bits bit until = (bit < bits) × (bit < until) × (until ≤ bits)
+
+-- its segment is there, and its bits are within the run
 abbrev pub IsFaultIn : ℕ → List SegmentValue → PlannedFault → Type 0
-IsFaultIn bits segments (AtNode node bit) = (node.segment < length segments) × (bit < bits)
-IsFaultIn bits segments (OnLine segment bit level) = (segment < length segments) × (bit < bits)
+IsFaultIn bits segments (AtNode node bit until) = (node.segment < length segments) × LastsIn bits bit until
+IsFaultIn bits segments (OnLine segment bit until level) = (segment < length segments) × LastsIn bits bit until
 
 -- its route is there, and numbers and turns are counted from 1
 abbrev pub IsAbortIn : List RouteValue → PlannedAbort → Type 0
 IsAbortIn routes a = (a.route < length routes) × (1 ≤ a.number) × (a.number ≤ 16777215) × (1 ≤ a.turn)
     × (a.turn ≤ 1000000)
 
--- it sends at most 10,000 frames
-abbrev pub HasFewFrames : TalkerValue → Type 0
-HasFewFrames t = length t.frames ≤ 10000
+-- it has at most 10,000 messages
+abbrev pub HasFewMessages : TalkerValue → Type 0
+HasFewMessages t = length t.messages ≤ 10000
 
 -- the node is one of its segment's
 abbrev pub IsAtNode : ScriptValue → PlannedFault → Type 0
-IsAtNode s (AtNode node bit) = node.place < length (names_of_nodes s node.segment)
-IsAtNode s (OnLine segment bit level) = Unit {0}
+IsAtNode s (AtNode node bit until) = node.place < length (names_of_nodes s node.segment)
+IsAtNode s (OnLine segment bit until level) = Unit {0}
 
 -- they don't take from the same FIFO
 abbrev pub TakesElsewhere : RouteValue → RouteValue → Type 0
@@ -56,7 +70,7 @@ AreApart names = AllPairs (λ name later. name ≢ later) names
 
 pub record IsSound (s : ScriptValue) : Type 0 where
   pub some_bits : 1 ≤ s.bits
-  pub few_bits : s.bits ≤ 1000000
+  pub few_bits : s.bits ≤ 100000000
   pub some_segments : 1 ≤ length s.segments
   pub few_segments : length s.segments ≤ 8
   pub few_controllers : length s.controllers ≤ 16
@@ -68,9 +82,9 @@ pub record IsSound (s : ScriptValue) : Type 0 where
   pub routes : Each (IsRouteIn s.controllers) s.routes
   pub faults : Each (IsFaultIn s.bits s.segments) s.faults
   pub aborts : Each (IsAbortIn s.routes) s.aborts
-  pub few_nodes : (segment : ℕ) → segment < length s.segments → length (names_of_nodes s segment) ≤ most_nodes
+  pub few_nodes : (segment : ℕ) → segment < length s.segments → length (names_of_nodes s segment) ≤ 64
   pub few_into : (controller : ℕ) → routes_into controller s.routes ≤ 8
-  pub few_frames : Each (λ (segment : SegmentValue). Each HasFewFrames segment.talkers) s.segments
+  pub few_messages : Each (λ (segment : SegmentValue). Each HasFewMessages segment.talkers) s.segments
   pub own_fifos : AllPairs TakesElsewhere s.routes
   pub fault_nodes : Each (IsAtNode s) s.faults
   pub segment_names : AreApart (segment_names s.segments)

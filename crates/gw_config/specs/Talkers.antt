@@ -1,39 +1,40 @@
 -- A talker: a node that sends frames of its own.
-use Rattle.std.specs.Prelude.{ℕ, ◌-◌, nat_lt, List, ◌++◌, length, map, codes, Result, Ok, Err, if◌then◌else◌}
+use Rattle.std.specs.Prelude.{ℕ, ◌-◌, nat_lt, sum_by, List, ◌++◌, length, map, codes}
+use Rattle.std.specs.Prelude.{[], ◌∷◌, Result, Ok, Err, if◌then◌else◌}
 use Rattle.serde_json.specs.Data.{Data}
-use Rattle.can_frame.specs.Frames.{FrameValue}
+use Rattle.gw_config.specs.declared.format.Format.{Format}
+use Rattle.gw_config.specs.Versions.{most_nodes}
+use Rattle.gw_config.specs.Objects.{element_of}
+use Rattle.gw_config.specs.Formats.{bit_of}
+use Rattle.gw_config.specs.Messages.{MessageValue, instances_of, messages_of}
 use Rattle.gw_fields.specs.Faults.{Fault, too_many}
-use Rattle.gw_fields.specs.Fields.{◌>>=◌, object_of, whole, list, each}
-use Rattle.gw_fields.specs.Frames.{frame_of}
+use Rattle.gw_fields.specs.Fields.{◌>>=◌, list}
 use Rattle.gw_fields.specs.Names.{new_name}
 
--- its name, the bit at which it is switched on, and its frames in the order in which it sends them
+-- its name, the bit at which it is switched on, and its messages in the order of the script
 pub record TalkerValue : Type 0 where
   pub name : List ℕ
   pub on : ℕ
-  pub frames : List FrameValue
-
--- how many nodes a segment may have
-abbrev pub most_nodes : ℕ
-most_nodes = 16
+  pub messages : List MessageValue
 
 abbrev pub talker_names : List TalkerValue → List (List ℕ)
 talker_names talkers = map (λ (t : TalkerValue). t.name) talkers
 
--- an element of the list of frames
-unfoldable pub listed_frame : Data → Result FrameValue Fault
-listed_frame value = do
-  from ← object_of (codes "frames") value
-  frame_of from
+-- how many instances the messages of these talkers have
+abbrev pub talker_instances : List TalkerValue → ℕ
+talker_instances talkers = sum_by (λ (t : TalkerValue). instances_of t.messages) talkers
 
--- A talker in a run of so many bits, behind those in front of it in its segment. `taken` are the names of the talkers
--- of the segments before.
-unfoldable pub talker_of : ℕ → List (List ℕ) → List TalkerValue → Data → Result TalkerValue Fault
-talker_of bits taken front value = do
-  from ← object_of (codes "talkers") value
+abbrev pub talker_fields : List (List ℕ)
+talker_fields = codes "name" ∷ codes "on" ∷ codes "frames" ∷ []
+
+-- A talker behind those in front of it in its segment. `taken` are the names of the talkers of the segments before this
+-- one, and `left` is the number of instances that those segments leave to this one.
+unfoldable pub talker_of : Format → List (List ℕ) → ℕ → List TalkerValue → Data → Result TalkerValue Fault
+talker_of format taken left front value = do
+  from ← element_of format.version (codes "talkers") talker_fields value
   name ← new_name (codes "talkers") (taken ++ talker_names front) from
-  on ← whole (codes "on") 0 (bits - 1) from
+  on ← bit_of format (codes "on") from
   items ← list (codes "frames") 10000 from
-  frames ← each listed_frame items
-  if nat_lt (length front) most_nodes then Ok (record { name = name; on = on; frames = frames })
+  messages ← messages_of format (left - talker_instances front) items
+  if nat_lt (length front) (most_nodes format.version) then Ok (record { name = name; on = on; messages = messages })
       else Err (too_many (codes "talkers"))

@@ -1,9 +1,13 @@
-//! A script: the segments, talkers, controllers, routes, faults and aborts of a run, and how it is read.
+//! A script: the segments, talkers, controllers, routes, faults and aborts of a run, and how it is read from JSON.
 #![tactic(auto)]
 
 mod bank_list;
 mod controller;
+mod filter;
+mod format;
+mod message;
 mod node_place;
+mod object;
 mod planned_abort;
 mod planned_fault;
 mod rewrites;
@@ -15,6 +19,7 @@ mod talker;
 mod version;
 
 pub use crate::controller::Controller;
+pub use crate::message::Message;
 pub use crate::node_place::NodePlace;
 pub use crate::planned_abort::PlannedAbort;
 pub use crate::planned_fault::PlannedFault;

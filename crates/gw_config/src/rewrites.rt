@@ -4,21 +4,28 @@ ghost use Rattle.std.specs.Prelude.{◌≡◌, ◌≤◌, length};
 ghost use Rattle.serde_json.specs.View.{view, items_view};
 ghost use Rattle.gw_fields.specs.Faults.{Reads};
 ghost use Rattle.gw_fields.specs.Fields.{each};
-ghost use Rattle.gw_config.specs.Rewrites.{most_rewrites, rewrite_of, listed_rewrites, rewrites_of};
+ghost use Rattle.gw_config.specs.Rewrites.{most_rewrites, number_rewrite, identifier_in, text_rewrite};
+ghost use Rattle.gw_config.specs.Rewrites.{entry_of, listed_rewrites, rewrites_of};
 
+use crate::object::element_of;
 use crate::version::Version;
 use arrayvec::ArrayVec;
-use can_frame::Rewrite;
-use gw_fields::{ScriptFault, identifier_with, natural, object_of, optional_list, truth};
+use can_frame::{Id, Rewrite};
+use gw_fields::{
+    ScriptFault, identifier_text, identifier_with, natural, object_of, optional_list, text, truth,
+};
 use serde_json::Value;
 
-/// How many entries a route may have.
+/// The greatest number of entries of a route.
 pub const MOST_REWRITES: usize = 32;
 
-/// An entry: its four fields, then the ranges of its two identifiers.
-#[tactic(auto, unfolding(crate::specs::Rewrites::rewrite_of))]
-fn rewrite_of(value: &Value) -> Result<Rewrite, ScriptFault>
-    ensures { Reads (λ entry. entry) result (rewrite_of (view value.now)) }
+/// Returns an entry of version 2.
+///
+/// `Kind("rewrite")` where it is not an object; the first fault of `id`, `ext`, `new_id` and `new_ext`; then
+/// `Range("id")` and `Range("new_id")`.
+#[tactic(auto, unfolding(crate::specs::Rewrites::number_rewrite))]
+fn number_rewrite(value: &Value) -> Result<Rewrite, ScriptFault>
+    ensures { Reads (λ entry. entry) result (number_rewrite (view value.now)) }
 {
     let from = object_of(value, "rewrite")?;
     let old = natural(from, "id")?;
@@ -35,14 +42,59 @@ fn rewrite_of(value: &Value) -> Result<Rewrite, ScriptFault>
     }
 }
 
-/// The entries of a list of at most 32.
-fn each_rewrite(items: &[Value]) -> Result<ArrayVec<Rewrite, MOST_REWRITES>, ScriptFault>
+/// Returns a field that is an identifier as a text of 3 or 8 hexadecimal digits.
+///
+/// `Missing(name)`, `Kind(name)` where it is not a text, `Range(name)` for any other text.
+#[tactic(auto, unfolding(crate::specs::Rewrites::identifier_in))]
+fn identifier_in(from: &Value, name: &'static str) -> Result<Id, ScriptFault>
+    ensures { Reads (λ id. id) result (identifier_in name.entry.now (view from.now)) }
+{
+    let word = text(from, name)?;
+    identifier_text(word, name)
+}
+
+/// Returns an entry of version 3.
+///
+/// `Kind("rewrite")` where it is not an object, `Unknown("rewrite")` where it has an unknown field; then the faults of
+/// `from`, then those of `to`.
+#[tactic(auto, unfolding(crate::specs::Rewrites::text_rewrite))]
+fn text_rewrite(value: &Value) -> Result<Rewrite, ScriptFault>
+    ensures { Reads (λ entry. entry) result (text_rewrite (view value.now)) }
+{
+    let from = element_of(Version::Three, "rewrite", &["from", "to"], value)?;
+    let old = match identifier_in(from, "from") {
+        Ok(id) => id,
+        Err(fault) => return Err(fault),
+    };
+    match identifier_in(from, "to") {
+        Ok(to) => Ok(Rewrite { from: old, to }),
+        Err(fault) => Err(fault),
+    }
+}
+
+/// Returns an entry of a script of this version. Entries of version 1 are not read.
+fn entry_of(version: Version, value: &Value) -> Result<Rewrite, ScriptFault>
+    ensures { Reads (λ entry. entry) result (entry_of version (view value.now)) }
+{
+    match version {
+        Version::One | Version::Two => number_rewrite(value),
+        Version::Three => text_rewrite(value),
+    }
+}
+
+/// Returns the entries of a list of at most 32.
+///
+/// The fault of the first entry that is refused.
+fn each_rewrite(
+    items: &[Value],
+    version: Version,
+) -> Result<ArrayVec<Rewrite, MOST_REWRITES>, ScriptFault>
     requires { length items.now ≤ most_rewrites }
-    ensures { Reads (λ entries. entries.items) result (each rewrite_of (items_view items.now)) }
+    ensures { Reads (λ entries. entries.items) result (each (entry_of version) (items_view items.now)) }
 {
     let mut entries = ArrayVec::new();
     for item in items {
-        let entry = match rewrite_of(item) {
+        let entry = match entry_of(version, item) {
             Ok(entry) => entry,
             Err(fault) => return Err(fault),
         };
@@ -51,16 +103,23 @@ fn each_rewrite(items: &[Value]) -> Result<ArrayVec<Rewrite, MOST_REWRITES>, Scr
     Ok(entries)
 }
 
-/// The entries that a route lists; none where it lists none.
+/// Returns the entries that a route lists, at most 32; none where the field `rewrite` is absent.
+///
+/// `Kind` or `TooMany` of `rewrite`, then the fault of the first entry that is refused.
 #[tactic(auto, unfolding(crate::specs::Rewrites::listed_rewrites))]
-fn listed_rewrites(from: &Value) -> Result<ArrayVec<Rewrite, MOST_REWRITES>, ScriptFault>
-    ensures { Reads (λ entries. entries.items) result (listed_rewrites (view from.now)) }
+fn listed_rewrites(
+    from: &Value,
+    version: Version,
+) -> Result<ArrayVec<Rewrite, MOST_REWRITES>, ScriptFault>
+    ensures { Reads (λ entries. entries.items) result (listed_rewrites version (view from.now)) }
 {
     let items = optional_list(from, "rewrite", MOST_REWRITES)?;
-    each_rewrite(items)
+    each_rewrite(items, version)
 }
 
-/// The entries of a route: those that it lists in version 2, and none in version 1.
+/// Returns the entries of a route: those that it lists in versions 2 and 3, none in version 1.
+///
+/// The faults of `listed_rewrites` in versions 2 and 3.
 pub fn rewrites_of(
     from: &Value,
     version: Version,
@@ -69,6 +128,6 @@ pub fn rewrites_of(
 {
     match version {
         Version::One => Ok(ArrayVec::new()),
-        Version::Two => listed_rewrites(from),
+        Version::Two | Version::Three => listed_rewrites(from, version),
     }
 }

@@ -10,22 +10,25 @@ ghost use Rattle.gw_config.specs.Rewrites.{most_rewrites};
 ghost use Rattle.gw_config.specs.SoundScripts.{IsRouteIn};
 
 use crate::controller::Controller;
+use crate::object::element_of;
 use crate::rewrites::{MOST_REWRITES, rewrites_of};
 use crate::version::Version;
 use arrayvec::ArrayVec;
 use can_frame::Rewrite;
 use gw_fields::{
-    Named, ReadsElement, ScriptFault, list, new_name, object_of, owned, place_named, read_each,
-    whole,
+    Named, ReadsElement, ScriptFault, list, new_name, owned, place_named, read_each, whole,
 };
 use serde_json::Value;
 use std::alloc::Global;
 use std::marker::Model;
 
-/// How many routes a script may have.
+/// The greatest number of routes of a script.
 const MOST_ROUTES: usize = 16;
 
-/// How many routes may lead into one controller.
+/// The fields that a route of version 3 may have.
+const FIELDS: [&'static str; 5] = ["name", "from", "fifo", "to", "rewrite"];
+
+/// The greatest number of routes into one controller.
 const MOST_INTO_ONE: usize = 8;
 
 /// A way from a FIFO of one controller into another controller, or into the same. Contracts see its
@@ -171,9 +174,10 @@ impl<'a> ReadsElement for RouteReader<'a> {
 
     ghost keeps = { λ s. IsRouteIn s.controllers.now };
 
+    /// Returns the route that an element describes, behind those in front of it.
     #[tactic(auto, unfolding(crate::specs::Routes::route_of))]
     fn read(&self, alloc: Global, value: &Value, front: &[Route]) -> Result<Route, ScriptFault> {
-        let from = object_of(value, "routes")?;
+        let from = element_of(self.version, "routes", &FIELDS, value)?;
         let name = new_name(from, "routes", front)?;
         route_with(alloc, from, self.version, self.controllers, front, name)
     }

@@ -1,27 +1,31 @@
 //! A segment of a script.
 
-ghost use Rattle.std.specs.Prelude.{◌≡◌, ◌≤◌, ◌++◌, map, IfOk, length};
+ghost use Rattle.std.specs.Prelude.{◌≡◌, ◌≤◌, ◌++◌, ◌-◌, map, IfOk, length};
 ghost use Rattle.bx_core.specs.Lists.{Each};
 ghost use Rattle.serde_json.specs.View.{view};
 ghost use Rattle.gw_fields.specs.Faults.{Reads, ReadsUnlessMemory};
 ghost use Rattle.gw_fields.specs.Names.{is_among, new_name};
-ghost use Rattle.gw_config.specs.Segments.{all_talker_names, segments_of};
+ghost use Rattle.gw_config.specs.Segments.{all_talker_names, instances_left, segments_of};
 ghost use Rattle.gw_config.specs.SoundScripts.{IsSegmentIn};
 
-use crate::talker::{Talker, talkers_of};
+use crate::format::Format;
+use crate::object::element_of;
+use crate::talker::{Talker, left_after, talkers_of};
 use gw_fields::{
-    Named, ReadsElement, ScriptFault, filled_list, formed_name, is_among, new_name, object_of,
-    owned, read_each, some_list,
+    Named, ReadsElement, ScriptFault, filled_list, formed_name, is_among, new_name, owned,
+    read_each, some_list,
 };
 use serde_json::Value;
 use std::alloc::Global;
 use std::marker::Model;
 
-/// How many segments a script may have.
+/// The greatest number of segments of a script.
 const MOST_SEGMENTS: usize = 8;
 
-/// Nodes on one pair of wires: talkers, and the controllers that name the segment. Contracts see its
-/// name and its talkers.
+/// The greatest number of instances of all messages of a script of version 3.
+const MOST_INSTANCES: u32 = 1_000_000;
+
+/// A CAN network: talkers, and the controllers that name the segment. Contracts see its name and its talkers.
 #[derive(Drop)]
 pub struct Segment {
     name: String,
@@ -39,14 +43,14 @@ impl Model for Segment {
 }
 
 impl Segment {
-    /// Its name.
+    /// Returns its name.
     pub fn name(&self) -> &str
         ensures { result.now ≡ self.now.name }
     {
         self.name.as_str()
     }
 
-    /// Its talkers, in the order of the script.
+    /// Returns its talkers, in the order of the script.
     pub fn talkers(&self) -> &[Talker]
         ensures { result.now ≡ self.now.talkers }
     {
@@ -62,7 +66,7 @@ impl Named for Segment {
     }
 }
 
-/// Whether a talker of one of the segments has the name.
+/// Returns whether a talker of one of the segments has this name.
 pub fn is_talker(segments: &[Segment], name: &str) -> bool
     ensures { result ≡ is_among name.now (all_talker_names segments.now) }
 {
@@ -74,7 +78,7 @@ pub fn is_talker(segments: &[Segment], name: &str) -> bool
     false
 }
 
-/// Whether a talker of the segments has the name, or one of these nodes.
+/// Returns whether a talker of the segments or one of these nodes has this name.
 fn is_node<T: Named>(segments: &[Segment], nodes: &[T], name: &str) -> bool
     ensures { result ≡ is_among name.now (all_talker_names segments.now ++ map T.name_of nodes.now) }
 {
@@ -84,8 +88,10 @@ fn is_node<T: Named>(segments: &[Segment], nodes: &[T], name: &str) -> bool
     is_among(nodes, name)
 }
 
-/// The field `name` of a node, where no talker of the segments has it and no node in front of it. A
-/// double name is told with its list.
+/// Returns the field `name` of a node.
+///
+/// `Missing`, `Kind` or `Range` of `name`; `DoubleName(list)` where a talker of the segments, or a node in front of
+/// this one, has the same name.
 #[tactic(auto, unfolding(gw_fields::specs::Names::new_name))]
 pub fn node_name<'v, T: Named>(
     object: &'v Value,
@@ -104,11 +110,23 @@ pub fn node_name<'v, T: Named>(
     }
 }
 
-/// Reads the segments of a run of so many bits.
+/// Returns how many instances of messages these segments leave to the segments behind them.
+pub fn instances_left(segments: &[Segment]) -> u32
+    ensures value { result ≡ instances_left segments.now }
+    ensures few { result ≤ 1000000 }
+{
+    let mut left = MOST_INSTANCES;
+    for segment in segments {
+        left = left_after(left, segment.talkers());
+    }
+    left
+}
+
+/// Reads the segments of a script.
 #[derive(Drop)]
 struct SegmentReader {
-    bits: u32,
-    ghost some: { 1 ≤ bits },
+    format: Format,
+    ghost some: { 1 ≤ format.bits },
 }
 
 impl ReadsElement for SegmentReader {
@@ -117,11 +135,11 @@ impl ReadsElement for SegmentReader {
 
     type Element = Segment;
 
-    ghost reading = { λ s. segment_of s.bits };
+    ghost reading = { λ s. segment_of s.format };
 
-    ghost keeps = { λ s. IsSegmentIn s.bits };
+    ghost keeps = { λ s. IsSegmentIn s.format.bits };
 
-    /// The name of a segment that none in front of it has, and its talkers.
+    /// Returns the segment that an element describes, behind those in front of it.
     #[tactic(auto, unfolding(crate::specs::Segments::segment_of))]
     fn read(
         &self,
@@ -129,23 +147,27 @@ impl ReadsElement for SegmentReader {
         value: &Value,
         front: &[Segment],
     ) -> Result<Segment, ScriptFault> {
-        let from = object_of(value, "segments")?;
+        let version = self.format.version;
+        let from = element_of(version, "segments", &["name", "talkers"], value)?;
         let name = new_name(from, "segments", front)?;
         let items = some_list(from, "talkers")?;
-        let talkers = talkers_of(alloc, items, self.bits, front)?;
+        let talkers = talkers_of(alloc, items, self.format, front)?;
         let name = owned(alloc, name)?;
         Ok(Segment { name, talkers })
     }
 }
 
-/// The segments of a script, 1 to 8.
+/// Returns the segments of a script, 1 to 8.
+///
+/// `Missing`, `Kind`, `TooMany` or `Range` of `segments`, the last where the list is empty; then the fault of the first
+/// element that is refused. `Memory` where an allocation failed.
 #[tactic(auto, unfolding(crate::specs::Segments::segments_of), using(crate::proofs::Lists::each_from_all))]
-pub fn segments_of(alloc: Global, from: &Value, bits: u32) -> Result<Vec<Segment>, ScriptFault>
-    requires { 1 ≤ bits }
-    ensures value { ReadsUnlessMemory (λ v. v.items) result (segments_of bits (view from.now)) }
-    ensures range { IfOk result (λ v. Each (IsSegmentIn bits) v.items) }
+pub fn segments_of(alloc: Global, from: &Value, format: Format) -> Result<Vec<Segment>, ScriptFault>
+    requires { 1 ≤ format.bits }
+    ensures value { ReadsUnlessMemory (λ v. v.items) result (segments_of format (view from.now)) }
+    ensures range { IfOk result (λ v. Each (IsSegmentIn format.bits) v.items) }
     ensures count { IfOk result (λ v. (1 ≤ length v.items) × (length v.items ≤ 8)) }
 {
     let items = filled_list(from, "segments", MOST_SEGMENTS)?;
-    read_each(alloc, items, &SegmentReader { bits })
+    read_each(alloc, items, &SegmentReader { format })
 }

@@ -7,9 +7,9 @@ use Rattle.bx_core.specs.Ties.{RouteTied, NothingOf, left_of}
 use Rattle.bx_core.specs.TxBus.{no_bus_past}
 use Rattle.bx_rx.specs.Bank.{BankValue}
 use Rattle.can_frame.specs.Frames.{FrameValue}
-use Rattle.can_segment.specs.Brought.{told_of, grown}
+use Rattle.can_segment.specs.Brought.{kinds_of, grown}
 use Rattle.can_segment.specs.Segments.{SegmentValue}
-use Rattle.can_station.specs.declared.event.Told.{Told}
+use Rattle.can_station.specs.declared.event.EventKind.{EventKind}
 use Rattle.can_station.proofs.Places.{some_there, same_some}
 use Rattle.gw_script.specs.declared.route_report.RouteReport.{RouteReport}
 use Rattle.gw_config.specs.Nodes.{controller_places}
@@ -32,7 +32,7 @@ use Rattle.gw_opening.proofs.Openings.{takes_other, lanes_apart, mails_set}
 use Rattle.gw_ending.specs.declared.closed.Closed.{Closed}
 use Rattle.gw_ending.specs.Ports.{Port, Site}
 use Rattle.gw_ending.specs.Finals.{IsDonePort, IsDoneSite, AreDoneSites, ClosesInto, IsDoneLane, IsOver, WaitAtMost}
-use Rattle.gw_ending.specs.Finals.{HasTalkers, EndsLane, lines_at, told_at}
+use Rattle.gw_ending.specs.Finals.{HasTalkers, EndsLane, lines_at, reported_at}
 use Rattle.gw_ending.specs.Reports.{IsRouteRun}
 use Rattle.gw_ending.proofs.RouteRuns.{route_run}
 
@@ -47,7 +47,7 @@ slot_or_none : (banks : List BankValue) (fifo : ℕ) (slot : Option Intake) (tak
 slot_or_none banks fifo slot taken true stands = stands
 slot_or_none banks fifo slot taken false stands = tt
 
-done_port_taken : (s : ScriptValue) (controller fifo bits : ℕ) (tells : List Told) (old new : Port) →
+done_port_taken : (s : ScriptValue) (controller fifo bits : ℕ) (tells : List EventKind) (old new : Port) →
     SetsSlot fifo None old new → IsDonePort s controller tells bits old → IsDonePort s controller tells bits new
 done_port_taken s controller fifo bits tells old new set p = record {
   value = p.value;
@@ -72,7 +72,7 @@ done_site_taken s fifo old there i late w d = record {
   made = subst (λ (v : SegmentValue). length v.levels ≡ s.bits) (sym w.segment_is) d.made;
   ports = record {
     at = λ k controller port e f. subst (λ (v : SegmentValue). IsDonePort s controller
-        (told_of (length v.plan.talkers.items + k) v.events) (length v.levels) port) (sym w.segment_is)
+        (kinds_of (length v.plan.talkers.items + k) v.events) (length v.levels) port) (sym w.segment_is)
         (by_port k controller port e (w.ports k port f));
     size = w.size ∙ d.ports.size;
   };
@@ -80,10 +80,10 @@ done_site_taken s fifo old there i late w d = record {
   where
     by_port : (k controller : ℕ) (port : Port) → slice_get (controller_places s i) k ≡ Some controller →
         PortWas (SetsSlot fifo None) w.site there i k port →
-        IsDonePort s controller (told_at w.site k) (length w.site.segment.levels) port
+        IsDonePort s controller (reported_at w.site k) (length w.site.segment.levels) port
     by_port k controller port e (same_port is) = d.ports.at k controller port e is
     by_port k controller port e (changed_port was is change here) = done_port_taken s controller fifo
-        (length w.site.segment.levels) (told_at w.site k) was port change (d.ports.at k controller was e is)
+        (length w.site.segment.levels) (reported_at w.site k) was port change (d.ports.at k controller was e is)
 
 sites_taken : (s : ScriptValue) (fifo : ℕ) (old new : List Site) (there : Place) →
     PortChanges (SetsSlot fifo None) old new there → AreDoneSites s old → AreDoneSites s new
@@ -123,9 +123,9 @@ closes_taken s fifo old new there route lane t c =
       past = c.past;
       matches = c.matches;
       tied = subst (λ (m : Closed). RouteTied (priority_of c.value) lane.number
-          (grown no_bus_past (told_at to.1.site lane.target.port)) c.past (left_of lane.number m.left.items)) (sym to.2)
+          (grown no_bus_past (reported_at to.1.site lane.target.port)) c.past (left_of lane.number m.left.items)) (sym to.2)
           (subst (λ (v : SegmentValue). RouteTied (priority_of c.value) lane.number
-          (grown no_bus_past (told_of (length v.plan.talkers.items + lane.target.port) v.events)) c.past
+          (grown no_bus_past (kinds_of (length v.plan.talkers.items + lane.target.port) v.events)) c.past
           (left_of lane.number c.to.mail.left.items))
           (sym (segment_after fifo old new there t lane.target c.to to.0 c.to_is to.1)) c.tied);
     }

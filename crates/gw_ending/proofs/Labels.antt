@@ -8,12 +8,12 @@ use Rattle.can_node.specs.declared.outcome.Outcome.{Outcome}
 use Rattle.can_node.specs.declared.outcome.Outcome.TheVariants.{Nothing, Took, Completed, Lost, Errored, WentOff}
 use Rattle.can_node.specs.declared.outcome.Outcome.TheVariants.{CameBack}
 use Rattle.can_station.specs.declared.event.Event.{Event}
-use Rattle.can_station.specs.declared.event.Told.{Told}
+use Rattle.can_station.specs.declared.event.EventKind.{EventKind}
 use Rattle.can_station.specs.declared.plan.SegmentPlan.{SegmentPlan}
 use Rattle.can_station.specs.declared.transmission.Transmission.{Transmission}
 use Rattle.can_segment.specs.Runs.{Run, IsBit}
 use Rattle.can_segment.specs.Runs.Run.{no_bit, one_more}
-use Rattle.can_station.specs.Lines.{told_start, told_outcome, told_reaped, lines}
+use Rattle.can_station.specs.Lines.{start_kinds, outcome_kinds, reaped_kinds, lines}
 use Rattle.can_segment.specs.Tells.{starts_of, rest_of, lines_from, events_at}
 use Rattle.can_segment.specs.Traces.{Act, Bit, act_of, sending_now, sending_behind, sending_of}
 use Rattle.can_station.specs.Outcomes.{ends_sending}
@@ -29,16 +29,16 @@ IsUnlabelled sending = (sent : Transmission) → sending ≡ Some sent → sent.
 -- a line of one of the nodes, and of a talker only if it names no request
 pub record IsFair (plan : SegmentPlan) (event : Event) : Type 0 where
   pub node : event.node < length plan.talkers.items + length plan.controllers.items
-  pub talker : event.node < length plan.talkers.items → label_of event.told ≡ None
+  pub talker : event.node < length plan.talkers.items → label_of event.kind ≡ None
 
-start-unlabelled : (begun : Option Transmission) (one : Told) → IsUnlabelled begun → Has (told_start begun) one →
+start-unlabelled : (begun : Option Transmission) (one : EventKind) → IsUnlabelled begun → Has (start_kinds begun) one →
     label_of one ≡ None
 start-unlabelled None one none has = absurd has
 start-unlabelled (Some sent) one none (inl is) = subst (λ t. label_of t ≡ None) is (none sent refl)
 start-unlabelled (Some sent) one none (inr has) = absurd has
 
-outcome-unlabelled : (sending : Option Transmission) (outcome : Outcome) (one : Told) → IsUnlabelled sending →
-    Has (told_outcome sending outcome) one → label_of one ≡ None
+outcome-unlabelled : (sending : Option Transmission) (outcome : Outcome) (one : EventKind) → IsUnlabelled sending →
+    Has (outcome_kinds sending outcome) one → label_of one ≡ None
 outcome-unlabelled sending Nothing one none has = absurd has
 outcome-unlabelled sending (Took start frame) one none (inl is) = subst (λ t. label_of t ≡ None) is refl
 outcome-unlabelled sending (Took start frame) one none (inr has) = absurd has
@@ -73,8 +73,8 @@ has-split (y ∷ xs) ys x P p q (inr has) = has-split xs ys x P (λ h. p (inr h)
 
 -- what a talker does at a bit
 pub record IsQuiet (before : Option Transmission) (act : Option Act) : Type 0 where
-  pub starts : (one : Told) → Has (starts_of act) one → label_of one ≡ None
-  pub rest : (one : Told) → Has (rest_of before act) one → label_of one ≡ None
+  pub starts : (one : EventKind) → Has (starts_of act) one → label_of one ≡ None
+  pub rest : (one : EventKind) → Has (rest_of before act) one → label_of one ≡ None
   pub sending : IsUnlabelled (sending_behind before act)
 
 quiet-off : (before : Option Transmission) → IsUnlabelled before → IsQuiet before None
@@ -84,10 +84,10 @@ quiet-on : (before : Option Transmission) (act : Act) → IsUnlabelled before �
     act.reaped ≡ None → IsQuiet before (Some act)
 quiet-on before act p q none = record {
   starts = λ one has. start-unlabelled act.begun one q has;
-  rest = λ one has. has-split (told_outcome (sending_now before act.begun) act.outcome) (told_reaped act.reaped) one
+  rest = λ one has. has-split (outcome_kinds (sending_now before act.begun) act.outcome) (reaped_kinds act.reaped) one
       (λ t. label_of t ≡ None)
       (λ h. outcome-unlabelled (sending_now before act.begun) act.outcome one (now-unlabelled before act.begun p q) h)
-      (λ h. absurd (subst (λ r. Has (told_reaped r) one) none h)) has;
+      (λ h. absurd (subst (λ r. Has (reaped_kinds r) one) none h)) has;
   sending =
       after-unlabelled (sending_now before act.begun) (ends_sending act.outcome) (now-unlabelled before act.begun p q);
 }
@@ -105,13 +105,13 @@ talker-quiet plan trace bit k is less p =
           (quiet-on (sending_of k trace) act.0 p act.3.no_label act.3.no_reaping))
     ]
 
-lines-each : (Q : Event → Type 0) (bit node : ℕ) (tells : List Told) →
-    ((one : Told) → Has tells one → Q (record { bit = bit; node = node; told = one })) → Each Q (lines bit node tells)
+lines-each : (Q : Event → Type 0) (bit node : ℕ) (tells : List EventKind) →
+    ((one : EventKind) → Has tells one → Q (record { bit = bit; node = node; kind = one })) → Each Q (lines bit node tells)
 lines-each Q bit node [] all = tt
 lines-each Q bit node (one ∷ more) all = (all one (inl refl), lines-each Q bit node more (λ t has. all t (inr has)))
 
-lines_from-each : (Q : Event → Type 0) (tells : ℕ → List Told) (bit node count : ℕ) →
-    ((k : ℕ) (one : Told) → k < node + count → Has (tells k) one → Q (record { bit = bit; node = k; told = one })) →
+lines_from-each : (Q : Event → Type 0) (tells : ℕ → List EventKind) (bit node count : ℕ) →
+    ((k : ℕ) (one : EventKind) → k < node + count → Has (tells k) one → Q (record { bit = bit; node = k; kind = one })) →
     Each Q (lines_from tells bit node count)
 lines_from-each Q tells bit node zero all = tt
 lines_from-each Q tells bit node (suc more) all =

@@ -13,11 +13,11 @@ use Rattle.bx_core.specs.Ties.{NothingOf}
 use Rattle.bx_core.specs.Stands.{entries_of, numbers_of, entry_on_bus}
 use Rattle.bx_core.specs.TxBus.{Item, no_bus_past}
 use Rattle.bx_core.proofs.Words.{has-right, each_of, has-left}
-use Rattle.can_segment.specs.Brought.{told_of, all_in, start_in, sent_in, reaped_in, grown}
+use Rattle.can_segment.specs.Brought.{kinds_of, all_in, start_in, sent_in, reaped_in, grown}
 use Rattle.can_station.specs.declared.event.Event.{Event}
 use Rattle.can_station.specs.declared.event.Label.{Label}
-use Rattle.can_station.specs.declared.event.Told.{Told}
-use Rattle.can_station.specs.declared.event.Told.TheVariants.{Started, Took, Completed, Lost, Error, Off, Back, Reaped}
+use Rattle.can_station.specs.declared.event.EventKind.{EventKind}
+use Rattle.can_station.specs.declared.event.EventKind.TheVariants.{Started, Took, Completed, Lost, Error, Off, Back, Reaped}
 use Rattle.can_segment.specs.declared.record.Record.{Record}
 use Rattle.can_station.specs.declared.plan.Controller.{Controller}
 use Rattle.can_station.specs.declared.plan.Talker.{Talker}
@@ -34,7 +34,7 @@ use Rattle.gw_opening.specs.declared.place.Place.{Place}
 use Rattle.gw_opening.proofs.Openings.{segment_there}
 use Rattle.gw_config.specs.Talkers.{TalkerValue}
 use Rattle.gw_ending.specs.Ports.{Port, Site}
-use Rattle.gw_ending.specs.Finals.{IsDonePort, IsDoneSite, AreDoneSites, IsRecordAt, told_at}
+use Rattle.gw_ending.specs.Finals.{IsDonePort, IsDoneSite, AreDoneSites, IsRecordAt, reported_at}
 use Rattle.gw_site.specs.Pairs.{Pairs}
 use Rattle.gw_ending.proofs.Labels.{IsFair, fair_run}
 use Rattle.gw_site.proofs.Pairs.{pair_at, pair_of}
@@ -43,7 +43,7 @@ use Rattle.gw_opening.proofs.PlacesWhere.{places-length}
 use Rattle.gw_ending.proofs.RouteRuns.{controller_node}
 
 -- what one of them names all of them name
-named_by : {X : Type 0} (names : Told → List X) (tells : List Told) (one : Told) (x : X) → Has tells one →
+named_by : {X : Type 0} (names : EventKind → List X) (tells : List EventKind) (one : EventKind) (x : X) → Has tells one →
     Has (names one) x → Has (all_in names tells) x
 named_by names [] one x has named = absurd has
 named_by names (t ∷ tells) one x (inl is) named =
@@ -72,49 +72,49 @@ own_number (y ∷ xs) x has = elim (eqb_tells y.0 x.0) [
   ])
 ]
 
--- what is told of a request is told of its route
-entry_told : (xs : List Item) (x : Item) → Has xs x → entries_of x.0 xs ≡ [] → ⊥
-entry_told xs x has none = absurd (subst (λ es. Has es (entry_on_bus x)) none (own_entry xs x has))
+-- what is reported of a request is reported of its route
+entry_reported : (xs : List Item) (x : Item) → Has xs x → entries_of x.0 xs ≡ [] → ⊥
+entry_reported xs x has none = absurd (subst (λ es. Has es (entry_on_bus x)) none (own_entry xs x has))
 
-never_told : (tells : List Told) (left : List Left) (one : Told) (label : Label) →
+never_reported : (tells : List EventKind) (left : List Left) (one : EventKind) (label : Label) →
     NothingOf label.route (grown no_bus_past tells) left → label_of one ≡ Some label → Has tells one → ⊥
-never_told tells left (Started frame None) label n is has = absurd (cc is)
-never_told tells left (Started frame (Some own)) label n is has =
+never_reported tells left (Started frame None) label n is has = absurd (cc is)
+never_reported tells left (Started frame (Some own)) label n is has =
     let same : own ≡ label = cc is in
     let item : Item = (label.route, label.number, frame) in
     let started = named_by start_in tells (Started frame (Some own)) item has
     (subst (λ l. Has (start_in (Started frame (Some l))) item) (sym same) (inl refl)) in
-    entry_told (all_in start_in tells) item started n.none_started
-never_told tells left (Completed start frame None) label n is has = absurd (cc is)
-never_told tells left (Completed start frame (Some own)) label n is has =
+    entry_reported (all_in start_in tells) item started n.none_started
+never_reported tells left (Completed start frame None) label n is has = absurd (cc is)
+never_reported tells left (Completed start frame (Some own)) label n is has =
     let same : own ≡ label = cc is in
     let item : Item = (label.route, label.number, frame) in
     let sent = named_by sent_in tells (Completed start frame (Some own)) item has
     (subst (λ l. Has (sent_in (Completed start frame (Some l))) item) (sym same) (inl refl)) in
-    entry_told (all_in sent_in tells) item sent n.none_done
-never_told tells left (Reaped own) label n is has =
+    entry_reported (all_in sent_in tells) item sent n.none_done
+never_reported tells left (Reaped own) label n is has =
     let same : own ≡ label = cc is in
     let pair : ℕ × ℕ = (label.route, label.number) in
     let reaped = named_by reaped_in tells (Reaped own) pair has
     (subst (λ l. Has (reaped_in (Reaped l)) pair) (sym same) (inl refl)) in
     absurd (subst (λ ns. Has ns label.number) n.none_reaped (own_number (all_in reaped_in tells) pair reaped))
-never_told tells left (Took start frame) label n is has = absurd (cc is)
-never_told tells left (Lost start) label n is has = absurd (cc is)
-never_told tells left (Error kind) label n is has = absurd (cc is)
-never_told tells left Off label n is has = absurd (cc is)
-never_told tells left Back label n is has = absurd (cc is)
+never_reported tells left (Took start frame) label n is has = absurd (cc is)
+never_reported tells left (Lost start) label n is has = absurd (cc is)
+never_reported tells left (Error kind) label n is has = absurd (cc is)
+never_reported tells left Off label n is has = absurd (cc is)
+never_reported tells left Back label n is has = absurd (cc is)
 
 -- a line tells of its node
-told_there : (events : List Event) (event : Event) → Has events event → Has (told_of event.node events) event.told
-told_there [] event has = absurd has
-told_there (e ∷ events) event has = elim (eqb_tells e.node event.node) [
+reported_there : (events : List Event) (event : Event) → Has events event → Has (kinds_of event.node events) event.kind
+reported_there [] event has = absurd has
+reported_there (e ∷ events) event has = elim (eqb_tells e.node event.node) [
   | inl own ↦ rw own.0 (elim has [
-    | inl is ↦ inl (ap (λ (x : Event). x.told) is)
-    | inr more ↦ inr (told_there events event more)
+    | inl is ↦ inl (ap (λ (x : Event). x.kind) is)
+    | inr more ↦ inr (reported_there events event more)
   ])
   | inr other ↦ rw other.0 (elim has [
     | inl is ↦ absurd (other.1 (ap (λ (x : Event). x.node) is))
-    | inr more ↦ told_there events event more
+    | inr more ↦ reported_there events event more
   ])
 ]
 
@@ -141,7 +141,7 @@ ports_count s i site d =
 -- the controller at a place is one of few nodes
 pub few_nodes : (s : ScriptValue) (sites : List Site) (controller : ℕ) (place : Place) (port : Port) → IsSound s →
     AreDoneSites s sites → IsPlaceOf s controller place → IsAt sites place port →
-    length (talkers_on (slice_get s.segments place.site)) + place.port < 17
+    length (talkers_on (slice_get s.segments place.site)) + place.port < 65
 few_nodes s sites controller place port sound done is at =
     let made = pair_at (λ i segment. IsDoneSite s i) s.segments sites place.site at.site done at.site_is in
     let within = slice_get_within (controller_places s place.site) place.port controller is in
@@ -159,22 +159,22 @@ few_nodes s sites controller place port sound done is at =
 request_named : (s : ScriptValue) (i p : ℕ) (site : Site) (record_of : Record) (event : Event) (label : Label) →
     IsDoneSite s i site → IsRecordAt site record_of → Has record_of.events.items event →
     event.node ≡ length site.segment.plan.talkers.items + p → p < length site.segment.plan.controllers.items →
-    label_of event.told ≡ Some label → NamesRequest s i event.node label
+    label_of event.kind ≡ Some label → NamesRequest s i event.node label
 request_named s i p site record_of event label d r has node within is =
     let controller = some_there (controller_places s i) p (omega (arith, within, ports_count s i site d)) in
-    let port = pair_of (λ k controller. IsDonePort s controller (told_at site k) (length site.segment.levels))
+    let port = pair_of (λ k controller. IsDonePort s controller (reported_at site k) (length site.segment.levels))
     (controller_places s i) site.ports.items p controller.0 d.ports controller.1 in
-    let told : Has (told_of (length site.segment.plan.talkers.items + p) site.segment.events) event.told =
-    subst (λ n. Has (told_of n site.segment.events) event.told) node
-    (subst (λ es. Has (told_of event.node es) event.told) r.value.events_is
-    (told_there record_of.events.items event has)) in
+    let reported : Has (kinds_of (length site.segment.plan.talkers.items + p) site.segment.events) event.kind =
+    subst (λ n. Has (kinds_of n site.segment.events) event.kind) node
+    (subst (λ es. Has (kinds_of event.node es) event.kind) r.value.events_is
+    (reported_there record_of.events.items event has)) in
     let at : controller_at s i event.node ≡ Some controller.0 = ap (controller_at s i)
     (node ∙ ap (λ n. n + p) d.plan_is.talkers.size) ∙ controller_node s i p controller.0 controller.1 in
     let below : label.route < length (route_places s controller.0) =
     elim (cases_lt label.route (length (route_places s controller.0))) [
       | inl less ↦ less
-      | inr beyond ↦ absurd (never_told (told_at site p) port.0.mail.left.items event.told label
-          (port.2.unasked label.route beyond) is told)
+      | inr beyond ↦ absurd (never_reported (reported_at site p) port.0.mail.left.items event.kind label
+          (port.2.unasked label.route beyond) is reported)
     ] in
     subst (λ o. IsSomeAnd o (λ c. label.route < length (route_places s c))) (sym at) below
 
@@ -182,10 +182,10 @@ event_named : (s : ScriptValue) (i : ℕ) (site : Site) (record_of : Record) (ev
     IsRecordAt site record_of → Has record_of.events.items event → IsFair site.segment.plan event → NamesEvent s i event
 event_named s i site record_of event d r has fair = record {
   node = omega (arith, fair.node, names_count s i site d);
-  request = by_label (label_of event.told) refl;
+  request = by_label (label_of event.kind) refl;
 }
   where
-    by_label : (o : Option Label) → label_of event.told ≡ o → IfSome o (NamesRequest s i event.node)
+    by_label : (o : Option Label) → label_of event.kind ≡ o → IfSome o (NamesRequest s i event.node)
     by_label None is = tt
     by_label (Some label) is = elim (cases_lt event.node (length site.segment.plan.talkers.items)) [
       | inl talker ↦ (let none = fair.talker talker in absurd (cc (sym none ∙ is)))

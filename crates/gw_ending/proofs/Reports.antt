@@ -8,9 +8,9 @@ use Rattle.bx_core.specs.Lists.{Each}
 use Rattle.bx_core.specs.Stands.{entries_of}
 use Rattle.can_station.proofs.Places.{same_some, some_there}
 use Rattle.bx_core.specs.TxBus.{no_bus_past}
-use Rattle.can_segment.specs.Brought.{told_of, all_in, start_in, StartsUndone}
+use Rattle.can_segment.specs.Brought.{kinds_of, all_in, start_in, StartsUndone}
 use Rattle.can_station.specs.declared.event.Event.{Event}
-use Rattle.can_station.specs.declared.event.Told.{Told}
+use Rattle.can_station.specs.declared.event.EventKind.{EventKind}
 use Rattle.can_segment.specs.declared.record.Record.{Record}
 use Rattle.gw_script.specs.declared.report.Report.{Report}
 use Rattle.gw_script.specs.declared.route_report.RouteReport.{RouteReport}
@@ -22,7 +22,7 @@ use Rattle.gw_ending.specs.Ports.{Site}
 use Rattle.gw_ending.specs.Finals.{IsDoneSite, AreDoneSites, IsRecordAt, lines_at}
 use Rattle.gw_ending.specs.Headline.{NotRefilled, Balances}
 use Rattle.gw_site.specs.Pairs.{Pairs}
-use Rattle.gw_ending.specs.Reports.{NeverAgain, IsSegmentRun, lines_of, AreToldOf, IsRouteRun, AreOrdered, RunsRoutes}
+use Rattle.gw_ending.specs.Reports.{NeverAgain, IsSegmentRun, lines_of, AreReportedOf, IsRouteRun, AreOrdered, RunsRoutes}
 use Rattle.gw_ending.specs.Reports.{AreStartsOf}
 use Rattle.gw_site.proofs.Pairs.{pair_at, pairs-map}
 use Rattle.gw_opening.proofs.PlacesWhere.{place-once, places-length}
@@ -36,7 +36,7 @@ never_again s i site record_of d r k within =
     omega (arith, places-length test 0 s.controllers, length-filter test s.controllers, d.plan_is.controllers.size) in
     let controller = some_there (controller_places s i) k (omega (arith, within, places)) in
     let port = some_there site.ports.items k (omega (arith, within, places, d.ports.size)) in
-    subst (λ es. StartsUndone no_bus_past (told_of (length site.segment.plan.talkers.items + k) es))
+    subst (λ es. StartsUndone no_bus_past (kinds_of (length site.segment.plan.talkers.items + k) es))
     (sym r.value.events_is) (d.ports.at k controller.0 port.0 controller.1 port.1).once
 
 segment_run : (s : ScriptValue) (i : ℕ) (site : Site) (record_of : Record) → IsDoneSite s i site →
@@ -47,6 +47,7 @@ segment_run s i site record_of d r = record {
   run = r.run;
   whole = ap length r.value.levels_is ∙ d.made;
   copies = r.copies;
+  queues = r.queues;
   once = never_again s i site record_of d r;
   requests = λ trace run k within.
       (r.copies trace run).controllers (length site.segment.plan.talkers.items + k)
@@ -62,9 +63,9 @@ runs_segments s sites records d p = record {
 }
 
 -- the records tell the lines of the segments
-pub lines_told : (sites : List Site) (records : List Record) → Pairs (λ i. IsRecordAt) sites records →
+pub lines_reported : (sites : List Site) (records : List Record) → Pairs (λ i. IsRecordAt) sites records →
     map (λ (record_of : Record). record_of.events.items) records ≡ lines_at sites
-lines_told sites records p =
+lines_reported sites records p =
     pairs-map (λ (site : Site). site.segment.events) (λ (record_of : Record). record_of.events.items) sites records
     (record { at = λ i site record_of e f. (p.at i site record_of e f).value.events_is; size = p.size })
 
@@ -106,16 +107,16 @@ one_node s segment a b controller e f =
     omega (arith, same, p.0, q.0)
 
 -- the lines tell one thing of a controller
-told_once : (s : ScriptValue) (lines : List (List Event)) (controller : ℕ) (a b : List Told) →
-    AreToldOf s lines controller a → AreToldOf s lines controller b → a ≡ b
-told_once s lines controller a b p q =
+reported_once : (s : ScriptValue) (lines : List (List Event)) (controller : ℕ) (a b : List EventKind) →
+    AreReportedOf s lines controller a → AreReportedOf s lines controller b → a ≡ b
+reported_once s lines controller a b p q =
     let value : p.value ≡ q.value = same_some p.value q.value (sym p.value_is ∙ q.value_is) in
     let segment : p.value.segment ≡ q.value.segment = ap (λ (c : ControllerValue). c.segment) value in
     let node : p.node ≡ q.node = one_node s q.value.segment p.node q.node controller
     (ap (λ n. controller_at s n p.node) (sym segment) ∙ p.node_is) q.node_is in
     let events : p.events ≡ q.events =
     same_some p.events q.events (sym p.events_is ∙ ap (slice_get lines) segment ∙ q.events_is) in
-    p.tells_is ∙ ap (λ n. told_of n p.events) node ∙ ap (told_of q.node) events ∙ sym q.tells_is
+    p.tells_is ∙ ap (λ n. kinds_of n p.events) node ∙ ap (kinds_of q.node) events ∙ sym q.tells_is
 
 -- and a route has one number at its target
 one_number : (s : ScriptValue) (target a b place : ℕ) → route_at s target a ≡ Some place →
@@ -130,11 +131,11 @@ none_refilled room s report place r started p e starts =
     pair_at (λ k route. IsRouteRun room s (lines_of report) k route) s.routes report.routes.items place r p e in
     let route : starts.route ≡ run.0 = same_some starts.route run.0 (sym starts.route_is ∙ run.1) in
     let target : starts.route.target ≡ run.0.target = ap (λ (q : RouteValue). q.target) route in
-    let told : starts.to ≡ run.2.to = told_once s (lines_of report) run.0.target starts.to run.2.to
-    (subst (λ c. AreToldOf s (lines_of report) c starts.to) target starts.to_is) run.2.to_is in
+    let reported : starts.to ≡ run.2.to = reported_once s (lines_of report) run.0.target starts.to run.2.to
+    (subst (λ c. AreReportedOf s (lines_of report) c starts.to) target starts.to_is) run.2.to_is in
     let number : starts.number ≡ run.2.number = one_number s run.0.target starts.number run.2.number place
     (ap (λ c. route_at s c starts.number) (sym target) ∙ starts.number_is) run.2.number_is in
     subst (λ (q : RouteValue). NotRefilled q.rewrites r started) (sym route)
     (subst (NotRefilled run.0.rewrites r)
     (sym (starts.started_is ∙ ap (λ n. entries_of n (all_in start_in starts.to)) number
-    ∙ ap (λ tells. entries_of run.2.number (all_in start_in tells)) told)) run.2.claims.no_refill)
+    ∙ ap (λ tells. entries_of run.2.number (all_in start_in tells)) reported)) run.2.claims.no_refill)

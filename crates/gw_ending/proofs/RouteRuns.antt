@@ -10,7 +10,7 @@ use Rattle.bx_core.specs.Ties.{left_of}
 use Rattle.bx_core.specs.Stands.{entries_of}
 use Rattle.bx_core.specs.TxBus.{no_bus_past}
 use Rattle.can_frame.specs.Frames.{FrameValue}
-use Rattle.can_segment.specs.Brought.{told_of, all_in, start_in, taken_in, grown}
+use Rattle.can_segment.specs.Brought.{kinds_of, all_in, start_in, taken_in, grown}
 use Rattle.can_station.proofs.Places.{same_some}
 use Rattle.can_segment.proofs.Shown.{map_there}
 use Rattle.gw_route.specs.RouteHand.{HandValue, hand_value}
@@ -27,7 +27,7 @@ use Rattle.gw_opening.specs.declared.place.Place.{Place}
 use Rattle.gw_ending.specs.Ports.{Port}
 use Rattle.gw_ending.specs.Ports.{Site}
 use Rattle.gw_ending.specs.Finals.{IsDonePort, IsDoneSite, AreDoneSites, ClosesInto, WasOffered, WaitAtMost, HasTalkers}
-use Rattle.gw_ending.specs.Finals.{EndsLane, lines_at, told_at}
+use Rattle.gw_ending.specs.Finals.{EndsLane, lines_at, reported_at}
 use Rattle.bx_controller.specs.Intakes.{GoTo}
 use Rattle.gw_ending.specs.Headline.{Headline, released}
 use Rattle.gw_route.specs.Plans.{numbers_in, FromPlan}
@@ -35,7 +35,7 @@ use Rattle.gw_ending.specs.Links.{settled, RouteLinked}
 use Rattle.gw_opening.specs.Openings.{IsPlaceOf, IsLaneOf, priority_of}
 use Rattle.gw_opening.specs.Plans.{aborts_of}
 use Rattle.bx_controller.specs.Ports.{BothStand}
-use Rattle.gw_ending.specs.Reports.{AreToldOf, IsRouteRun, aborted_in}
+use Rattle.gw_ending.specs.Reports.{AreReportedOf, IsRouteRun, aborted_in}
 use Rattle.bx_controller.specs.Slots.{FifoStands, SlotStands}
 use Rattle.gw_route.specs.Sublists.{IsSublist}
 use Rattle.gw_opening.specs.Places.{IsAt, slot_of}
@@ -65,7 +65,7 @@ pub record DoneAt (s : ScriptValue) (sites : List Site) (controller : ℕ) (plac
   pub site : Site
   pub site_is : slice_get sites place.site ≡ Some site
   pub done : IsDoneSite s place.site site
-  pub port_done : IsDonePort s controller (told_at site place.port) (length site.segment.levels) port
+  pub port_done : IsDonePort s controller (reported_at site place.port) (length site.segment.levels) port
   pub on : port_done.value.segment ≡ place.site
 
 pub on_segment : (s : ScriptValue) (controller : ℕ) (place : Place) (value : ControllerValue) →
@@ -90,11 +90,11 @@ done_at s sites controller place port done is at =
     }
 
 -- what the lines tell of it
-abbrev told : (s : ScriptValue) (sites : List Site) (controller : ℕ) (place : Place) (port : Port) →
+abbrev reported : (s : ScriptValue) (sites : List Site) (controller : ℕ) (place : Place) (port : Port) →
     IsPlaceOf s controller place → (d : DoneAt s sites controller place port) →
-    AreToldOf s (lines_at sites) controller
-    (told_of (length d.site.segment.plan.talkers.items + place.port) d.site.segment.events)
-told s sites controller place port is d = record {
+    AreReportedOf s (lines_at sites) controller
+    (kinds_of (length d.site.segment.plan.talkers.items + place.port) d.site.segment.events)
+reported s sites controller place port is d = record {
   value = d.port_done.value;
   value_is = d.port_done.value_is;
   node = length d.site.segment.plan.talkers.items + place.port;
@@ -125,7 +125,7 @@ pub offered_at : (s : ScriptValue) (sites : List Site) (controller fifo : ℕ) (
     (intake : Intake) → IsSound s → fifo ≤ 1 → (d : DoneAt s sites controller place port) →
     slot_of port fifo ≡ Some intake →
     FifoStands port.banks fifo intake
-    (all_in taken_in (told_of (length d.site.segment.plan.talkers.items + place.port) d.site.segment.events))
+    (all_in taken_in (kinds_of (length d.site.segment.plan.talkers.items + place.port) d.site.segment.events))
 offered_at s sites controller fifo place port intake sound small d is =
     slot_stands port _ fifo intake small
     (d.port_done.taken (omega (arith, d.port_done.few, d.done.made, sound.few_bits))) is
@@ -166,7 +166,7 @@ route_run room s sites k route lane r sound done e l closes few ends =
     let waiting = left_of lane.number closes.to.mail.left.items in
     let ended = numbers r.completed.items ++ numbers waiting in
     let logged = (hand_value lane.hand).aborted in
-    let tells = told_at closes.to_is.site lane.target.port in
+    let tells = reported_at closes.to_is.site lane.target.port in
     let value : closes.value ≡ to.port_done.value =
     same_some closes.value to.port_done.value (sym closes.value_is ∙ to.port_done.value_is) in
     let end = ends.end_is closes.to closes.to_is in
@@ -180,16 +180,16 @@ route_run room s sites k route lane r sound done e l closes few ends =
     (end.linked room (priority_of closes.value) lane.number (grown no_bus_past tells) closes.past room_left closes.tied
     closes.matches completed) in
     record {
-      from = told_at from.site lane.source.port;
-      from_is = told s sites route.source lane.source ends.from l.source_is from;
+      from = reported_at from.site lane.source.port;
+      from_is = reported s sites route.source lane.source ends.from l.source_is from;
       to = tells;
-      to_is = told s sites route.target lane.target closes.to l.target_is to;
+      to_is = reported s sites route.target lane.target closes.to l.target_is to;
       number = lane.number;
       number_is = l.number_is;
       offered = stands.offered;
-      offers = subst (λ banks. GoTo banks route.fifo (all_in taken_in (told_at from.site lane.source.port))
+      offers = subst (λ banks. GoTo banks route.fifo (all_in taken_in (reported_at from.site lane.source.port))
           stands.offered) from.port_done.banks_is
-          (subst (λ n. GoTo ends.from.banks n (all_in taken_in (told_at from.site lane.source.port)) stands.offered)
+          (subst (λ n. GoTo ends.from.banks n (all_in taken_in (reported_at from.site lane.source.port)) stands.offered)
           l.fifo_is stands.goes);
       fifo = end.fifo stands.offered stands.stands;
       completed_is = completed;

@@ -1,4 +1,4 @@
--- What is told of a route, and left of it, grows by a line.
+-- What is reported of a route, and left of it, grows by a line.
 use Rattle.std.proofs.Common.{◌≡◌, ℕ, suc, ◌+◌, ◌<◌, ◌≤◌, ◌==◌, Bool, true, false, cond, List, [], ◌∷◌, ◌++◌, length}
 use Rattle.std.proofs.Common.{take, get_or, refl, ap, ◌∙◌, arith}
 use Rattle.std.proofs.Math.Seq.{take-suc}
@@ -10,7 +10,7 @@ use Rattle.bx_core.specs.Stands.{entries_of, entry_on_bus}
 use Rattle.bx_core.specs.Ties.{left_of}
 use Rattle.bx_core.specs.TxBus.{Item}
 use Rattle.can_station.specs.declared.event.Event.{Event}
-use Rattle.can_segment.specs.Brought.{all_in, sent_in, told_of}
+use Rattle.can_segment.specs.Brought.{all_in, sent_in, kinds_of}
 use Rattle.can_segment.proofs.Brought.{all-append}
 use Rattle.can_segment.proofs.LinesOfNodes.{of-append}
 
@@ -30,16 +30,16 @@ entries-append route (x ∷ xs) ys = by_test (x.0 == route) (entries-append rout
     by_test false e = e
 
 pub sent_grows : (route node : ℕ) (events : List Event) (i : ℕ) (d : Event) → i < length events →
-    entries_of route (all_in sent_in (told_of node (take (i + 1) events)))
-    ≡ entries_of route (all_in sent_in (told_of node (take i events)))
-    ++ entries_of route (all_in sent_in (told_of node (get_or events i d ∷ [])))
+    entries_of route (all_in sent_in (kinds_of node (take (i + 1) events)))
+    ≡ entries_of route (all_in sent_in (kinds_of node (take i events)))
+    ++ entries_of route (all_in sent_in (kinds_of node (get_or events i d ∷ [])))
 sent_grows route node events i d lt =
     let front = take i events in
     let one = get_or events i d ∷ [] in
-    ap (λ es. entries_of route (all_in sent_in (told_of node es))) (take_one events i d lt)
+    ap (λ es. entries_of route (all_in sent_in (kinds_of node es))) (take_one events i d lt)
     ∙ ap (λ ts. entries_of route (all_in sent_in ts)) (of-append node front one)
-    ∙ ap (entries_of route) (all-append sent_in (told_of node front) (told_of node one))
-    ∙ entries-append route (all_in sent_in (told_of node front)) (all_in sent_in (told_of node one))
+    ∙ ap (entries_of route) (all-append sent_in (kinds_of node front) (kinds_of node one))
+    ∙ entries-append route (all_in sent_in (kinds_of node front)) (all_in sent_in (kinds_of node one))
 
 -- what is left, as an entry
 abbrev entry_left : Left → Entry

@@ -7,12 +7,13 @@ use Rattle.bx_core.specs.TxBus.{no_bus_past}
 use Rattle.bx_core.specs.States.{numbers}
 use Rattle.bx_core.specs.Stands.{entries_of, numbers_of}
 use Rattle.can_station.specs.declared.event.Event.{Event}
-use Rattle.can_station.specs.declared.event.Told.{Told}
+use Rattle.can_station.specs.declared.event.EventKind.{EventKind}
 use Rattle.can_station.specs.declared.plan.SegmentPlan.{SegmentPlan}
 use Rattle.can_segment.specs.declared.record.Record.{Record}
-use Rattle.can_segment.specs.Brought.{StartsUndone, told_of, all_in, start_in, sent_in, reaped_in, taken_in}
+use Rattle.can_segment.specs.Brought.{StartsUndone, kinds_of, all_in, start_in, sent_in, reaped_in, taken_in}
 use Rattle.can_segment.specs.Attempts.{RequestsTryFailures}
 use Rattle.can_segment.specs.Copies.{Copies}
+use Rattle.can_segment.specs.Queues.{KeepsQueues}
 use Rattle.can_segment.specs.Runs.{IsRun, Run}
 use Rattle.can_segment.specs.Traces.{Bit}
 use Rattle.gw_script.specs.declared.report.Report.{Report}
@@ -33,7 +34,7 @@ use Rattle.gw_route.specs.Sublists.{IsSublist}
 -- no controller of a segment begins a request that is over: one that it had completed, or that was reaped
 abbrev pub NeverAgain : SegmentPlan → List Event → Type 0
 NeverAgain plan events = (k : ℕ) → k < length plan.controllers.items →
-    StartsUndone no_bus_past (told_of (length plan.talkers.items + k) events)
+    StartsUndone no_bus_past (kinds_of (length plan.talkers.items + k) events)
 
 -- of two attempts of one request of a controller the earlier one failed, and the request did not end by it
 abbrev pub TriesFailures : SegmentPlan → Record → Type 0
@@ -49,6 +50,7 @@ pub record IsSegmentRun (s : ScriptValue) (segment : ℕ) (record_of : Record) :
   pub run : IsRun plan record_of
   pub whole : length record_of.levels.items ≡ s.bits
   pub copies : Copies plan record_of.levels.items record_of.events.items
+  pub queues : KeepsQueues plan record_of.events.items
   pub once : NeverAgain plan record_of.events.items
   pub requests : TriesFailures plan record_of
 
@@ -65,14 +67,14 @@ abbrev pub lines_of : Report → List (List Event)
 lines_of report = map (λ (record_of : Record). record_of.events.items) report.segments.items
 
 -- these lines tell this of a controller, which is a node of its segment
-pub record AreToldOf (s : ScriptValue) (lines : List (List Event)) (controller : ℕ) (tells : List Told) : Type 0 where
+pub record AreReportedOf (s : ScriptValue) (lines : List (List Event)) (controller : ℕ) (tells : List EventKind) : Type 0 where
   pub value : ControllerValue
   pub value_is : slice_get s.controllers controller ≡ Some value
   pub node : ℕ
   pub node_is : controller_at s value.segment node ≡ Some controller
   pub events : List Event
   pub events_is : slice_get lines value.segment ≡ Some events
-  pub tells_is : tells ≡ told_of node events
+  pub tells_is : tells ≡ kinds_of node events
 
 -- the numbers that the script's aborts of a route name
 abbrev pub aborted_in : ScriptValue → ℕ → List ℕ
@@ -82,11 +84,11 @@ aborted_in s route = numbers_in (aborts_of s route)
 -- have room for so many requests.
 pub record IsRouteRun (room : ℕ) (s : ScriptValue) (lines : List (List Event)) (place : ℕ) (route : RouteValue)
     (r : RouteReport) : Type 0 where
-  -- what is told of the controller that it takes from, and of the one that it leads into
-  pub from : List Told
-  pub from_is : AreToldOf s lines route.source from
-  pub to : List Told
-  pub to_is : AreToldOf s lines route.target to
+  -- what is reported of the controller that it takes from, and of the one that it leads into
+  pub from : List EventKind
+  pub from_is : AreReportedOf s lines route.source from
+  pub to : List EventKind
+  pub to_is : AreReportedOf s lines route.target to
   -- its number at the controller that it leads into
   pub number : ℕ
   pub number_is : route_at s route.target number ≡ Some place
@@ -124,8 +126,8 @@ RunsRoutes room s report = Pairs (λ place route. IsRouteRun room s (lines_of re
 pub record AreStartsOf (s : ScriptValue) (lines : List (List Event)) (place : ℕ) (started : List Entry) : Type 0 where
   pub route : RouteValue
   pub route_is : slice_get s.routes place ≡ Some route
-  pub to : List Told
-  pub to_is : AreToldOf s lines route.target to
+  pub to : List EventKind
+  pub to_is : AreReportedOf s lines route.target to
   pub number : ℕ
   pub number_is : route_at s route.target number ≡ Some place
   pub started_is : started ≡ entries_of number (all_in start_in to)

@@ -15,8 +15,8 @@ ghost use Rattle.gw_opening.specs.Openings.{Takes};
 ghost use Rattle.gw_opening.specs.Slots.{SetsSlot};
 ghost use Rattle.gw_ending.specs.Ends.{IsEndOf};
 ghost use Rattle.gw_ending.specs.Finals.{AreDoneSites, IsOver, IsRecordAt, EndsLane};
-ghost use Rattle.gw_ending.specs.Finals.{WasOffered, WaitAtMost, HasTalkers, lines_at, told_at};
-ghost use Rattle.gw_ending.specs.Finals.{turns_made, turns_told};
+ghost use Rattle.gw_ending.specs.Finals.{WasOffered, WaitAtMost, HasTalkers, lines_at, reported_at};
+ghost use Rattle.gw_ending.specs.Finals.{turns_made, turns_reported};
 ghost use Rattle.gw_ending.specs.Ports.{Port as AnyClosed};
 ghost use Rattle.gw_ending.specs.Reports.{IsRouteRun};
 
@@ -46,7 +46,7 @@ fn sent_at(
     requires talkers { HasTalkers sites.now place talkers }
     requires few { talkers + place.port < 4294967296 }
     ensures { IfOk result (λ all. (port : AnyClosed) → (at : IsAt sites.now place port) → all.items
-        ≡ entries_of number (all_in sent_in (told_at at.site place.port))) }
+        ≡ entries_of number (all_in sent_in (reported_at at.site place.port))) }
 {
     let node = (talkers + place.port) as u32;
     let record = sites[place.site].segment.record();
@@ -82,7 +82,7 @@ fn end_hand<R: Wait>(
     ensures ends { IfOk result (λ r. (to : AnyClosed) → IsAt sites.now target to
         → IsEndOf r intake (hand_value hand) (left_of number to.mail.left.items)) }
     ensures completed { IfOk result (λ r. (to : AnyClosed) → (to_is : IsAt sites.now target to)
-        → r.completed.items ≡ entries_of number (all_in sent_in (told_at to_is.site target.port))) }
+        → r.completed.items ≡ entries_of number (all_in sent_in (reported_at to_is.site target.port))) }
     ensures turns { IfOk result (λ r. r.turns ≡ (hand_value hand).turns) }
 {
     let completed = sent_at(alloc, sites, target, talkers, number)?;
@@ -144,7 +144,7 @@ pub(crate) fn end_lanes<R: Wait>(
     ensures routes { IfOk result (λ reports. (room : ℕ) → WaitAtMost room sites.old
         → Pairs (λ k route. IsRouteRun room script.now (lines_at sites.old) k route) script.now.routes reports.items) }
     ensures size { IfOk result (λ reports. length reports.items ≡ length script.now.routes) }
-    ensures turns { IfOk result (λ reports. turns_told reports.items ≡ turns_made lanes.items) }
+    ensures turns { IfOk result (λ reports. turns_reported reports.items ≡ turns_made lanes.items) }
 {
     let mut reports = Vec::with_capacity(alloc, script.routes().len())?;
     for lane in lanes {

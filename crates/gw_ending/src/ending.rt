@@ -3,7 +3,7 @@
 ghost use Rattle.std.specs.Prelude.{◌≡◌, ℕ, IfOk};
 ghost use Rattle.gw_config.specs.SoundScripts.{IsSound};
 ghost use Rattle.gw_script.specs.NamedPlaces.{Names};
-ghost use Rattle.gw_ending.specs.Finals.{IsOver, WaitAtMost, turns_made, turns_told};
+ghost use Rattle.gw_ending.specs.Finals.{IsOver, WaitAtMost, turns_made, turns_reported};
 ghost use Rattle.gw_ending.specs.Reports.{RunsSegments, RunsRoutes};
 
 use crate::closed::ClosedSite;
@@ -30,7 +30,7 @@ pub fn end_run<R: Wait>(
     ensures routes { IfOk result (λ report. (room : ℕ) → WaitAtMost room sites.items
         → RunsRoutes room script.now report) }
     ensures names { IfOk result (Names script.now) }
-    ensures turns { IfOk result (λ report. turns_told report.routes.items ≡ turns_made lanes.items) }
+    ensures turns { IfOk result (λ report. turns_reported report.routes.items ≡ turns_made lanes.items) }
 {
     let mut sites = sites;
     let routes = end_lanes(rt, alloc, script, sites.as_mut_slice(), lanes)?;

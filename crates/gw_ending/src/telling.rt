@@ -4,23 +4,23 @@ ghost use Rattle.std.specs.Prelude.{◌≡◌, ◌∷◌, [], IfOk, option_to_li
 ghost use Rattle.bx_core.specs.Stands.{entries_of};
 ghost use Rattle.bx_core.specs.States.{numbers};
 ghost use Rattle.bx_core.specs.Ties.{left_of};
-ghost use Rattle.can_segment.specs.Brought.{all_in, sent_in, told_of};
+ghost use Rattle.can_segment.specs.Brought.{all_in, sent_in, kinds_of};
 
 use bx_core::{Entry, Left};
-use can_segment::{Event, Told};
+use can_segment::{Event, EventKind};
 use gw_opening::push_some;
 use std::alloc::{AllocError, Global};
 
 /// The request of a route that a line tells to be sent.
 fn sent_in(event: &Event, node: u32, route: u8) -> Option<Entry>
-    ensures { option_to_list result ≡ entries_of route (all_in sent_in (told_of node (event.now ∷ []))) }
+    ensures { option_to_list result ≡ entries_of route (all_in sent_in (kinds_of node (event.now ∷ []))) }
 {
     if event.node() != node {
         return None;
     }
-    let told = event.told();
-    match &told {
-        Told::Completed {
+    let reported = event.kind();
+    match &reported {
+        EventKind::Completed {
             start: _,
             frame,
             label: Some(label),
@@ -44,7 +44,7 @@ pub(crate) fn completed_of(
     node: u32,
     route: u8,
 ) -> Result<Vec<Entry>, AllocError>
-    ensures { IfOk result (λ all. all.items ≡ entries_of route (all_in sent_in (told_of node events.now))) }
+    ensures { IfOk result (λ all. all.items ≡ entries_of route (all_in sent_in (kinds_of node events.now))) }
 {
     let mut all = Vec::new(alloc);
     for event in events {

@@ -14,6 +14,7 @@ pub data Fault : Type 0 where
   fifo_twice : ℕ → Fault
   too_many : List ℕ → Fault
   wrong_version : Fault
+  unknown_field : List ℕ → Fault
 
 -- the fault of the input that the code answers; want of memory is none
 abbrev pub fault_of : ScriptFault → Option Fault
@@ -26,6 +27,7 @@ fault_of (fault.DoubleName name) = Some (double_name name.now)
 fault_of (fault.FifoTwice place) = Some (fifo_twice place)
 fault_of (fault.TooMany name) = Some (too_many name.now)
 fault_of fault.Version = Some wrong_version
+fault_of (fault.Unknown object) = Some (unknown_field object.now)
 fault_of fault.Memory = None
 
 -- P holds of the fault, unless memory was wanting

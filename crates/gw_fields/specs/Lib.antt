@@ -3,3 +3,9 @@ pub mod Fields
 pub mod Frames
 pub mod Documents
 pub mod Names
+pub mod Optional
+pub mod Known
+pub mod Digits
+pub mod IdentifierTexts
+pub mod FrameTexts
+pub mod Durations

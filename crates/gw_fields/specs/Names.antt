@@ -25,7 +25,7 @@ formed_name from = do
   name ← text (codes "name") from
   if is_name name then Ok name else Err (out_of_range (codes "name"))
 
--- the same, where the name is not among those that are taken; a double one is told with its list
+-- the same, where the name is not among those that are taken; a double one is reported with its list
 unfoldable pub new_name : List ℕ → List (List ℕ) → Data → Result (List ℕ) Fault
 new_name list taken from = do
   name ← formed_name from

@@ -34,7 +34,7 @@ pub fn field<'v>(object: &'v Value, name: &'static str) -> Result<&'v Value, Scr
 
 /// A whole number.
 #[tactic(auto, unfolding(crate::specs::Fields::natural_of))]
-fn natural_of(value: &Value, name: &'static str) -> Result<u64, ScriptFault>
+pub(crate) fn natural_of(value: &Value, name: &'static str) -> Result<u64, ScriptFault>
     ensures { Reads (λ n. n) result (natural_of name.entry.now (view value.now)) }
 {
     match value.as_u64() {

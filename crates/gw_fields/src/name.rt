@@ -98,7 +98,7 @@ pub fn formed_name<'v>(object: &'v Value) -> Result<&'v str, ScriptFault>
     }
 }
 
-/// The field `name`, where none in front of the element has it. A double name is told with its list.
+/// The field `name`, where none in front of the element has it. A double name is reported with its list.
 #[tactic(auto, unfolding(crate::specs::Names::new_name))]
 pub fn new_name<'v, T: Named>(
     object: &'v Value,

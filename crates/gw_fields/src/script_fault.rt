@@ -40,6 +40,10 @@ pub enum ScriptFault {
     /// Memory ran out. Status 3.
     #[error("J10 Memory")]
     Memory,
+    /// A field that no object of its kind has, in version 3. The name is `script`, or that of the list in
+    /// which the object is an element.
+    #[error("J11 Unknown {0}")]
+    Unknown(&'static str),
 }
 
 impl From<AllocError> for ScriptFault {

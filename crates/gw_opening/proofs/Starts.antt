@@ -6,7 +6,7 @@ use Rattle.bx_core.specs.Lists.{Each}
 use Rattle.bx_core.specs.TxBus.{Item, BusPast, no_bus_past}
 use Rattle.bx_rx.specs.Bank.{BankValue}
 use Rattle.bx_rx.specs.declared.rx_frame.RxFrame.{RxFrame}
-use Rattle.can_segment.specs.Brought.{told_of, all_in, taken_in, grown, StartsUndone}
+use Rattle.can_segment.specs.Brought.{kinds_of, all_in, taken_in, grown, StartsUndone}
 use Rattle.can_segment.specs.Segments.{SegmentValue}
 use Rattle.can_station.specs.declared.event.Event.{Event}
 use Rattle.bx_controller.proofs.Intakes.{left-length}
@@ -45,13 +45,13 @@ module _ {B : Type 0} (after : B → BusPast → Type 0) (transmitting : B → O
       IsNewPort s controller port → after port.mail no_bus_past →
       PortHolds (λ (p : Port B) past. after p.mail past) SinkStands node segment port
   port_starts s controller node segment port none p new = record {
-    bus = subst (λ (es : List Event). after port.mail (grown no_bus_past (told_of node es))) (sym none) new;
-    taken = subst (λ (es : List Event). SinkStands port (all_in taken_in (told_of node es))) (sym none) (λ few. record {
+    bus = subst (λ (es : List Event). after port.mail (grown no_bus_past (kinds_of node es))) (sym none) new;
+    taken = subst (λ (es : List Event). SinkStands port (all_in taken_in (kinds_of node es))) (sym none) (λ few. record {
       first = slot_starts port.banks 0 port.first p.first;
       second = slot_starts port.banks 1 port.second p.second;
     });
-    once = subst (λ (es : List Event). StartsUndone no_bus_past (told_of node es)) (sym none) tt;
-    few = subst (λ (es : List Event). length (all_in taken_in (told_of node es)) ≤ length segment.levels) (sym none)
+    once = subst (λ (es : List Event). StartsUndone no_bus_past (kinds_of node es)) (sym none) tt;
+    few = subst (λ (es : List Event). length (all_in taken_in (kinds_of node es)) ≤ length segment.levels) (sym none)
         (omega arith);
   }
 

@@ -1,4 +1,5 @@
 pub mod Places
 pub mod Slots
+pub mod Queues
 pub mod Plans
 pub mod Openings

@@ -1,5 +1,5 @@
 -- What a script says of a segment and of a route, as the plan of a run.
-use Rattle.std.specs.Prelude.{◌≡◌, ℕ, ◌<◌, ◌==◌, Option, Some, None, List, slice_get, filter_map, if◌then◌else◌}
+use Rattle.std.specs.Prelude.{◌≡◌, ℕ, ◌<◌, ◌==◌, Option, Some, None, slice_get, List, filter_map, if◌then◌else◌}
 use Rattle.can_station.specs.declared.plan.Talker.{Talker}
 use Rattle.can_station.specs.declared.plan.Controller.{Controller}
 use Rattle.can_station.specs.declared.plan.NodeFault.{NodeFault}
@@ -14,28 +14,29 @@ use Rattle.gw_config.specs.Controllers.{ControllerValue, controllers_on}
 use Rattle.gw_config.specs.Scripts.{ScriptValue}
 use Rattle.gw_config.specs.Nodes.{talkers_on}
 use Rattle.gw_site.specs.Pairs.{Pairs}
+use Rattle.gw_opening.specs.Queues.{IsQueueOf}
 
 -- the place of its node fits 32 bits
 abbrev pub IsSmall : PlannedFault → Type 0
-IsSmall (AtNode node bit) = node.place < 4294967296
-IsSmall (OnLine place bit level) = Unit {0}
+IsSmall (AtNode node bit until) = node.place < 4294967296
+IsSmall (OnLine place bit until level) = Unit {0}
 
 -- a fault at a node of this segment
 abbrev pub node_fault_in : ℕ → PlannedFault → Option NodeFault
-node_fault_in segment (AtNode node bit) =
-    if node.segment == segment then Some (record { node = node.place; bit = bit }) else None
-node_fault_in segment (OnLine place bit level) = None
+node_fault_in segment (AtNode node bit until) =
+    if node.segment == segment then Some (record { node = node.place; bit = bit; until = until }) else None
+node_fault_in segment (OnLine place bit until level) = None
 
 -- a fault on the line of this segment
 abbrev pub line_fault_in : ℕ → PlannedFault → Option LineFault
-line_fault_in segment (AtNode node bit) = None
-line_fault_in segment (OnLine place bit level) = if place == segment then Some (record { bit = bit; level = level })
-    else None
+line_fault_in segment (AtNode node bit until) = None
+line_fault_in segment (OnLine place bit until level) =
+    if place == segment then Some (record { bit = bit; until = until; level = level }) else None
 
 -- a talker is switched on and sends as the script says
 pub record IsTalkerOf (said : TalkerValue) (talker : Talker) : Type 0 where
   pub on_is : talker.on ≡ said.on
-  pub frames_is : talker.frames.items ≡ said.frames
+  pub queue_is : IsQueueOf said.messages talker.queue.items
 
 -- a controller is switched on as the script says
 abbrev pub IsControllerOf : ControllerValue → Controller → Type 0

@@ -7,6 +7,7 @@ mod opening;
 mod place;
 mod places;
 mod plan;
+mod queue;
 mod route_start;
 mod slots;
 

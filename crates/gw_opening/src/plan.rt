@@ -4,10 +4,12 @@ ghost use Rattle.std.specs.Prelude.{◌≡◌, ◌<◌, IfOk, length, filter_map
 ghost use Rattle.gw_config.specs.Controllers.{controllers_on};
 ghost use Rattle.gw_site.specs.Pairs.{Pairs};
 ghost use Rattle.gw_config.specs.SoundScripts.{IsSound};
-ghost use Rattle.gw_opening.specs.Plans.{IsSmall, IsTalkerOf, IsControllerOf, IsPlanOf, node_fault_in, line_fault_in};
+ghost use Rattle.gw_opening.specs.Plans.{line_fault_in};
+ghost use Rattle.gw_opening.specs.Plans.{IsSmall, IsTalkerOf, IsControllerOf, IsPlanOf, node_fault_in};
 
 use crate::growing::push_some;
 use crate::places::{controller_count, controller_there};
+use crate::queue::queue_of;
 use can_segment::{Controller, LineFault, NodeFault, SegmentPlan, Talker};
 use gw_script::{PlannedFault, Script};
 use std::alloc::{AllocError, Global};
@@ -15,10 +17,9 @@ use std::alloc::{AllocError, Global};
 fn talker_of(alloc: Global, said: &gw_script::Talker) -> Result<Talker, AllocError>
     ensures { IfOk result (IsTalkerOf said.now) }
 {
-    let frames = Vec::from_slice(alloc, said.frames())?;
     Ok(Talker {
         on: u64::from(said.on()),
-        frames,
+        queue: queue_of(alloc, said.messages())?,
     })
 }
 
@@ -54,9 +55,10 @@ fn node_fault_in(segment: usize, fault: &PlannedFault) -> Option<NodeFault>
     ensures { result ≡ node_fault_in segment fault.now }
 {
     match *fault {
-        PlannedFault::AtNode { node, bit } if node.segment == segment => Some(NodeFault {
+        PlannedFault::AtNode { node, bit, until } if node.segment == segment => Some(NodeFault {
             node: node.place as u32,
             bit: u64::from(bit),
+            until: u64::from(until),
         }),
         _ => None,
     }
@@ -69,9 +71,11 @@ fn line_fault_in(segment: usize, fault: &PlannedFault) -> Option<LineFault>
         PlannedFault::OnLine {
             segment: place,
             bit,
+            until,
             level,
         } if place == segment => Some(LineFault {
             bit: u64::from(bit),
+            until: u64::from(until),
             level,
         }),
         _ => None,

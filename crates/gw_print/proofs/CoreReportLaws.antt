@@ -53,7 +53,7 @@ count_pieces route requested done aborted reaped waiting = codes "route " ∷ de
     ∷ codes " requested " ∷ decimal requested ∷ codes " done " ∷ decimal done
     ∷ codes " aborted " ∷ decimal aborted ∷ codes " reaped " ∷ decimal reaped ∷ codes " waiting " ∷ decimal waiting ∷ []
 
--- what is told of a route: lines, and then the counts
+-- what is reported of a route: lines, and then the counts
 pub counts_follow : {T E : Type 0} (r : Result T E) (route : ℕ) (l : RouteLists) (waits old next new : List ℕ)
     (a b c d e : ℕ) →
     a ≡ length l.requested → b ≡ length l.done → c ≡ length l.aborted → d ≡ length l.reaped → e ≡ length waits →
@@ -88,7 +88,7 @@ unfolding refused_lines
 refused-end s place events text all beyond is =
     sym (append-nil text) ∙ ap (λ es. text ++ refused_lines s place es) (sym (drop_all place events beyond)) ∙ is
 
--- the lines of the refused events, and what is told of the routes
+-- the lines of the refused events, and what is reported of the routes
 pub whole_report : (txfp : Bool) (routes : ℕ) (events items : List Event) (first last : State)
     (start middle text : List ℕ) →
     items ≡ events → first ≡ opening_by txfp routes → start ≡ [] → last ≡ run first items → middle ≡ start
@@ -96,7 +96,7 @@ pub whole_report : (txfp : Bool) (routes : ℕ) (events items : List Event) (fir
     length last.routes ≡ length first.routes → AppendsRoutes last (length last.routes) middle text →
     IsReport (record { routes = routes; txfp = txfp; events = events }) text
 whole_report txfp routes events items first last start middle text items_are first_is start_is last_is middle_is count
-    told =
+    reported =
     let goes : last ≡ run (opening_by txfp routes) events =
     last_is ∙ ap (λ s. run s items) first_is ∙ ap (run (opening_by txfp routes)) items_are in
     let counts : length last.routes ≡ routes =
@@ -106,4 +106,4 @@ whole_report txfp routes events items first last start middle text items_are fir
     ∙ ap (refused_lines (opening_by txfp routes) 0) items_are in
     subst (λ t. AppendsRoutes (run (opening_by txfp routes) events) routes t text) lines
     (subst (λ n. AppendsRoutes (run (opening_by txfp routes) events) n middle text) counts
-    (subst (λ s. AppendsRoutes s (length last.routes) middle text) goes told))
+    (subst (λ s. AppendsRoutes s (length last.routes) middle text) goes reported))

@@ -61,12 +61,12 @@ count_line route l waits = line (codes "route " ∷ decimal route
     ∷ codes " aborted " ∷ decimal (length l.aborted) ∷ codes " reaped " ∷ decimal (length l.reaped)
     ∷ codes " waiting " ∷ decimal (length waits) ∷ [])
 
--- by what is told of a route
+-- by what is reported of a route
 abbrev pub AppendsRoute : State → ℕ → List ℕ → List ℕ → Type 0
 AppendsRoute s route old new = (next : List ℕ) × AppendsDones route old next (lists_of s route).done
     × (new ≡ next ++ count_line route (lists_of s route) (waits_of route s.queue))
 
--- by what is told of the first `count` routes, in order
+-- by what is reported of the first `count` routes, in order
 abbrev pub AppendsRoutes : State → ℕ → List ℕ → List ℕ → Type 0
 AppendsRoutes s zero old new = new ≡ old
 AppendsRoutes s (suc count) old new = (next : List ℕ) × AppendsRoutes s count old next × AppendsRoute s count next new

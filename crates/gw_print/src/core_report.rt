@@ -102,7 +102,7 @@ fn push_dones(text: &mut String, route: u8, done: &[Entry]) -> Result<(), AllocE
     Ok(())
 }
 
-/// Adds what is told of a route.
+/// Adds what is reported of a route.
 fn push_route(text: &mut String, core: &Core, route: u8) -> Result<(), AllocError>
     requires { route < length core.now.routes }
     ensures { OnOk result (AppendsRoute core.now route (string_bytes text.old) (string_bytes text.new)) }

@@ -1,5 +1,5 @@
 -- Idle turns change nothing of a hand but the count of turns.
-use Rattle.std.proofs.Common.{◌≡◌, ◌+◌, ℕ, List, Result, Ok, Err, refl}
+use Rattle.std.proofs.Common.{◌≡◌, ◌+◌, min, ℕ, List, Result, Ok, Err, refl}
 use Rattle.bx_core.specs.RouteTx.{RoutePast}
 use Rattle.bx_core.specs.declared.answer.AbortAnswer.{AbortAnswer}
 use Rattle.bx_core.specs.declared.answer.AbortAnswer.TheVariants.{Ended, Asked, Gone, NotNow as Later}
@@ -19,7 +19,7 @@ use Rattle.gw_route.specs.declared.route_abort.RouteAbort.{RouteAbort}
 -- it still matches what its side of the mailboxes did,
 pub linked_idled : (after : RoutePast → Type 0) (more : ℕ) (h : HandValue) → IsLinked after h →
     IsLinked after (idled more h)
-linked_idled after more h l = (l.0, l.1, matches-turns (h.turns + more) h l.0 l.2)
+linked_idled after more h l = (l.0, l.1, matches-turns (min (h.turns + more) 1000000) h l.0 l.2)
 
 -- and keeps to the aborts that were planned
 pub planned_idled : (planned : List RouteAbort) (more : ℕ) (h : HandValue) → FromPlan planned h →

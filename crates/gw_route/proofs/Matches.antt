@@ -166,7 +166,7 @@ matches-requested h past e (Ok NotNow) held limit l =
 matches-requested h past e (Err why) held limit l =
     matches-refused h past (after_request past e.number e.frame (Err why)) refl refl refl l
 
--- a list that is told one number more, or none
+-- a list that is reported one number more, or none
 grows : (old more new : List ℕ) (logged : List ℕ) (number : ℕ) → new ≡ old ++ more →
     ((n : ℕ) → Has more n → n ≡ number) → ((n : ℕ) → Has old n → Has logged n) →
     (n : ℕ) → Has new n → Has (logged ++ number ∷ []) n

@@ -49,21 +49,21 @@ acted-request after after' old filled new e sent answer none f limit says is ste
           (subst (λ (v : HandValue). Turned old v past next (requested_answer sent)) (sym is) made),
     )
 
-pub acted-abort : (after after' : RoutePast → Type 0) (old new : HandValue) (abort : RouteAbort) (told : AbortAnswer)
+pub acted-abort : (after after' : RoutePast → Type 0) (old new : HandValue) (abort : RouteAbort) (reported : AbortAnswer)
     (answer : TurnAnswer) →
-    first_abort old ≡ Some abort → IsDueByCount old abort → answer ≡ aborted_answer told →
-    new ≡ if_aborted told abort.number old →
-    ((past : RoutePast) → after past → (asks : Bool) × after' (after_abort past abort.number told asks)) →
+    first_abort old ≡ Some abort → IsDueByCount old abort → answer ≡ aborted_answer reported →
+    new ≡ if_aborted reported abort.number old →
+    ((past : RoutePast) → after past → (asks : Bool) × after' (after_abort past abort.number reported asks)) →
     Acted after after' old new answer
-acted-abort after after' old new abort told answer first due says is step past a l =
-    let t : (asks : Bool) × after' (after_abort past abort.number told asks) = step past a in
-    let next : RoutePast = after_abort past abort.number told t.0 in
-    let made : Turned old (if_aborted told abort.number old) past next (aborted_answer told) =
-    by_abort abort told t.0 first (count-due old past abort l due) in (
+acted-abort after after' old new abort reported answer first due says is step past a l =
+    let t : (asks : Bool) × after' (after_abort past abort.number reported asks) = step past a in
+    let next : RoutePast = after_abort past abort.number reported t.0 in
+    let made : Turned old (if_aborted reported abort.number old) past next (aborted_answer reported) =
+    by_abort abort reported t.0 first (count-due old past abort l due) in (
       next,
       t.1,
       subst (λ (v : TurnAnswer). Turned old new past next v) (sym says)
-          (subst (λ (v : HandValue). Turned old v past next (aborted_answer told)) (sym is) made),
+          (subst (λ (v : HandValue). Turned old v past next (aborted_answer reported)) (sym is) made),
     )
 
 -- the number in the hand is above the last one that was requested
@@ -77,8 +77,8 @@ pub turned-matches : (old new : HandValue) (past next : RoutePast) (answer : Tur
 turned-matches old _ past _ _ (idle none empty dry) l = matches-asked old past l
 turned-matches old _ past _ _ (by_request {filled = filled} e sent none f limit) l =
     matches-requested filled past e sent f.0 limit (matches-filled old filled past e f l)
-turned-matches old _ past _ _ (by_abort abort told asks first due) l =
-    matches-aborted old past abort.number told asks due.known l
+turned-matches old _ past _ _ (by_abort abort reported asks first due) l =
+    matches-aborted old past abort.number reported asks due.known l
 
 filled-logs : (old filled : HandValue) (e : Entry) → Filled old filled e → LogsReleased old → LogsReleased filled
 filled-logs old filled e f l = elim (f.1) [
@@ -93,8 +93,8 @@ requested-logs (Ok Yes) h l = l
 requested-logs (Ok NotNow) h l = l
 requested-logs (Err why) h l = l
 
-aborted-logs : (told : AbortAnswer) (number : ℕ) (h : HandValue) → LogsReleased h →
-    LogsReleased (if_aborted told number h)
+aborted-logs : (reported : AbortAnswer) (number : ℕ) (h : HandValue) → LogsReleased h →
+    LogsReleased (if_aborted reported number h)
 aborted-logs Ended number h l = l
 aborted-logs Asked number h l = l
 aborted-logs Gone number h l = l
@@ -105,4 +105,4 @@ pub turned-logs : (old new : HandValue) (past next : RoutePast) (answer : TurnAn
 turned-logs _ _ _ _ _ (idle none empty dry) l = l
 turned-logs old _ _ _ _ (by_request {filled = filled} e sent none f limit) l =
     requested-logs sent filled (filled-logs old filled e f l)
-turned-logs old _ _ _ _ (by_abort abort told asks first due) l = aborted-logs told abort.number old l
+turned-logs old _ _ _ _ (by_abort abort reported asks first due) l = aborted-logs reported abort.number old l

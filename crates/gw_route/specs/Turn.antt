@@ -1,5 +1,5 @@
 -- One turn of a route: an abort that is due, or else a request of the frame in the hand.
-use Rattle.std.specs.Prelude.{◌≡◌, ℕ, ◌+◌, ◌<◌, ◌≤◌, ◌↔◌, ◌⊎◌, nat_lt, if◌then◌else◌, Bool, List, []}
+use Rattle.std.specs.Prelude.{◌≡◌, ℕ, ◌+◌, ◌/◌, ◌<◌, ◌≤◌, ◌↔◌, ◌⊎◌, min, nat_lt, if◌then◌else◌, Bool, List, []}
 use Rattle.std.specs.Prelude.{◌∷◌, ◌++◌, length, remove, slice_get, Option, Some, Result, Ok, Err, IsErr}
 use Rattle.can_frame.specs.Frames.{FrameValue}
 use Rattle.can_frame.specs.Rewrites.{rewritten}
@@ -24,6 +24,10 @@ use Rattle.gw_route.specs.declared.turn_answer.TurnAnswer.TheVariants.{Idle, Req
 -- turns are counted up to a million
 abbrev pub next_turn : ℕ → ℕ
 next_turn turns = if nat_lt turns 1000000 then turns + 1 else turns
+
+-- how many are counted behind so many bits, where one is made behind each multiple of `turn` bits
+abbrev pub turns_in : ℕ → ℕ → ℕ
+turns_in turn bits = min (bits / turn) 1000000
 
 -- the hand at its next turn
 abbrev pub counted : HandValue → HandValue
@@ -137,6 +141,6 @@ pub record WaitsForFrame (h : HandValue) : Type 0 where
   pub none_due : (turns : ℕ) (abort : RouteAbort) → first_abort h ≡ Some abort →
       IsDueByCount (record h { turns = turns }) abort → ⊥
 
--- the hand behind so many turns more that were idle, where what the FIFO was asked is left aside
+-- the hand behind so many turns more that were idle, counted up to a million; what the FIFO was asked is left aside
 abbrev pub idled : ℕ → HandValue → HandValue
-idled more h = record h { turns = h.turns + more }
+idled more h = record h { turns = min (h.turns + more) 1000000 }

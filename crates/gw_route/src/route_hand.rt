@@ -126,15 +126,15 @@ impl RouteHand {
         }
     }
 
-    /// So many idle turns at once, at which the FIFO is empty: they are counted, and nothing else is done.
-    pub fn idle(&mut self, more: u32)
+    /// So many idle turns at once, at which the FIFO is empty: they are counted, up to 1,000,000 in all, and nothing
+    /// else is done.
+    pub fn idle(&mut self, more: u64)
         requires waits { WaitsForFrame (hand_value self.old) }
-        requires few { self.old.turns + more ≤ 1000000 }
         ensures value { hand_value self.new ≡ idled more (hand_value self.old) }
         ensures queue { self.new.out.queue ≡ self.old.out.queue }
         ensures rewrites { self.new.rewrites ≡ self.old.rewrites }
     {
-        self.turns += more;
+        self.turns = u64::from(self.turns).saturating_add(more).min(1_000_000) as u32;
     }
 
     fn count(&mut self)

@@ -1,14 +1,14 @@
 -- Laws of how many turns routes made, and of memory that was not refused.
-use Rattle.std.proofs.Common.{◌≡◌, ◌≢◌, ℕ, zero, suc, ◌+◌, ◌*◌, ◌/◌, ◌%◌, ◌<◌, ◌≤◌, inl, inr, ◌⊎◌, if◌then◌else◌, false}
+use Rattle.std.proofs.Common.{◌≡◌, ◌≢◌, ℕ, zero, suc, min, ◌+◌, ◌*◌, ◌/◌, ◌%◌, ◌<◌, ◌≤◌, inl, inr, ◌⊎◌, if◌then◌else◌, false}
 use Rattle.std.proofs.Common.{List, [], ◌∷◌, slice_get, refl, sym, ap, arith, ◌∙◌}
 use Rattle.std.proofs.lemmas.Option.{slice_get_within}
-use Rattle.std.proofs.lemmas.Bool.{lt-ltb}
-use Rattle.std.proofs.Math.Nat.{div-eq_of_lt-le, div-add-mod, div-le_self, mod-lt, zero-div, mul-suc, suc-mul, mul_comm}
+use Rattle.std.proofs.lemmas.Bool.{cases_lt, lt-ltb}
+use Rattle.std.proofs.Math.Nat.{div-eq_of_lt-le, div-add-mod, mod-lt, zero-div, mul-suc, suc-mul, mul_comm}
 use Rattle.std.proofs.Math.Nat.{mul-zero}
 use Rattle.bx_core.specs.PlainMail.{short_of}
 use Rattle.can_station.specs.Places.{AtPlaces}
 use Rattle.can_station.proofs.Places.{some_there}
-use Rattle.gw_route.specs.Turn.{next_turn}
+use Rattle.gw_route.specs.Turn.{next_turn, turns_in}
 use Rattle.gw_config.specs.Scripts.{ScriptValue}
 use Rattle.gw_opening.specs.declared.lane.Lane.{Lane}
 use Rattle.gw_opening.specs.declared.place.Place.{Place}
@@ -17,7 +17,7 @@ use Rattle.gw_opening.specs.Openings.{IsNewLane}
 use Rattle.gw_run.proofs.Starts.{new_mail_at}
 use Rattle.gw_run.specs.Sites.{SiteMoves}
 use Rattle.gw_opening.specs.Places.{IsAt, PortChanges}
-use Rattle.gw_ending.specs.Finals.{turns_made, turns_told}
+use Rattle.gw_ending.specs.Finals.{turns_made, turns_reported}
 use Rattle.gw_ending.specs.Reports.{EachTurned}
 use Rattle.gw_script.specs.declared.report.Report.{Report}
 use Rattle.gw_script.specs.declared.route_report.RouteReport.{RouteReport}
@@ -63,44 +63,56 @@ first_same x y xs ys e = cc
 rest_same : (x y : ℕ) (xs ys : List ℕ) → x ∷ xs ≡ y ∷ ys → xs ≡ ys
 rest_same x y xs ys e = cc
 
--- below a million turns each one counts
+-- below a million each turn counts
 one-more : (turns : ℕ) → turns < 1000000 → next_turn turns ≡ turns + 1
 one-more turns few = ap (λ b. if b then turns + 1 else turns) (lt-ltb turns 1000000 few)
 
-few-turns : (turn bit : ℕ) → 0 < turn → bit / turn ≤ bit
-few-turns turn bit some = div-le_self bit turn
+-- behind a million the count stays
+next_of-most : (turns : ℕ) → next_turn (min turns 1000000) ≡ min (turns + 1) 1000000
+next_of-most turns = elim (cases_lt turns 1000000) [
+  | inl less ↦ (let is : min turns 1000000 ≡ turns = omega (arith, less) in
+      let more : turns + 1 ≡ min (turns + 1) 1000000 = omega (arith, less) in
+      ap next_turn is ∙ one-more turns less ∙ more)
+  | inr all ↦ (let is : min turns 1000000 ≡ 1000000 = omega (arith, all) in
+      let more : 1000000 ≡ min (turns + 1) 1000000 = omega (arith, all) in
+      ap next_turn is ∙ more)
+]
+
+-- as many are counted as there are multiples
+same-count : (m n : ℕ) → m ≡ n → min m 1000000 ≡ min n 1000000
+same-count m n e = ap (λ k. min k 1000000) e
 
 pub turned_not : (turn bit : ℕ) (lanes : List Lane) → 0 < turn → (bit + 1) % turn ≢ 0 → HaveTurned turn bit lanes →
     HaveTurned turn (bit + 1) lanes
-turned_not turn bit lanes some none h k lane e = h k lane e ∙ sym (same-quotient turn bit some none)
+turned_not turn bit lanes some none h k lane e =
+    h k lane e ∙ same-count _ _ (sym (same-quotient turn bit some none))
 
-pub turned_once : (turn bit : ℕ) (old new : List Lane) → 0 < turn → bit < 1000000 → (bit + 1) % turn ≡ 0 →
+pub turned_once : (turn bit : ℕ) (old new : List Lane) → 0 < turn → (bit + 1) % turn ≡ 0 →
     AtPlaces (λ k. CountsTurn) old new → HaveTurned turn bit old → HaveTurned turn (bit + 1) new
-turned_once turn bit old new some few due counts h k lane e =
+turned_once turn bit old new some due counts h k lane e =
     let within = slice_get_within new k lane e in
     let before = some_there old k (omega (arith, within, counts.size)) in
-    let had : before.0.hand.turns ≡ bit / turn = h k before.0 before.1 in
-    counts.at k before.0 lane before.1 e ∙ ap next_turn had
-    ∙ one-more (bit / turn) (omega (arith, few, few-turns turn bit some)) ∙ sym (due-quotient turn bit some due)
+    counts.at k before.0 lane before.1 e ∙ ap next_turn (h k before.0 before.1) ∙ next_of-most (bit / turn)
+    ∙ same-count _ _ (sym (due-quotient turn bit some due))
 
 pub none_turned : (s : ScriptValue) (sites : List Site) (lanes : List Lane) (turn : ℕ) → Opens s sites lanes →
     HaveTurned turn 0 lanes
 none_turned s sites lanes turn o k lane e =
     (pair_at (λ j route. IsNewLane s j route) s.routes lanes k lane o.opens.each_lane e).2.turns_is
-    ∙ sym (zero-div turn)
+    ∙ same-count 0 _ (sym (zero-div turn))
 
 -- the reports have the turns that the routes made
 pub each_turned : (turn bits : ℕ) (lanes : List Lane) (report : Report) → HaveTurned turn bits lanes →
-    turns_told report.routes.items ≡ turns_made lanes → EachTurned (bits / turn) report
-each_turned turn bits lanes report have told = reported lanes report.routes.items have told
+    turns_reported report.routes.items ≡ turns_made lanes → EachTurned (turns_in turn bits) report
+each_turned turn bits lanes report have same = each lanes report.routes.items have same
   where
-    reported : (lanes : List Lane) (reports : List RouteReport) → HaveTurned turn bits lanes →
-        turns_told reports ≡ turns_made lanes → Each (λ (r : RouteReport). r.turns ≡ bits / turn) reports
-    reported lanes [] have told = tt
-    reported [] (r ∷ reports) have told = absurd (cons_not_nil _ _ told)
-    reported (lane ∷ lanes) (r ∷ reports) have told = (
-      first_same _ _ _ _ told ∙ have 0 lane refl,
-      reported lanes reports (λ k. have (suc k)) (rest_same _ _ _ _ told),
+    each : (lanes : List Lane) (reports : List RouteReport) → HaveTurned turn bits lanes →
+        turns_reported reports ≡ turns_made lanes → Each (λ (r : RouteReport). r.turns ≡ turns_in turn bits) reports
+    each lanes [] have same = tt
+    each [] (r ∷ reports) have same = absurd (cons_not_nil _ _ same)
+    each (lane ∷ lanes) (r ∷ reports) have same = (
+      first_same _ _ _ _ same ∙ have 0 lane refl,
+      each lanes reports (λ k. have (suc k)) (rest_same _ _ _ _ same),
     )
 
 -- a port of those behind a change of one: that one, or another

@@ -168,12 +168,6 @@ fewer-turns : (turn made next : ℕ) → 0 < turn → made ≤ next → made / t
 fewer-turns turn made next some less = le-div (made / turn) next turn some
     (let low = div-mul-le_self made turn in omega (arith, low, less))
 
-pub few_turned : (turn made next : ℕ) (lanes : List Lane) → 0 < turn → made ≤ next → next < 1000000 →
-    HaveTurned turn made lanes → (k : ℕ) (lane : Lane) → slice_get lanes k ≡ Some lane →
-    lane.hand.turns + (next / turn - made / turn) ≤ 1000000
-few_turned turn made next lanes some less few h k lane e =
-    omega (arith, h k lane e, fewer-turns turn made next some less, div-le_self next turn, few)
-
 pub idle_turned : (turn made next : ℕ) (old new : List Lane) → 0 < turn → made ≤ next →
     AtPlaces (λ k. LaneIdles (next / turn - made / turn)) old new → HaveTurned turn made old → HaveTurned turn next new
 idle_turned turn made next old new some less idle h k lane e =

@@ -1,6 +1,6 @@
 //! Runs in one thread.
 
-ghost use Rattle.std.specs.Prelude.{◌≡◌, ◌<◌, ◌/◌, ℕ, List, IfOk, IfErr, OnOk, Some, slice_get};
+ghost use Rattle.std.specs.Prelude.{◌≡◌, ◌<◌, ℕ, List, IfOk, IfErr, OnOk, Some, slice_get};
 ghost use Rattle.bx_core.specs.Lists.{Each};
 ghost use Rattle.bx_core.specs.declared.entry.Entry.{Entry};
 ghost use Rattle.gw_script.specs.NamedPlaces.{Names};
@@ -9,6 +9,7 @@ ghost use Rattle.gw_script.specs.declared.route_report.RouteReport.{RouteReport}
 ghost use Rattle.gw_ending.specs.Headline.{NotRefilled, Balances};
 ghost use Rattle.gw_ending.specs.Reports.{AreOrdered, EachTurned, RunsSegments, RunsRoutes, AreStartsOf, lines_of};
 ghost use Rattle.gw_opening.specs.Openings.{AreNewSites, HaveMails};
+ghost use Rattle.gw_route.specs.Turn.{turns_in};
 ghost use Rattle.gw_run.specs.Finals.{HasRun};
 ghost use Rattle.gw_run.specs.Ports.{IsNewMail};
 ghost use Rattle.gw_run.specs.Worlds.{Opens, HaveTurned, NoneShort};
@@ -72,7 +73,7 @@ fn run<R: Wait>(rt: &R, alloc: Global, script: &Script, turn: u32) -> Result<Rep
     ensures segments { IfOk result (RunsSegments script.now) }
     ensures routes { IfOk result (RunsRoutes 3 script.now) }
     ensures names { IfOk result (Names script.now) }
-    ensures turns { IfOk result (EachTurned (script.now.bits / turn)) }
+    ensures turns { IfOk result (EachTurned (turns_in turn script.now.bits)) }
 {
     let mut sites = sites_of(alloc, script)?;
     let lanes = run_routes(rt, alloc, script, sites.as_mut_slice(), turn)?;
@@ -84,7 +85,7 @@ fn run<R: Wait>(rt: &R, alloc: Global, script: &Script, turn: u32) -> Result<Rep
 /// bit; and where the number of bits made is a multiple of `turn`, each route in the order of the script
 /// then makes one turn. Bits at which no controller needs its mailboxes may be simulated earlier, and turns at which
 /// nothing waits are only counted. Each route's `turns` in the report is the script's bits divided by `turn`, rounded
-/// down.
+/// down, up to 1,000,000.
 ///
 /// Each controller has three transmit mailboxes and two receive FIFOs of three frames (RM0008, bxCAN, "Transmission
 /// handling" and "Reception handling").
@@ -112,7 +113,7 @@ pub fn run_inline<R: Wait>(
     ensures segments { IfOk result (RunsSegments script.now) }
     ensures routes { IfOk result (RunsRoutes 3 script.now) }
     ensures names { IfOk result (Names script.now) }
-    ensures turns { IfOk result (EachTurned (script.now.bits / turn)) }
+    ensures turns { IfOk result (EachTurned (turns_in turn script.now.bits)) }
     ensures err { IfErr result (λ fault. fault ≡ WantOfMemory) }
 {
     match run(rt, alloc, script, turn) {

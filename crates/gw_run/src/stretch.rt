@@ -1,6 +1,6 @@
 //! Stretches of bits at which each segment idles or is ahead, and no route has anything to do.
 
-ghost use Rattle.std.specs.Prelude.{◌≡◌, ◌<◌, ◌≤◌, ◌+◌, ℕ, List, Some, true, slice_get};
+ghost use Rattle.std.specs.Prelude.{◌≡◌, ◌<◌, ◌≤◌, ◌+◌, true};
 ghost use Rattle.can_station.specs.Places.{AtPlaces};
 ghost use Rattle.gw_opening.specs.declared.lane.Lane.{Lane};
 ghost use Rattle.gw_run.specs.Sites.{SiteIdles};
@@ -24,10 +24,9 @@ fn all_wait(lanes: &[Lane]) -> bool
 }
 
 /// So many turns of each of these routes at which it has nothing to do.
-fn idle_lanes(lanes: &mut [Lane], more: u32)
+fn idle_lanes(lanes: &mut [Lane], more: u64)
     requires asked { AllAskedInVain lanes.old }
     requires waits { AllWait lanes.old }
-    requires few { (k : ℕ) (lane : Lane) → slice_get lanes.old k ≡ Some lane → lane.hand.turns + more ≤ 1000000 }
     ensures { AtPlaces (λ k. LaneIdles more) lanes.old lanes.new }
 {
     for place in 0..lanes.len() {
@@ -95,7 +94,6 @@ pub(crate) fn stretch(
     requires asked { idle ≡ true → AllAskedInVain lanes.old }
     requires turned { HaveTurned turn made lanes.old }
     requires still { made < bits }
-    requires few { bits ≤ 1000000 }
     requires turn { 0 < turn }
     ensures world { WorldHolds sites.new lanes.new }
     ensures made { HaveMadeUpTo bits (result + 1) sites.new }
@@ -111,6 +109,6 @@ pub(crate) fn stretch(
         return made;
     }
     let next = idle_until(sites, made, bits - 1);
-    idle_lanes(lanes, (next / turn - made / turn) as u32);
+    idle_lanes(lanes, next / turn - made / turn);
     next
 }

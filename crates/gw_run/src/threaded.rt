@@ -23,7 +23,7 @@ use std::thread::Threads;
 /// with the segment, a route's seat with its hand and its gate. These three are the route's baton: a worker takes it,
 /// makes one turn of the route, and passes it on. Each segment makes the script's bits, none of them more than `slack`
 /// bits, 1 to 1,000,000, ahead of another. A worker ends after 32 tries in a row, each begun once all segments had made
-/// their bits, that came to nothing or found no baton. The gates are told of what the routes' calls pass, one gate a
+/// their bits, that came to nothing or found no baton. The gates are reported of what the routes' calls pass, one gate a
 /// route, in the order of the script. Which turns fall between which bits is left to the machine, so two runs of a
 /// script may differ.
 ///

@@ -104,7 +104,6 @@ fn step<R: Wait>(
     requires made { HaveMadeUpTo bits (bit + 1) sites.old }
     requires far { AreFar bit sites.old }
     requires turned { HaveTurned turn bit lanes.old }
-    requires few { bits ≤ 1000000 }
     requires still { bit < bits }
     requires turn { 0 < turn }
     ensures world { OnOk result (WorldHolds sites.new lanes.new) }
@@ -134,7 +133,6 @@ pub(crate) fn make_all<R: Wait>(
     requires world { WorldHolds sites.old lanes.old }
     requires made { HaveMade bits 0 sites.old }
     requires turned { HaveTurned turn 0 lanes.old }
-    requires few { bits ≤ 1000000 }
     requires turn { 0 < turn }
     ensures world { OnOk result (WorldHolds sites.new lanes.new) }
     ensures made { OnOk result (HaveMade bits bits sites.new) }

@@ -14,7 +14,7 @@ lines-step said xs i x old new lt is new_is =
     ∙ ap (λ ys. old ++ lines_from said i ys)
     (sym (drop-cons xs i x lt ∙ ap (λ y. y ∷ drop (suc i) xs) (sym is) ∙ ap (λ n. x ∷ drop n xs) (sym (add-one i))))
 
--- so is one of which nothing but itself is told
+-- so is one of which nothing but itself is reported
 pub flat-step : {A : Type 0} (said : A → List ℕ) (xs : List A) (i : ℕ) (x : A) (old new : List ℕ) → i < length xs →
     x ≡ get_or xs i x → new ≡ old ++ said x →
     new ++ flat_map said (drop (i + 1) xs) ≡ old ++ flat_map said (drop i xs)

@@ -42,7 +42,7 @@ module _ {L : Type 0} (Is : ℕ → Record → L → Type 0) (records : List Rec
         slice_get all segment ≡ Some lines → Is segment of lines
     pub count : length all ≡ length records
 
-  -- with what was used for the first of them no other is told
+  -- with what was used for the first of them no other is reported
   pub ready-next : (i : ℕ) (all : List L) (new : L) → ReadyFrom i all → ReadyFrom (i + 1) (set all i new)
   ready-next i all new from = record {
     each = λ k of lines le e f.

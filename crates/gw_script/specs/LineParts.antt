@@ -3,7 +3,7 @@ use Rattle.std.specs.Prelude.{◌≡◌, ℕ, ◌+◌, ◌≤◌, List, [], ◌�
 use Rattle.std.specs.Prelude.{vec_capacity, codes}
 use Rattle.std.specs.Fmt.{decimal}
 use Rattle.can_station.specs.declared.event.Event.{Event}
-use Rattle.can_station.specs.declared.event.Told.{Told}
+use Rattle.can_station.specs.declared.event.EventKind.{EventKind}
 use Rattle.gw_config.specs.Scripts.{ScriptValue}
 use Rattle.gw_script.specs.NamedPlaces.{label_of}
 use Rattle.gw_script.specs.declared.event_lines.EventLines.{EventLines}
@@ -11,19 +11,19 @@ use Rattle.gw_script.specs.declared.repeats.Front.{Front}
 use Rattle.gw_script.specs.declared.repeats.End.{End}
 use Rattle.gw_script.specs.declared.repeats.Ends.{Ends}
 use Rattle.gw_config.specs.Nodes.{names_of_nodes}
-use Rattle.gw_script.specs.ReportTexts.{told_text, label_text, node_name, route_name, segment_name}
+use Rattle.gw_script.specs.ReportTexts.{reported_text, label_text, node_name, route_name, segment_name}
 
 -- the beginning of the lines at a bit of the segment with this name
 abbrev pub front_text : List ℕ → ℕ → List ℕ
 front_text name bit = name ++ (codes " " ++ (decimal bit ++ codes " "))
 
 -- the end of a line that names no request
-abbrev pub end_text : Told → List ℕ
-end_text told = codes " " ++ (told_text told ++ (10 ∷ []))
+abbrev pub end_text : EventKind → List ℕ
+end_text reported = codes " " ++ (reported_text reported ++ (10 ∷ []))
 
 -- what stands behind the node's name in the line of an event of the segment at this place
 abbrev pub rest_text : ScriptValue → ℕ → Event → List ℕ
-rest_text s segment e = codes " " ++ (told_text e.told ++ (label_text s segment e.node (label_of e.told) ++ (10 ∷ [])))
+rest_text s segment e = codes " " ++ (reported_text e.kind ++ (label_text s segment e.node (label_of e.kind) ++ (10 ∷ [])))
 
 -- it has the text of its bit, and room for that of any other: behind the name a space, 20 digits and a space
 pub record IsFront (name : List ℕ) (front : Front) : Type 0 where
@@ -34,8 +34,8 @@ pub record IsFront (name : List ℕ) (front : Front) : Type 0 where
 -- It has the text of what it tells, and room for that of any other thing. The longest is that a frame was completed: 11
 -- bytes, 20 digits and a space, 32 bytes of the frame, and a line feed.
 pub record IsEnd (end : End) : Type 0 where
-  pub text_is : end.text.items ≡ end_text end.event.told
-  pub names_none : label_of end.event.told ≡ None
+  pub text_is : end.text.items ≡ end_text end.event.kind
+  pub names_none : label_of end.event.kind ≡ None
   pub short : vec_len end.text ≤ 65
   pub room : 65 ≤ vec_capacity end.text
 

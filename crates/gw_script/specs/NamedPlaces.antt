@@ -3,15 +3,15 @@ use Rattle.std.specs.Prelude.{◌≡◌, ◌<◌, ℕ, length, slice_get, Option
 use Rattle.bx_core.specs.Lists.{Each}
 use Rattle.can_station.specs.declared.event.Event.{Event}
 use Rattle.can_station.specs.declared.event.Label.{Label}
-use Rattle.can_station.specs.declared.event.Told.{Told}
-use Rattle.can_station.specs.declared.event.Told.TheVariants.{Started, Completed, Reaped}
+use Rattle.can_station.specs.declared.event.EventKind.{EventKind}
+use Rattle.can_station.specs.declared.event.EventKind.TheVariants.{Started, Completed, Reaped}
 use Rattle.can_segment.specs.declared.record.Record.{Record}
 use Rattle.gw_script.specs.declared.report.Report.{Report}
 use Rattle.gw_config.specs.Scripts.{ScriptValue}
 use Rattle.gw_config.specs.Nodes.{names_of_nodes, controller_at, route_places}
 
 -- the request that a line names
-abbrev pub label_of : Told → Option Label
+abbrev pub label_of : EventKind → Option Label
 label_of (Started frame label) = label
 label_of (Completed start frame label) = label
 label_of (Reaped label) = Some label
@@ -25,7 +25,7 @@ NamesRequest s segment node label = IsSomeAnd (controller_at s segment node)
 -- the node is one of the segment's, and its request, if one is named, stands at it
 pub record NamesEvent (s : ScriptValue) (segment : ℕ) (event : Event) : Type 0 where
   pub node : event.node < length (names_of_nodes s segment)
-  pub request : IfSome (label_of event.told) (NamesRequest s segment event.node)
+  pub request : IfSome (label_of event.kind) (NamesRequest s segment event.node)
 
 -- the record of the segment at this place, with counters for each of its nodes
 pub record NamesNodes (s : ScriptValue) (segment : ℕ) (of : Record) : Type 0 where

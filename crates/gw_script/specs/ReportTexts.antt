@@ -13,8 +13,8 @@ use Rattle.can_confinement.specs.Counters.{counts_of}
 use Rattle.can_confinement.specs.declared.counters.Counters.{Counters}
 use Rattle.can_station.specs.declared.event.Event.{Event}
 use Rattle.can_station.specs.declared.event.Label.{Label}
-use Rattle.can_station.specs.declared.event.Told.{Told}
-use Rattle.can_station.specs.declared.event.Told.TheVariants as told
+use Rattle.can_station.specs.declared.event.EventKind.{EventKind}
+use Rattle.can_station.specs.declared.event.EventKind.TheVariants as kinds
 use Rattle.can_segment.specs.declared.record.Record.{Record}
 use Rattle.gw_script.specs.declared.report.Report.{Report}
 use Rattle.gw_script.specs.declared.route_report.RouteReport.{RouteReport}
@@ -52,15 +52,15 @@ state_text Passive = codes "passive"
 state_text Off = codes "off"
 
 -- what happened at a node
-abbrev pub told_text : Told → List ℕ
-told_text (told.Started frame label) = codes "started " ++ frame_text frame
-told_text (told.Took start frame) = codes "took " ++ decimal start ++ codes " " ++ frame_text frame
-told_text (told.Completed start frame label) = codes "completed " ++ decimal start ++ codes " " ++ frame_text frame
-told_text (told.Lost start) = codes "lost " ++ decimal start
-told_text (told.Error kind) = codes "error " ++ kind_text kind
-told_text told.Off = codes "off"
-told_text told.Back = codes "back"
-told_text (told.Reaped label) = codes "reaped"
+abbrev pub reported_text : EventKind → List ℕ
+reported_text (kinds.Started frame label) = codes "started " ++ frame_text frame
+reported_text (kinds.Took start frame) = codes "took " ++ decimal start ++ codes " " ++ frame_text frame
+reported_text (kinds.Completed start frame label) = codes "completed " ++ decimal start ++ codes " " ++ frame_text frame
+reported_text (kinds.Lost start) = codes "lost " ++ decimal start
+reported_text (kinds.Error kind) = codes "error " ++ kind_text kind
+reported_text kinds.Off = codes "off"
+reported_text kinds.Back = codes "back"
+reported_text (kinds.Reaped label) = codes "reaped"
 
 -- the route that a request at a node comes from, by its place in the script
 abbrev pub route_of : ScriptValue → ℕ → ℕ → Label → Option ℕ
@@ -80,7 +80,7 @@ label_text s segment node (Some label) = request_text s (route_of s segment node
 abbrev pub event_line : ScriptValue → ℕ → Event → List ℕ
 event_line s segment e = line (segment_name s segment ∷ codes " " ∷ decimal e.bit ∷ codes " "
     ∷ node_name s segment e.node ∷ codes " "
-    ∷ told_text e.told ∷ label_text s segment e.node (label_of e.told) ∷ [])
+    ∷ reported_text e.kind ∷ label_text s segment e.node (label_of e.kind) ∷ [])
 
 -- the line of a node with these counts
 abbrev pub node_line : ScriptValue → ℕ → ℕ → Counts → List ℕ
@@ -88,12 +88,12 @@ node_line s segment node counts = line (segment_name s segment ∷ codes " node 
     ∷ codes " tec " ∷ decimal counts.tec ∷ codes " rec " ∷ decimal counts.rec ∷ codes " "
     ∷ state_text (state_of counts) ∷ [])
 
--- what is told behind its events of the segment at this place: its nodes, with these counters, and its end
+-- what is reported behind its events of the segment at this place: its nodes, with these counters, and its end
 abbrev pub segment_end : ScriptValue → ℕ → List Counters → List ℕ
 segment_end s segment counters = lines_from (λ node one. node_line s segment node (counts_of one)) 0 counters
     ++ line (segment_name s segment ∷ codes " end " ∷ decimal s.bits ∷ [])
 
--- what is told of it
+-- what is reported of it
 abbrev pub segment_text : ScriptValue → ℕ → Record → List ℕ
 segment_text s segment of =
     flat_map (event_line s segment) of.events.items ++ segment_end s segment of.counters.items

@@ -1,4 +1,4 @@
--- What is needed to write what is told of the segments of a report.
+-- What is needed to write what is reported of the segments of a report.
 use Rattle.std.specs.Prelude.{◌≡◌, ℕ, List, Some, length, slice_get}
 use Rattle.can_segment.specs.declared.record.Record.{Record}
 use Rattle.gw_config.specs.Scripts.{ScriptValue}

@@ -122,7 +122,7 @@ impl<'s> EventLines<'s> {
         if self.ends.ends_as_last(event) {
             return self.ends.push_last(text);
         }
-        match label_of(&event.told()) {
+        match label_of(&event.kind()) {
             None => self.ends.push(text, event),
             Some(_) => push_rest(text, script, segment, event),
         }

@@ -5,14 +5,14 @@ ghost use Rattle.std.specs.Fmt.{decimal};
 ghost use Rattle.gw_script.specs.FrameTexts.{frame_text};
 ghost use Rattle.gw_script.specs.LineParts.{rest_text, AreRoutesWithin};
 ghost use Rattle.gw_script.specs.NamedPlaces.{label_of, NamesRequest, NamesEvent};
-ghost use Rattle.gw_script.specs.ReportTexts.{kind_text, told_text, label_text};
+ghost use Rattle.gw_script.specs.ReportTexts.{kind_text, reported_text, label_text};
 
 use crate::digits::{push_decimal, push_decimal_and_space};
 use crate::frame_text::{FrameText, write_frame};
 use crate::report_names::{route_name, route_of};
 use can_frame::Frame;
 use can_node::ErrorKind;
-use can_segment::{Event, Label, Told};
+use can_segment::{Event, EventKind, Label};
 use gw_config::Script;
 use std::alloc::{AllocError, Global};
 
@@ -42,51 +42,55 @@ fn push_frame(text: &mut Vec<u8>, frame: &Frame) -> Result<(), AllocError>
 }
 
 /// Adds a space and what happened at a node.
-pub(crate) fn push_told(text: &mut Vec<u8>, told: &Told) -> Result<(), AllocError>
-    ensures text { OnOk result (text.new.items ≡ text.old.items ++ (codes " " ++ told_text told.now)) }
+pub(crate) fn push_reported(text: &mut Vec<u8>, reported: &EventKind) -> Result<(), AllocError>
+    ensures text { OnOk result (text.new.items ≡ text.old.items ++ (codes " " ++ reported_text reported.now)) }
     ensures room { vec_len text.old + 64 ≤ vec_capacity text.old → IsOk result }
     ensures len { vec_len text.new ≤ vec_len text.old + 64 }
     ensures capacity { vec_capacity text.old ≤ vec_capacity text.new }
 {
-    let frame = match told {
-        Told::Started { frame, .. } => {
+    let frame = match reported {
+        EventKind::Started { frame, .. } => {
             text.extend_from_slice(b" started ")?;
             frame
         }
-        Told::Took { start, frame } => {
+        EventKind::Took { start, frame } => {
             text.extend_from_slice(b" took ")?;
             push_decimal_and_space(text, *start)?;
             frame
         }
-        Told::Completed { start, frame, .. } => {
+        EventKind::Completed { start, frame, .. } => {
             text.extend_from_slice(b" completed ")?;
             push_decimal_and_space(text, *start)?;
             frame
         }
-        Told::Lost { start } => {
+        EventKind::Lost { start } => {
             text.extend_from_slice(b" lost ")?;
             return push_decimal(text, *start);
         }
-        Told::Error(kind) => {
+        EventKind::Error(kind) => {
             text.extend_from_slice(b" error ")?;
             return text.extend_from_slice(kind_text(*kind).as_bytes());
         }
-        Told::Off => return text.extend_from_slice(b" off"),
-        Told::Back => return text.extend_from_slice(b" back"),
-        Told::Reaped(_) => return text.extend_from_slice(b" reaped"),
+        EventKind::Off => return text.extend_from_slice(b" off"),
+        EventKind::Back => return text.extend_from_slice(b" back"),
+        EventKind::Reaped(_) => return text.extend_from_slice(b" reaped"),
     };
     push_frame(text, frame)
 }
 
 /// The request that a line names.
-pub fn label_of(told: &Told) -> Option<Label>
-    ensures { result ≡ label_of told.now }
+pub fn label_of(reported: &EventKind) -> Option<Label>
+    ensures { result ≡ label_of reported.now }
 {
-    match told {
-        Told::Started { label, .. } => *label,
-        Told::Completed { label, .. } => *label,
-        Told::Reaped(label) => Some(*label),
-        Told::Took { .. } | Told::Lost { .. } | Told::Error(_) | Told::Off | Told::Back => None,
+    match reported {
+        EventKind::Started { label, .. } => *label,
+        EventKind::Completed { label, .. } => *label,
+        EventKind::Reaped(label) => Some(*label),
+        EventKind::Took { .. }
+        | EventKind::Lost { .. }
+        | EventKind::Error(_)
+        | EventKind::Off
+        | EventKind::Back => None,
     }
 }
 
@@ -135,14 +139,14 @@ pub(crate) fn push_rest(
         → vec_len text.new ≤ vec_len text.old + (longest + 87) }
     ensures capacity { vec_capacity text.old ≤ vec_capacity text.new }
 {
-    let told = event.told();
-    push_told(text, &told)?;
+    let reported = event.kind();
+    push_reported(text, &reported)?;
     push_label(
         text,
         script,
         segment,
         event.node() as usize,
-        label_of(&told),
+        label_of(&reported),
     )?;
     text.extend_from_slice(b"\n")
 }

@@ -26,6 +26,7 @@ pub use crate::route_report::RouteReport;
 pub use crate::standing::names_stand;
 pub use can_frame::Memory;
 pub use gw_config::{
-    Controller, NodePlace, PlannedAbort, PlannedFault, Route, Script, Segment, Talker, read,
+    Controller, Message, NodePlace, PlannedAbort, PlannedFault, Route, Script, Segment, Talker,
+    read,
 };
 pub use gw_fields::{LIMIT, ScriptFault};

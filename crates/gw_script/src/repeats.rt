@@ -6,8 +6,8 @@ ghost use Rattle.gw_script.specs.LineParts.{front_text, end_text, IsFront, IsEnd
 ghost use Rattle.gw_script.specs.NamedPlaces.{label_of};
 
 use crate::digits::push_decimal_and_space;
-use crate::event_text::push_told;
-use can_segment::{Event, Told};
+use crate::event_text::push_reported;
+use can_segment::{Event, EventKind};
 use std::alloc::{AllocError, Global};
 
 /// Of the beginning of a line what stands behind the segment's name takes as many bytes at most: a space, 20 digits and
@@ -78,14 +78,14 @@ pub(crate) struct End {
 }
 
 /// Writes the end of a line in place of what is there.
-fn write_end(text: &mut Vec<u8>, told: &Told) -> Result<(), AllocError>
-    ensures text { OnOk result (text.new.items ≡ end_text told.now) }
+fn write_end(text: &mut Vec<u8>, reported: &EventKind) -> Result<(), AllocError>
+    ensures text { OnOk result (text.new.items ≡ end_text reported.now) }
     ensures room { 65 ≤ vec_capacity text.old → IsOk result }
     ensures len { vec_len text.new ≤ 65 }
     ensures capacity { vec_capacity text.old ≤ vec_capacity text.new }
 {
     text.clear();
-    push_told(text, told)?;
+    push_reported(text, reported)?;
     text.extend_from_slice(b"\n")
 }
 
@@ -94,28 +94,28 @@ impl End {
     pub(crate) fn new(alloc: Global) -> Result<End, AllocError>
         ensures { IfOk result IsEnd }
     {
-        let told = Told::Back;
+        let reported = EventKind::Back;
         let mut text = Vec::with_capacity(alloc, LONGEST_END)?;
-        write_end(&mut text, &told)?;
+        write_end(&mut text, &reported)?;
         Ok(End {
-            event: Event::new(0, 0, told),
+            event: Event::new(0, 0, reported),
             text,
         })
     }
 
     /// Adds that of the line of this event, which names no request. It is written anew only where another thing was
-    /// told before.
+    /// reported before.
     pub(crate) fn push(&mut self, text: &mut Vec<u8>, event: &Event) -> Result<(), AllocError>
         requires end { IsEnd self.old }
-        requires names_none { label_of event.now.told ≡ None }
+        requires names_none { label_of event.now.kind ≡ None }
         ensures end { OnOk result (IsEnd self.new) }
-        ensures text { OnOk result (text.new.items ≡ text.old.items ++ end_text event.now.told) }
+        ensures text { OnOk result (text.new.items ≡ text.old.items ++ end_text event.now.kind) }
         ensures room { vec_len text.old + 65 ≤ vec_capacity text.old → IsOk result }
         ensures len { vec_len text.new ≤ vec_len text.old + 65 }
         ensures capacity { vec_capacity text.old ≤ vec_capacity text.new }
     {
         if !event.tells_as(&self.event) {
-            write_end(&mut self.text, &event.told())?;
+            write_end(&mut self.text, &event.kind())?;
             self.event = *event;
         }
         text.extend_from_slice(self.text.as_slice())
@@ -143,11 +143,11 @@ impl Ends {
         Ok(Ends { started, last })
     }
 
-    /// Whether the line of this event ends as the last one that told of no start.
+    /// Whether the line of this event ends as the last one that reported of no start.
     #[inline(always)]
     pub(crate) fn ends_as_last(&self, event: &Event) -> bool
-        ensures same { result ≡ true → event.now.told ≡ self.now.last.event.told }
-        ensures another { result ≡ false → event.now.told ≢ self.now.last.event.told }
+        ensures same { result ≡ true → event.now.kind ≡ self.now.last.event.kind }
+        ensures another { result ≡ false → event.now.kind ≢ self.now.last.event.kind }
     {
         event.tells_as(&self.last.event)
     }
@@ -156,7 +156,7 @@ impl Ends {
     #[inline(always)]
     pub(crate) fn push_last(&self, text: &mut Vec<u8>) -> Result<(), AllocError>
         requires { IsEnd self.now.last }
-        ensures text { OnOk result (text.new.items ≡ text.old.items ++ end_text self.now.last.event.told) }
+        ensures text { OnOk result (text.new.items ≡ text.old.items ++ end_text self.now.last.event.kind) }
         ensures room { vec_len text.old + 65 ≤ vec_capacity text.old → IsOk result }
         ensures len { vec_len text.new ≤ vec_len text.old + 65 }
         ensures capacity { vec_capacity text.old ≤ vec_capacity text.new }
@@ -168,15 +168,15 @@ impl Ends {
     pub(crate) fn push(&mut self, text: &mut Vec<u8>, event: &Event) -> Result<(), AllocError>
         requires ends { AreEnds (vec_len self.old.started) self.old }
         requires node { event.now.node < vec_len self.old.started }
-        requires names_none { label_of event.now.told ≡ None }
+        requires names_none { label_of event.now.kind ≡ None }
         ensures ends { OnOk result (AreEnds (vec_len self.old.started) self.new) }
-        ensures text { OnOk result (text.new.items ≡ text.old.items ++ end_text event.now.told) }
+        ensures text { OnOk result (text.new.items ≡ text.old.items ++ end_text event.now.kind) }
         ensures room { vec_len text.old + 65 ≤ vec_capacity text.old → IsOk result }
         ensures len { vec_len text.new ≤ vec_len text.old + 65 }
         ensures capacity { vec_capacity text.old ≤ vec_capacity text.new }
     {
-        match event.told() {
-            Told::Started { .. } => self.started[event.node() as usize].push(text, event),
+        match event.kind() {
+            EventKind::Started { .. } => self.started[event.node() as usize].push(text, event),
             _ => self.last.push(text, event),
         }
     }

@@ -101,7 +101,7 @@ fn push_end(text: &mut Vec<u8>, script: &Script, segment: usize) -> Result<(), A
     text.extend_from_slice(b"\n")
 }
 
-/// Adds what is told of a segment behind its events.
+/// Adds what is reported of a segment behind its events.
 pub(crate) fn push_segment_end(
     text: &mut Vec<u8>,
     script: &Script,
@@ -116,7 +116,7 @@ pub(crate) fn push_segment_end(
     push_end(text, script, segment)
 }
 
-/// Adds what is told of a segment.
+/// Adds what is reported of a segment.
 pub fn push_segment(
     alloc: Global,
     text: &mut Vec<u8>,
@@ -133,7 +133,7 @@ pub fn push_segment(
     push_segment_end(text, script, segment, kept.counters.as_slice())
 }
 
-/// Adds what is told of the segments.
+/// Adds what is reported of the segments.
 fn push_segments(
     alloc: Global,
     text: &mut Vec<u8>,

@@ -78,7 +78,7 @@ fn write_events<W: Write>(
     hand_over(output, text)
 }
 
-/// Writes what is told of a segment, likewise.
+/// Writes what is reported of a segment, likewise.
 fn write_segment<W: Write>(
     output: &mut W,
     text: &mut Vec<u8>,
@@ -103,7 +103,7 @@ fn write_segment<W: Write>(
     write_output(output, lines.end.as_slice())
 }
 
-/// Writes what is told of all segments, likewise.
+/// Writes what is reported of all segments, likewise.
 fn write_segments<W: Write>(
     output: &mut W,
     text: &mut Vec<u8>,
@@ -126,7 +126,7 @@ fn write_segments<W: Write>(
     Ok(())
 }
 
-/// Writes a report of which all is ready: what is told of the segments, gathered in `text`, and then the lines of the
+/// Writes a report of which all is ready: what is reported of the segments, gathered in `text`, and then the lines of the
 /// routes.
 pub(crate) fn write_report<W: Write>(
     output: &mut W,

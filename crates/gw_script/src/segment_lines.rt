@@ -1,4 +1,4 @@
-//! What is needed to write what is told of a segment, got before anything is written.
+//! What is needed to write what is reported of a segment, got before anything is written.
 
 ghost use Rattle.std.specs.Prelude.{◌<◌, ◌≤◌, All, length, IfOk};
 ghost use Rattle.gw_script.specs.NamedPlaces.{NamesNodes, Names};

@@ -26,7 +26,7 @@ fn event_stands(script: &Script, segment: usize, event: &Event) -> bool
     if node >= script.node_count(segment) {
         return false;
     }
-    match label_of(&event.told()) {
+    match label_of(&event.kind()) {
         Some(label) => request_stands(script, segment, node, label),
         None => true,
     }

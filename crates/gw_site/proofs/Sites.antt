@@ -6,7 +6,7 @@ use Rattle.can_frame.specs.Frames.{FrameValue}
 use Rattle.bx_core.specs.TxBus.{Item, BusPast, BusCall, no_bus_past}
 use Rattle.can_station.specs.declared.event.Event.{Event}
 use Rattle.can_station.specs.declared.plan.SegmentPlan.{SegmentPlan}
-use Rattle.can_segment.specs.Brought.{told_of, all_in, taken_in, grown, StartsUndone, IsBrought}
+use Rattle.can_segment.specs.Brought.{kinds_of, all_in, taken_in, grown, StartsUndone, IsBrought}
 use Rattle.can_segment.specs.Segments.{SegmentValue, Fit, MakesBit}
 use Rattle.can_segment.proofs.Brought.{all-append, grown-append, starts_undone-append}
 use Rattle.can_segment.proofs.LinesOfNodes.{of-append}
@@ -18,29 +18,29 @@ module _ {P : Type 0} (after : P → BusPast → Type 0) (asked : P → List Bus
     (transmitting : P → Option Item) (sink : P → List FrameValue → Type 0) (stays : P → P → Type 0) where
   port_on : (node : ℕ) (old new : SegmentValue) (lines : List Event) (wants : Bool) (sends : Option Item) (p q : P) →
       new.events ≡ old.events ++ lines → length new.levels ≡ length old.levels + 1 →
-      IsBrought after asked transmitting sink stays (told_of node lines) wants sends p q →
+      IsBrought after asked transmitting sink stays (kinds_of node lines) wants sends p q →
       PortHolds after sink node old p → PortHolds after sink node new q
   port_on node old new lines wants sends p q es ls b h =
-      let told : told_of node new.events ≡ told_of node old.events ++ told_of node lines =
-      ap (told_of node) es ∙ of-append node old.events lines in
-      let took : all_in taken_in (told_of node new.events) ≡ all_in taken_in (told_of node old.events)
-      ++ all_in taken_in (told_of node lines) =
-      ap (all_in taken_in) told ∙ all-append taken_in (told_of node old.events) (told_of node lines) in
+      let reported : kinds_of node new.events ≡ kinds_of node old.events ++ kinds_of node lines =
+      ap (kinds_of node) es ∙ of-append node old.events lines in
+      let took : all_in taken_in (kinds_of node new.events) ≡ all_in taken_in (kinds_of node old.events)
+      ++ all_in taken_in (kinds_of node lines) =
+      ap (all_in taken_in) reported ∙ all-append taken_in (kinds_of node old.events) (kinds_of node lines) in
       record {
         bus = subst (after q)
-            (sym (ap (grown no_bus_past) told ∙ grown-append no_bus_past (told_of node old.events)
-            (told_of node lines))) (b.bus (grown no_bus_past (told_of node old.events)) h.bus);
-        taken = subst (sink q) (sym took) (b.offers (all_in taken_in (told_of node old.events)) h.taken);
-        once = subst (StartsUndone no_bus_past) (sym told)
-            (starts_undone-append no_bus_past (told_of node old.events) (told_of node lines) h.once
-            (b.undone (grown no_bus_past (told_of node old.events)) h.bus));
+            (sym (ap (grown no_bus_past) reported ∙ grown-append no_bus_past (kinds_of node old.events)
+            (kinds_of node lines))) (b.bus (grown no_bus_past (kinds_of node old.events)) h.bus);
+        taken = subst (sink q) (sym took) (b.offers (all_in taken_in (kinds_of node old.events)) h.taken);
+        once = subst (StartsUndone no_bus_past) (sym reported)
+            (starts_undone-append no_bus_past (kinds_of node old.events) (kinds_of node lines) h.once
+            (b.undone (grown no_bus_past (kinds_of node old.events)) h.bus));
         few = omega (
           arith,
           h.few,
           b.one_at_most,
           ls,
           ap length took,
-          length-append (all_in taken_in (told_of node old.events)) (all_in taken_in (told_of node lines)),
+          length-append (all_in taken_in (kinds_of node old.events)) (all_in taken_in (kinds_of node lines)),
         );
       }
 
@@ -80,15 +80,15 @@ site_quietly after transmitting sink old new ports left h = record {
   };
   each = λ k port e.
       let was = h.each k port e in
-      let same : told_of (length new.plan.talkers.items + k) new.events
-      ≡ told_of (length old.plan.talkers.items + k) old.events = ap
-      (λ (plan : SegmentPlan). told_of (length plan.talkers.items + k) new.events) left.plan_is
-      ∙ ap (told_of (length old.plan.talkers.items + k)) left.events_is in
+      let same : kinds_of (length new.plan.talkers.items + k) new.events
+      ≡ kinds_of (length old.plan.talkers.items + k) old.events = ap
+      (λ (plan : SegmentPlan). kinds_of (length plan.talkers.items + k) new.events) left.plan_is
+      ∙ ap (kinds_of (length old.plan.talkers.items + k)) left.events_is in
       record {
-        bus = subst (λ told. after port (grown no_bus_past told)) (sym same) was.bus;
-        taken = subst (λ told. sink port (all_in taken_in told)) (sym same) was.taken;
+        bus = subst (λ reported. after port (grown no_bus_past reported)) (sym same) was.bus;
+        taken = subst (λ reported. sink port (all_in taken_in reported)) (sym same) was.taken;
         once = subst (StartsUndone no_bus_past) (sym same) was.once;
-        few = omega (arith, was.few, left.longer, ap (λ told. length (all_in taken_in told)) same);
+        few = omega (arith, was.few, left.longer, ap (λ reported. length (all_in taken_in reported)) same);
       };
 }
 

@@ -3,7 +3,7 @@
 use Rattle.std.specs.Prelude.{◌≡◌, ℕ, ◌+◌, ◌≤◌, Option, Some, List, [], length, slice_get}
 use Rattle.can_frame.specs.Frames.{FrameValue}
 use Rattle.bx_core.specs.TxBus.{Item, BusPast, BusCall, no_bus_past}
-use Rattle.can_segment.specs.Brought.{told_of, all_in, taken_in, grown, StartsUndone}
+use Rattle.can_segment.specs.Brought.{kinds_of, all_in, taken_in, grown, StartsUndone}
 use Rattle.can_segment.specs.UneventfulBits.{MakeUneventfulBits}
 use Rattle.can_segment.specs.Segments.{SegmentValue, Fit, MakesBit}
 use Rattle.gw_site.specs.declared.site.Site.{Site}
@@ -12,10 +12,10 @@ use Rattle.gw_site.specs.declared.site.Site.{Site}
 -- began nothing that was over
 pub record PortHolds {P : Type 0} (after : P → BusPast → Type 0) (sink : P → List FrameValue → Type 0) (node : ℕ)
     (segment : SegmentValue) (port : P) : Type 0 where
-  pub bus : after port (grown no_bus_past (told_of node segment.events))
-  pub taken : sink port (all_in taken_in (told_of node segment.events))
-  pub once : StartsUndone no_bus_past (told_of node segment.events)
-  pub few : length (all_in taken_in (told_of node segment.events)) ≤ length segment.levels
+  pub bus : after port (grown no_bus_past (kinds_of node segment.events))
+  pub taken : sink port (all_in taken_in (kinds_of node segment.events))
+  pub once : StartsUndone no_bus_past (kinds_of node segment.events)
+  pub few : length (all_in taken_in (kinds_of node segment.events)) ≤ length segment.levels
 
 -- so did each controller of the segment
 pub record SiteHolds {P : Type 0} (after : P → BusPast → Type 0) (transmitting : P → Option Item)
@@ -29,7 +29,7 @@ pub record PortsLeave {P : Type 0} (stays : P → P → Type 0) (old new : List 
   pub at : (k : ℕ) (a b : P) → slice_get old k ≡ Some a → slice_get new k ≡ Some b → stays a b
   pub size : length new ≡ length old
 
--- A segment made one bit, at which each port was asked and told what the bit asks for and tells, and after it bits that
+-- A segment made one bit, at which each port was asked and reported what the bit asks for and tells, and after it bits that
 -- need no port, or none.
 pub record MakesOneAndQuiet {P : Type 0} (after : P → BusPast → Type 0) (asked : P → List BusCall → Type 0)
     (transmitting : P → Option Item) (sink : P → List FrameValue → Type 0) (stays : P → P → Type 0)

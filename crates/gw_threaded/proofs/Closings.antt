@@ -9,7 +9,7 @@ use Rattle.bx_controller.specs.Ports.{SinkStands, slot_leaves}
 use Rattle.bx_controller.specs.declared.port.Port.{Port}
 use Rattle.can_frame.specs.Frames.{FrameValue}
 use Rattle.can_station.proofs.Places.{some_there}
-use Rattle.can_segment.specs.Brought.{told_of, grown}
+use Rattle.can_segment.specs.Brought.{kinds_of, grown}
 use Rattle.can_segment.specs.Segments.{SegmentValue}
 use Rattle.gw_config.specs.Nodes.{controller_places, route_places}
 use Rattle.gw_config.specs.Routes.{RouteValue}
@@ -92,7 +92,7 @@ module _ {B S : Type 0} (bus_after : B → BusPast → Type 0) (transmitting : B
         (port : Port B) (closed : ClosedPort) →
         ClosesPort bus_after route_after txfp_of room s seats controller port closed → RunPort s seats controller port →
         PortHolds (λ (p : Port B) past. bus_after p.mail past) SinkStands node segment port →
-        IsDonePort s controller (told_of node segment.events) (length segment.levels) closed
+        IsDonePort s controller (kinds_of node segment.events) (length segment.levels) closed
     port_closed s seats controller node segment port closed c p h = record {
       value = p.value;
       value_is = p.value_is;
@@ -101,7 +101,7 @@ module _ {B S : Type 0} (bus_after : B → BusPast → Type 0) (transmitting : B
       once = h.once;
       few = h.few;
       unasked = λ n beyond. nothing_beyond s seats controller port closed
-          (grown no_bus_past (told_of node segment.events)) n c p h.bus beyond;
+          (grown no_bus_past (kinds_of node segment.events)) n c p h.bus beyond;
     }
 
     site_closed : (s : ScriptValue) (seats : List (Option S)) (i : ℕ) (site : Site (Port B)) (closed : ClosedSite) →
@@ -173,7 +173,7 @@ module _ {B S : Type 0} (bus_after : B → BusPast → Type 0) (transmitting : B
         l.lane_is.source_is in
         let holds = found.2.holds.each lane.target.port into.0 into.1 in
         let did = grown no_bus_past
-        (told_of (length site.segment.plan.talkers.items + lane.target.port) site.segment.events) in
+        (kinds_of (length site.segment.plan.talkers.items + lane.target.port) site.segment.events) in
         let past = l.linked.0 in
         let seat = seat_is s route.target lane.number k l.lane_is.number_is in
         record {
@@ -192,7 +192,7 @@ module _ {B S : Type 0} (bus_after : B → BusPast → Type 0) (transmitting : B
             past = past;
             matches = l.linked.2;
             tied = subst (λ (v : SegmentValue). RouteTied (priority_of own.value) lane.number
-                (grown no_bus_past (told_of (length v.plan.talkers.items + lane.target.port) v.events)) past
+                (grown no_bus_past (kinds_of (length v.plan.talkers.items + lane.target.port) v.events)) past
                 (left_of lane.number to.late.mail.left.items)) (sym to.segment_is)
                 (subst (λ txfp. RouteTied txfp lane.number did past (left_of lane.number to.late.mail.left.items))
                 own.priority_is

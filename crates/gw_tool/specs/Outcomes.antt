@@ -1,5 +1,5 @@
 -- How a run of the program may end, by what it was asked to do.
-use Rattle.std.specs.Prelude.{◌≡◌, ◌⊎◌, ◌/◌, ℕ, List, Option, None, Some, IfSome, Result, Ok, Err, slice_get, take}
+use Rattle.std.specs.Prelude.{◌≡◌, ◌⊎◌, ℕ, List, Option, None, Some, IfSome, Result, Ok, Err, slice_get, take}
 use Rattle.std.specs.Io.KnownBytes.{Appends, Keeps}
 use Rattle.bx_core.specs.declared.entry.Entry.{Entry}
 use Rattle.bx_core.specs.Lists.{Each}
@@ -17,6 +17,7 @@ use Rattle.gw_run.specs.declared.run_fault.RunFault.TheVariants as run_fault
 use Rattle.gw_ending.specs.Headline.{NotRefilled, Balances}
 use Rattle.gw_ending.specs.Reports.{AreOrdered, EachTurned, RunsSegments, RunsRoutes, AreStartsOf, lines_of}
 use Rattle.gw_print.specs.CoreReports.{IsReport}
+use Rattle.gw_route.specs.Turn.{turns_in}
 use Rattle.gw_tool.specs.declared.failure.Failure.{Failure}
 use Rattle.gw_tool.specs.declared.failure.Failure.TheVariants as failure
 use Rattle.gw_command.specs.declared.task.Task.{Task}
@@ -60,7 +61,7 @@ pub record IsRunOf (s : ScriptValue) (report : Report) : Type 0 where
 -- their number is not determined
 abbrev pub IsTurned : Task → ScriptValue → Report → Type 0
 IsTurned task.Core s report = ⊥
-IsTurned (task.Run turn) s report = EachTurned (s.bits / turn) report
+IsTurned (task.Run turn) s report = EachTurned (turns_in turn s.bits) report
 IsTurned (task.RunThreads threads slack) s report = Unit {0}
 
 -- the bytes are a script, and the text is that of a report on a run of it, as the task asks for

@@ -117,7 +117,7 @@ fn status_after<
 
 /// Runs the program on its words, the program's name first, and answers the status that it ends with:
 /// 0 done, 2 the input is refused, 3 memory ran out or a thread could not be started, 64 the words ask for
-/// nothing, 74 a read or a write fault. What went wrong is told on `faults`, and then nothing is written to
+/// nothing, 74 a read or a write fault. What went wrong is reported on `faults`, and then nothing is written to
 /// `output`, but that a write fault may come in the middle. The text of help, version and usage is clap's.
 /// There are no files here, so a word that names one is a read fault; see `tool_with_files`.
 pub fn tool<

@@ -1,4 +1,4 @@
-//! Inputs that are too long, reads and writes that fail, and what is told of them.
+//! Inputs that are too long, reads and writes that fail, and what is reported of them.
 
 use crate::event_lists::SENDS_ONE_FRAME;
 use crate::run::run_on;

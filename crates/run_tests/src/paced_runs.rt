@@ -2,7 +2,7 @@
 
 use crate::runs::THREE_FRAMES;
 use bx_core::{Gate, NoGate, Point};
-use can_segment::Told;
+use can_segment::EventKind;
 use gw_run::run_threads;
 use gw_script::{Report, read};
 use std::alloc::{AllocError, Global};
@@ -76,7 +76,7 @@ fn report_on<R: Threads + Wait + Copy + Send + Sync + 'static, G: Gate + Drop + 
 fn first_take(report: &Report) -> Option<u64> {
     let record = report.segments.first()?;
     for event in &record.events {
-        if matches!(event.told(), Told::Took { .. }) {
+        if matches!(event.kind(), EventKind::Took { .. }) {
             return Some(event.bit());
         }
     }
@@ -87,7 +87,7 @@ fn first_take(report: &Report) -> Option<u64> {
 fn first_start(report: &Report) -> Option<u64> {
     let record = report.segments.get(1)?;
     for event in &record.events {
-        if matches!(event.told(), Told::Started { label: Some(_), .. }) {
+        if matches!(event.kind(), EventKind::Started { label: Some(_), .. }) {
             return Some(event.bit());
         }
     }
@@ -151,7 +151,7 @@ struct Witness {
 
 impl Gate for Witness {
     // it keeps none
-    ghost may_have_heard = { λ gate told. Unit };
+    ghost may_have_heard = { λ gate reported. Unit };
 
     fn pass(&mut self, _point: Point) {
         self.was_passed.store(true, Ordering::SeqCst);

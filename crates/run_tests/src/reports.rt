@@ -3,7 +3,7 @@ ghost use Rattle.gw_script.specs.NamedPlaces.{Names};
 use bx_core::Entry;
 use can_frame::{Frame, Id};
 use can_node::{Counters, ErrorEvent, ErrorKind};
-use can_segment::{Event, Label, Record, Told};
+use can_segment::{Event, EventKind, Label, Record};
 use gw_script::{
     Memory, PrintFault, Report, RouteReport, Script, names_stand, print, print_to, read,
 };
@@ -24,18 +24,18 @@ const THREE_FRAMES: &str =
 const THREE_ROUTES: &str =
     r#"{"version":1,"bits":300,"segments":[{"name":"x","talkers":[{"name":"t","on":0,"frames":[]}]}],"controllers":[{"name":"c","segment":"x","on":0,"banks":[]},{"name":"d","segment":"x","on":0,"banks":[]}],"routes":[{"name":"p","from":"c","fifo":0,"to":"d"},{"name":"q","from":"d","fifo":0,"to":"c"},{"name":"s","from":"c","fifo":1,"to":"d"}]}"#;
 
-fn event(bit: u64, node: u16, told: Told) -> Event {
-    Event::new(bit, node, told)
+fn event(bit: u64, node: u16, reported: EventKind) -> Event {
+    Event::new(bit, node, reported)
 }
 
 fn started(bit: u64, node: u16, label: Option<Label>) -> Event {
     let frame = Frame::default();
-    event(bit, node, Told::Started { frame, label })
+    event(bit, node, EventKind::Started { frame, label })
 }
 
 fn took(bit: u64, node: u16, start: u64) -> Event {
     let frame = Frame::default();
-    event(bit, node, Told::Took { start, frame })
+    event(bit, node, EventKind::Took { start, frame })
 }
 
 fn entry(number: u32, frame: Frame) -> Entry {
@@ -47,7 +47,7 @@ fn completed(bit: u64, node: u16, start: u64, label: Option<Label>) -> Event {
     event(
         bit,
         node,
-        Told::Completed {
+        EventKind::Completed {
             start,
             frame,
             label,
@@ -125,22 +125,22 @@ fn events_of_each_kind(
         event(
             11,
             2,
-            Told::Started {
+            EventKind::Started {
                 frame: long,
                 label: Some(second)
             }
         ),
-        event(26, 2, Told::Lost { start: 11 }),
-        event(26, 2, Told::Reaped(second)),
-        event(40, 0, Told::Error(ErrorKind::Bit)),
-        event(41, 0, Told::Error(ErrorKind::Stuff)),
-        event(42, 0, Told::Error(ErrorKind::Form)),
-        event(43, 0, Told::Error(ErrorKind::Ack)),
-        event(44, 0, Told::Error(ErrorKind::Crc)),
+        event(26, 2, EventKind::Lost { start: 11 }),
+        event(26, 2, EventKind::Reaped(second)),
+        event(40, 0, EventKind::Error(ErrorKind::Bit)),
+        event(41, 0, EventKind::Error(ErrorKind::Stuff)),
+        event(42, 0, EventKind::Error(ErrorKind::Form)),
+        event(43, 0, EventKind::Error(ErrorKind::Ack)),
+        event(44, 0, EventKind::Error(ErrorKind::Crc)),
         event(
             70,
             1,
-            Told::Completed {
+            EventKind::Completed {
                 start: 60,
                 frame: short,
                 label: of_first(16_777_215)
@@ -149,13 +149,13 @@ fn events_of_each_kind(
         event(
             71,
             0,
-            Told::Took {
+            EventKind::Took {
                 start: 60,
                 frame: small
             }
         ),
-        event(80, 1, Told::Off),
-        event(18_446_744_073_709_551_615, 1, Told::Back),
+        event(80, 1, EventKind::Off),
+        event(18_446_744_073_709_551_615, 1, EventKind::Back),
     ]?;
     Ok(events)
 }
@@ -239,8 +239,8 @@ fn prints_each_kind_of_line(rt: HostRuntime) -> Result<(), Fail> {
 }
 
 /// A report on one segment and no route, with this event alone.
-fn one_event_report(alloc: Global, told: Event) -> Result<Report, AllocError> {
-    let events = vec![in alloc; told]?;
+fn one_event_report(alloc: Global, reported: Event) -> Result<Report, AllocError> {
+    let events = vec![in alloc; reported]?;
     Ok(Report {
         segments: vec![in alloc; plain_record(alloc, events)?]?,
         routes: Vec::new(alloc),

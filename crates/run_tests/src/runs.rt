@@ -62,10 +62,11 @@ fn three_frames_go_over_a_route(rt: HostRuntime) -> Result<(), Fail> {
     let first = [11, 59, 60, 64, 112, 113, 117, 165, 166];
     let second = [60, 108, 109, 113, 161, 162, 166, 214, 215];
     for bits in [first, second] {
-        let told = segments.next();
-        assert!(rt; told.map(|record| record.levels.len()) == Some(300));
+        let reported = segments.next();
+        assert!(rt; reported.map(|record| record.levels.len()) == Some(300));
         assert!(rt;
-            told.map(|record| record.events.iter().map(|event| event.bit()).eq(bits)) == Some(true)
+            reported.map(|record| record.events.iter().map(|event| event.bit()).eq(bits))
+                == Some(true)
         );
     }
     assert!(rt; segments.next().is_none());

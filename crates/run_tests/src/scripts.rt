@@ -57,7 +57,7 @@ fn numbered(alloc: Global, count: u32, name: &str, rest: &str) -> Result<String,
     Ok(list)
 }
 
-fn told_of(alloc: Global, bytes: &[u8]) -> Option<ScriptFault> {
+fn kinds_of(alloc: Global, bytes: &[u8]) -> Option<ScriptFault> {
     match read(alloc, bytes) {
         Ok(_) => None,
         Err(fault) => Some(fault),
@@ -65,7 +65,7 @@ fn told_of(alloc: Global, bytes: &[u8]) -> Option<ScriptFault> {
 }
 
 fn fault_of(alloc: Global, text: &str) -> Option<ScriptFault> {
-    told_of(alloc, text.as_bytes())
+    kinds_of(alloc, text.as_bytes())
 }
 
 #[test]
@@ -84,8 +84,11 @@ fn reads_the_parts_of_a_script(rt: HostRuntime) -> Result<(), Fail> {
     assert_eq!(rt; talkers.len(), 1);
     assert_eq!(rt; talkers[0].name(), "t");
     assert_eq!(rt; talkers[0].on(), 0);
-    assert_eq!(rt; talkers[0].frames().len(), 3);
-    assert!(rt; talkers[0].frames()[2] == Frame::default());
+    let messages = talkers[0].messages();
+    assert_eq!(rt; messages.len(), 3);
+    assert!(rt; *messages[2].frame() == Frame::default());
+    assert_eq!(rt; messages[2].at(), 0);
+    assert_eq!(rt; messages[2].count(), 1);
     let controllers = script.controllers();
     assert_eq!(rt; controllers.len(), 2);
     assert_eq!(rt; controllers[0].name(), "c");
@@ -125,10 +128,12 @@ fn reads_faults_and_aborts(rt: HostRuntime) -> Result<(), Fail> {
     let node = |segment, place, bit| PlannedFault::AtNode {
         node: NodePlace { segment, place },
         bit,
+        until: bit + 1,
     };
     let line = |segment, bit, level| PlannedFault::OnLine {
         segment,
         bit,
+        until: bit + 1,
         level,
     };
     let faults = script.faults();
@@ -146,7 +151,7 @@ fn reads_faults_and_aborts(rt: HostRuntime) -> Result<(), Fail> {
     Ok(())
 }
 
-// which line each fault of each field is told by, examples/wrong/ has
+// which line each fault of each field is reported by, examples/wrong/ has
 #[test]
 fn tells_the_first_fault(rt: HostRuntime) -> Result<(), Fail> {
     let alloc = rt.alloc();
@@ -161,7 +166,7 @@ fn tells_the_first_fault(rt: HostRuntime) -> Result<(), Fail> {
     }
     let whole = THREE_FRAMES.as_bytes();
     assert_eq!(rt;
-        told_of(alloc, &whole[..whole.len() - 1]),
+        kinds_of(alloc, &whole[..whole.len() - 1]),
         Some(ScriptFault::NotJson)
     );
     Ok(())
@@ -195,12 +200,12 @@ fn refuses_what_is_too_long(rt: HostRuntime) -> Result<(), Fail> {
         blanks.push(b' ')?;
     }
     assert_eq!(rt;
-        told_of(alloc, blanks.as_slice()),
+        kinds_of(alloc, blanks.as_slice()),
         Some(ScriptFault::TooMany("input"))
     );
     let _ = blanks.pop();
     assert_eq!(rt;
-        told_of(alloc, blanks.as_slice()),
+        kinds_of(alloc, blanks.as_slice()),
         Some(ScriptFault::NotJson)
     );
     Ok(())

@@ -105,7 +105,7 @@ fn three_frames_are_sent_while_segments_run(rt: HostRuntime) -> Result<(), Fail>
 }
 
 /// What the gates of two routes tell each other: whether the first has come to its first request, and whether the
-/// second heard that its own stands in mailbox 1. And what is told of them: whether one of them waited in vain, and
+/// second heard that its own stands in mailbox 1. And what is reported of them: whether one of them waited in vain, and
 /// what the first heard of its first try and of a later one.
 #[derive(Drop)]
 struct Meeting {
@@ -170,7 +170,7 @@ impl Host {
 
 impl Gate for Host {
     // it keeps none
-    ghost may_have_heard = { λ gate told. Unit };
+    ghost may_have_heard = { λ gate reported. Unit };
 
     fn pass(&mut self, point: Point) {
         match point {

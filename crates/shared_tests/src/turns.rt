@@ -40,8 +40,7 @@ fn turns<R: Wait>(rt: &R, hand: &mut RouteHand, mail: &mut PlainMail) -> Result<
 }
 
 /// So many idle turns of a hand that waits for a frame and made none yet.
-fn idle(hand: &mut RouteHand, mail: &PlainMail, more: u32)
-    requires few { more ≤ 1000 }
+fn idle(hand: &mut RouteHand, mail: &PlainMail, more: u64)
     requires linked { IsLinked (RouteStands (core_of mail.now) 0) (hand_value hand.old) }
     ensures linked { IsLinked (RouteStands (core_of mail.now) 0) (hand_value hand.new) }
 {

@@ -1,8 +1,6 @@
-use Rattle.std.proofs.Common.{◌≡◌, drop, replicate}
-use Rattle.bx_rx.specs.Bank.{unlisted}
-use Rattle.bx_rx.specs.Banks.{bank_count}
+use Rattle.std.proofs.Common.{◌≡◌, drop}
 use Rattle.gw_config.specs.BankLists.{set_all}
 use Rattle.gw_config.proofs.bank_list.set_all.Given as goal
 
 abbrev pub invariant-loop-bank : goal.invariant-loop-bank
-invariant-loop-bank l = set_all l.banks (drop l.bank-index l.listed) ≡ set_all (replicate bank_count unlisted) l.listed
+invariant-loop-bank l = set_all l.banks (drop l.bank-index l.listed) ≡ set_all l.fn.banks l.listed

@@ -15,19 +15,20 @@ pub returns-clause-sound : goal.returns-clause-sound
 returns-clause-sound c =
     let from = view c.args.from.now in
     let s : ScriptValue = record {
-      bits = c.args.bits;
+      rate = c.args.format.rate;
+      bits = c.args.format.bits;
       segments = c.in_ok-segments.segments.items;
       controllers = c.in_ok-controllers.controllers.items;
       routes = c.in_ok-routes.routes.items;
       faults = c.in_ok-faults.faults.items;
       aborts = c.in_ok-aborts.aborts.items;
     } in
-    let orderly = script_orderly c.args.version s c.args.bits from c.in_ok-segments.ensures.value
-    (ap (λ ss. controllers_of c.args.version c.args.bits ss from) (sym c.as_slice.ensures.value)
-    ∙ c.in_ok-controllers.ensures.value)
-    (ap (λ cs. routes_of c.args.version cs from) (sym c.as_slice-2.ensures.value) ∙ c.in_ok-routes.ensures.value)
-    (ap (λ ss. planned_faults_of c.args.bits ss s.controllers from) (sym c.as_slice-3.ensures.value)
-    ∙ ap (λ cs. planned_faults_of c.args.bits c.as_slice-3.result.now cs from) (sym c.as_slice-4.ensures.value)
+    let format = c.args.format in
+    let orderly = script_orderly format s from c.in_ok-segments.ensures.value
+    (ap (λ ss. controllers_of format ss from) (sym c.as_slice.ensures.value) ∙ c.in_ok-controllers.ensures.value)
+    (ap (λ cs. routes_of format.version cs from) (sym c.as_slice-2.ensures.value) ∙ c.in_ok-routes.ensures.value)
+    (ap (λ ss. planned_faults_of format ss s.controllers from) (sym c.as_slice-3.ensures.value)
+    ∙ ap (λ cs. planned_faults_of format c.as_slice-3.result.now cs from) (sym c.as_slice-4.ensures.value)
     ∙ c.in_ok-faults.ensures.value) in
     record {
       some_bits = search rules;
@@ -42,12 +43,12 @@ returns-clause-sound c =
       controllers = search rules;
       routes = search rules;
       faults =
-          let P : List SegmentValue → Type 0 = λ ss. Each (IsFaultIn c.args.bits ss) s.faults in
+          let P : List SegmentValue → Type 0 = λ ss. Each (IsFaultIn format.bits ss) s.faults in
           subst P c.as_slice-3.ensures.value c.in_ok-faults.ensures.range;
       aborts = search rules;
       few_nodes = orderly.few_nodes;
       few_into = orderly.few_into;
-      few_frames = orderly.few_frames;
+      few_messages = orderly.few_messages;
       own_fifos = orderly.own_fifos;
       fault_nodes = orderly.fault_nodes;
       segment_names = orderly.segment_names;

@@ -1,7 +1,7 @@
 use Rattle.std.proofs.Common.{◌∙◌, sym, ap, subst, length, ◌+◌}
 use Rattle.bx_core.specs.Stands.{entries_of}
 use Rattle.bx_core.specs.Ties.{left_of}
-use Rattle.can_segment.specs.Brought.{all_in, sent_in, told_of}
+use Rattle.can_segment.specs.Brought.{all_in, sent_in, kinds_of}
 use Rattle.can_segment.specs.Segments.{SegmentValue}
 use Rattle.can_station.proofs.Places.{same_some}
 use Rattle.gw_route.specs.RouteHand.{hand_value}
@@ -50,6 +50,6 @@ returns-clause-ends g c =
           let late = mail_after c.args.lane.fifo _ sites new c.args.lane.source sets target to to_is in
           completed late.0 late.1
           ∙ ap (λ (v : SegmentValue). entries_of number
-          (all_in sent_in (told_of (length v.plan.talkers.items + target.port) v.events)))
+          (all_in sent_in (kinds_of (length v.plan.talkers.items + target.port) v.events)))
           (segment_after c.args.lane.fifo sites new c.args.lane.source sets target to late.0 to_is late.1);
     }) c.end_hand.ensures.ends c.end_hand.ensures.completed

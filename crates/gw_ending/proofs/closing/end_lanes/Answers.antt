@@ -1,11 +1,11 @@
 use Rattle.std.proofs.Common.{◌≡◌, ◌++◌, [], refl, sym, subst, arith}
 use Rattle.std.specs.Vec.Iter.{into_iter_items}
 use Rattle.gw_ending.proofs.Closes.{ClosesBelow, closes_start, first_of, closes_step}
-use Rattle.gw_ending.specs.Finals.{HasTalkers, turns_made, turns_told}
+use Rattle.gw_ending.specs.Finals.{HasTalkers, turns_made, turns_reported}
 use Rattle.gw_opening.proofs.Openings.{segment_there}
 use Rattle.gw_ending.proofs.RouteRuns.{was_offered, has_talkers}
 use Rattle.gw_ending.proofs.Named.{few_nodes}
-use Rattle.gw_ending.proofs.Turns.{told_more}
+use Rattle.gw_ending.proofs.Turns.{reported_more}
 use Rattle.gw_ending.proofs.closing.end_lanes.Goals as goal
 
 pub loop-lane-init : goal.loop-lane-init
@@ -18,7 +18,7 @@ loop-lane-init g c =
       closes = subst (λ reports. ClosesBelow s sites sites (into_iter_items c.into_iter-lane-iterator.result) reports)
           none (subst (λ lanes. ClosesBelow s sites sites lanes []) given
           (closes_start s sites c.args.lanes.items c.requires.over));
-      turns = subst (λ reports. turns_told reports ++ turns_made (into_iter_items c.into_iter-lane-iterator.result)
+      turns = subst (λ reports. turns_reported reports ++ turns_made (into_iter_items c.into_iter-lane-iterator.result)
           ≡ turns_made c.args.lanes.items) none
           (subst (λ lanes. turns_made lanes ≡ turns_made c.args.lanes.items) given refl);
     }
@@ -99,14 +99,14 @@ loop-lane-preserved g c =
     let rest = into_iter_items c.next.new.self in
     let left = subst (λ lanes. ClosesBelow s first c.loop-lane.sites lanes c.loop-lane.reports.items)
     c.in-Some.ensures.steps.0 c.loop-lane.invariant.closes in
-    let told = subst (λ lanes. turns_told c.loop-lane.reports.items ++ turns_made lanes ≡ turns_made c.args.lanes.items)
+    let reported = subst (λ lanes. turns_reported c.loop-lane.reports.items ++ turns_made lanes ≡ turns_made c.args.lanes.items)
     c.in-Some.ensures.steps.0 c.loop-lane.invariant.turns in
     let pushed = sym c.in_ok-push_one.ensures in
     record {
       closes = subst (ClosesBelow s first c.end_lane.new.sites rest) pushed
           (closes_step s first c.loop-lane.sites c.end_lane.new.sites c.in-Some.lane rest c.loop-lane.reports.items
           c.in_ok-report.report c.requires.sound left c.in_ok-report.ensures.sets c.in_ok-report.ensures.ends);
-      turns = subst (λ reports. turns_told reports ++ turns_made rest ≡ turns_made c.args.lanes.items) pushed
-          (told_more c.loop-lane.reports.items c.in_ok-report.report c.in-Some.lane rest _ c.in_ok-report.ensures.turns
-          told);
+      turns = subst (λ reports. turns_reported reports ++ turns_made rest ≡ turns_made c.args.lanes.items) pushed
+          (reported_more c.loop-lane.reports.items c.in_ok-report.report c.in-Some.lane rest _ c.in_ok-report.ensures.turns
+          reported);
     }

@@ -4,7 +4,7 @@ use Rattle.gw_site.specs.Pairs.{Pairs}
 use Rattle.gw_ending.specs.Finals.{IsRecordAt, WaitAtMost}
 use Rattle.gw_ending.specs.Reports.{IsRouteRun}
 use Rattle.gw_ending.proofs.Named.{all_named}
-use Rattle.gw_ending.proofs.Reports.{runs_segments, lines_told}
+use Rattle.gw_ending.proofs.Reports.{runs_segments, lines_reported}
 use Rattle.gw_ending.proofs.ending.end_run.Goals as goal
 
 pub returns-clause-segments : goal.returns-clause-segments
@@ -22,11 +22,11 @@ returns-clause-routes g c room few =
     let back = put_back c.args.sites.len c.end_lanes.new.sites c.args.sites.items
     (omega (arith, c.as_mut_slice.ensures.len, done.size, c.requires.over.each_site.size))
     (omega (arith, done.size, c.requires.over.each_site.size)) in
-    let told = lines_told c.end_lanes.new.sites c.in_ok-segments.segments.items
+    let reported = lines_reported c.end_lanes.new.sites c.in_ok-segments.segments.items
     (subst (λ sites. Pairs (λ i. IsRecordAt) sites c.in_ok-segments.segments.items) back
     c.in_ok-segments.ensures) in
     subst (λ lines. Pairs (λ place route. IsRouteRun room c.args.script.now lines place route) c.args.script.now.routes
-    c.in_ok-routes.routes.items) (sym (told ∙ c.in_ok-routes.ensures.lines))
+    c.in_ok-routes.routes.items) (sym (reported ∙ c.in_ok-routes.ensures.lines))
     (c.in_ok-routes.ensures.routes room (subst (WaitAtMost room) (sym c.as_mut_slice.ensures.value) few))
 
 pub returns-clause-names : goal.returns-clause-names

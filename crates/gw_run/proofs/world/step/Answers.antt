@@ -33,7 +33,6 @@ returns-then-not-is_multiple-clause-short g c =
 pub returns-clause-turned : goal.returns-clause-turned
 returns-clause-turned g c =
     turned_once c.args.turn c.args.bit c.args.lanes.now c.make_turns.new.lanes c.requires.turn
-    (omega (arith, c.requires.still, c.requires.few))
     (omega (arith, c.is_multiple.ensures.yes c.if-not-is_multiple.false)) c.in_ok-idle.ensures.counted
     c.requires.turned
 

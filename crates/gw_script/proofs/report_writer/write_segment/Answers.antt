@@ -1,4 +1,4 @@
--- Where a write fails, a front of all that is told of the segment was written.
+-- Where a write fails, a front of all that is reported of the segment was written.
 use Rattle.std.proofs.Common.{◌++◌, ◌∙◌, ap}
 use Rattle.std.specs.List.{flat_map}
 use Rattle.gw_script.specs.ReportTexts.{event_line, segment_end, segment_text}

@@ -1,4 +1,4 @@
--- One segment more; where a write fails, a front of what is told of all was written.
+-- One segment more; where a write fails, a front of what is reported of all was written.
 use Rattle.std.proofs.Common.{◌+◌, ◌<◌, [], ap, arith, drop, length, slice_index_or, refl}
 use Rattle.std.proofs.lemmas.Option.{slice_get-get_or}
 use Rattle.gw_script.specs.Lines.{lines_from}
