@@ -6,6 +6,8 @@ set -u
 cd "$(dirname "$0")/.." || exit 1
 PROGRAM=$(bench/by-hand.sh) || exit 1
 export PROGRAM
+# the simulation by hand reads scripts of versions 1 and 2
+export VERSIONS=12
 passed=0
 failed=0
 

@@ -1,13 +1,13 @@
 #!/usr/bin/env bash
 # Measures the built program on inputs at the limits of scripts and event lists: the best time of three runs by the clock,
-# and the most memory that one of them took.
+# and the most memory that one of them took. INPUTS names the script in bench/ that writes the inputs (limits.py).
 set -eu
 cd "$(dirname "$0")/.."
 program=${PROGRAM:-$(scripts/program)}
 work=$(mktemp -d)
 trap 'rm -rf "$work"' EXIT
 
-python3 bench/limits.py "$work" > "$work/inputs"
+python3 "bench/${INPUTS:-limits.py}" "$work" > "$work/inputs"
 while IFS=$'\t' read -r number word name; do
   for _ in 1 2 3; do
     status=0

@@ -9,6 +9,7 @@ from collections import Counter
 from dataclasses import dataclass
 
 from can_model import frame_text
+from model import plain
 
 FAILURES = ("lost", "error", "off")
 
@@ -33,8 +34,10 @@ def event_lines(report):
 
 class Faults:
     def __init__(self, script):
-        self.on_lines = {(f["segment"], f["bit"]) for f in script["faults"] if "node" not in f}
-        self.at_nodes = {(f["node"], f["bit"]) for f in script["faults"] if "node" in f}
+        self.on_lines = {(f["segment"], bit) for f in script["faults"] if "node" not in f
+                         for bit in range(f["bit"], f["until"])}
+        self.at_nodes = {(f["node"], bit) for f in script["faults"] if "node" in f
+                         for bit in range(f["bit"], f["until"])}
 
     def falsify(self, segment, node, bits):
         return any((segment, bit) in self.on_lines or (node, bit) in self.at_nodes for bit in bits)
@@ -91,11 +94,19 @@ def completed_but_not_taken(segment, lines, faults):
                        f" what {line.node} completed at {line.bit}")
 
 
+def not_in_queue(queue, place, line):
+    """The frame that a talker begins is that of this place in its queue, and is due."""
+    if place >= len(queue) or queue[place][1] != " ".join(line.rest):
+        yield f"{line.node} begins {line.rest} at {line.bit}, which is not its frame {place}"
+    elif queue[place][0] > line.bit:
+        yield f"{line.node} begins its frame {place} at {line.bit}, which is due at {queue[place][0]}"
+
+
 def begun_again(script, lines):
     """Of two attempts of one request the earlier one failed, and was not reaped. A controller's request is the route
-    and the number that its lines end with. A talker's is a place in its list, which is how many frames it completed
-    before; and what it sends is the frame of that place."""
-    listed = {talker["name"]: [frame_text(frame) for frame in talker["frames"]]
+    and the number that its lines end with. A talker's is a place in its queue, which is how many frames it completed
+    before; what it sends is the frame of that place, and not before that is due."""
+    listed = {talker["name"]: [(due, frame_text(frame)) for due, frame in talker["queue"]]
               for segment in script["segments"] for talker in segment["talkers"]}
     completed = Counter()  # of each node how many frames
     sending = {}  # by node, the request that it sends
@@ -107,8 +118,8 @@ def begun_again(script, lines):
             before = became.get((line.node, request))
             if before is not None and before not in FAILURES:
                 yield f"{line.node} begins request {request} at {line.bit} again, which was {before} before"
-            if line.node in listed and listed[line.node][place:place + 1] != [" ".join(line.rest)]:
-                yield f"{line.node} begins {line.rest} at {line.bit}, which is not its frame {place}"
+            if line.node in listed:
+                yield from not_in_queue(listed[line.node], place, line)
             sending[line.node] = request
             became[line.node, request] = "started"
         elif line.word in FAILURES + ("completed",) and line.node in sending:
@@ -122,7 +133,7 @@ def begun_again(script, lines):
 def lost_on_routes(script, report, lines):
     """Of each route the frames accepted are those completed, aborted, overrun and held; and the numbers that its target
     completed differ, and rise where it sends by order of requests."""
-    by_identifier = {c["name"] for c in script["controllers"] if not c.get("txfp", True)}
+    by_identifier = {c["name"] for c in script["controllers"] if not c["txfp"]}
     for route in script["routes"]:
         name = route["name"]
         for text in report.splitlines():
@@ -139,7 +150,8 @@ def lost_on_routes(script, report, lines):
 
 def violations(script, report, segments):
     """What does not hold of a report, where a run of the model has these segments."""
-    lines, faults = event_lines(report), Faults(script)
+    script, lines = plain(script), event_lines(report)
+    faults = Faults(script)
     found = [*begun_again(script, lines), *lost_on_routes(script, report, lines)]
     for segment in segments:
         own = [line for line in lines if line.segment == segment.name]

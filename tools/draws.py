@@ -86,3 +86,21 @@ def stuck(draw, script):
 def abort(draw, script, turn):
     return {"route": draw.choice(script["routes"])["name"], "number": draw.randint(1, 4),
             "turn": draw.randint(1, script["bits"] // turn + 1)}
+
+
+def script(draw):
+    """A script of version 1 or 2, and how many bits lie between two turns of a route."""
+    bits, version = draw.choice([60, 400, 1000, 2000, 5000]), draw.randint(1, 2)
+    segments = [{"name": f"s{i}", "talkers": [talker(draw, f"t{i}{j}", bits) for j in range(draw.randint(0, 3))]}
+                for i in range(draw.randint(1, 3))]
+    controllers = [controller(draw, f"c{i}", segments, bits, version) for i in range(draw.randint(0, 4))]
+    result = {"version": version, "bits": bits, "segments": segments, "controllers": controllers,
+              "routes": routes(draw, controllers)}
+    result["faults"] = some(draw, draw.choice([0, 3, 30]), lambda _: fault(draw, result))
+    # only in a long run is a node error passive before, or back from bus off afterwards
+    if draw.random() < (0.5 if bits >= 2000 else 0.1):
+        result["faults"] += stuck(draw, result)
+    turn = draw.choice([1, 1, 1, 10, 100])
+    if result["routes"]:
+        result["aborts"] = some(draw, 6, lambda _: abort(draw, result, turn))
+    return result, turn

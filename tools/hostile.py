@@ -3,7 +3,11 @@
 Each of the KINDS of scripts draws nodes with their frames, and has a plot (tools/sabotage.py) put the faults in. t0 is
 the sender that it is about."""
 
+import json
+
 import draws
+import draws3
+import model
 from can_model import DOMINANT, RECESSIVE, wire
 from sabotage import sabotaged, until, wait
 from situations import END, place_in_end
@@ -334,11 +338,65 @@ KINDS = [
     (off_by_owed_error,)]
 
 
-def drawn(draw, place):
+def ranges(places):
+    """The ranges (first, end) of bits that follow each other."""
+    found = []
+    for bit in sorted(places):
+        if found and found[-1][1] == bit:
+            found[-1][1] = bit + 1
+        else:
+            found.append([bit, bit + 1])
+    return found
+
+
+def lasting_faults(faults):
+    """These faults of single bits as ranges."""
+    at_nodes, on_lines, places = {}, {}, {}
+    for fault in faults:
+        if "node" in fault:
+            at_nodes.setdefault(fault["node"], set()).add(fault["bit"])
+        else:
+            on_lines[fault["segment"], fault["bit"]] = fault["level"]
+    for (segment, bit), level in on_lines.items():
+        places.setdefault((segment, level), set()).add(bit)
+    return [*({"node": node, "bit": first, "until": end}
+              for node, bits in at_nodes.items() for first, end in ranges(bits)),
+            *({"segment": segment, "bit": first, "until": end, "level": level}
+              for (segment, level), bits in places.items() for first, end in ranges(bits))]
+
+
+def put_dues(draw, script, turn):
+    """Gives the frames of talkers bits at which they are due, in the order of their queues. Half of the scripts keep
+    their reports: a frame is due at the bit at which it is first started, or up to some bits before."""
+    keeps_report = draw.random() < 0.5
+    for segment, made in zip(script["segments"], model.run(script, turn).segments):
+        for talker, member in zip(segment["talkers"], made.members):
+            starts = [attempt.first for place, attempt in enumerate(member.attempts)
+                      if place == 0 or member.attempts[place - 1].ending == "completed"]
+            due = 0
+            for place, frame in enumerate(talker["frames"]):
+                start = starts[place] if place < len(starts) else script["bits"] - 1
+                latest = start if keeps_report else min(script["bits"] - 1, start + draw.choice([1, 4, 20]))
+                due = max(due, latest - draw.choice([0, 0, 1, 3, 4, 30, latest]))
+                frame["at"] = due
+
+
+def as_version_3(draw, script, turn):
+    """The script as one of version 3, with faults that last and frames that are due later."""
+    # frames may be shared by several talkers
+    script = draws3.as_version_3(draw, json.loads(json.dumps(script)))
+    put_dues(draw, script, turn)
+    script["faults"] = lasting_faults(script["faults"])
+    return draws3.written(draw, script)
+
+
+def drawn(draw, place, has_version_3=False):
     """The script of this place in a run, and how many bits lie between two turns of a route. The first one of each kind
-    stays as it was aimed."""
+    stays as it was aimed. With version 3, every other round of kinds after the first one is of that version."""
     make, *arguments = KINDS[place % len(KINDS)]
     script, turn = make(draw, *arguments)
     if place >= len(KINDS):
         perturb(draw, script, turn)
+    if has_version_3 and place // len(KINDS) % 2 == 1:
+        script = as_version_3(draw, script, turn)
     return script, turn

@@ -2,11 +2,37 @@
 
 `report(script, turn)` gives the report of a script that is no wrong one, and `run(script, turn)` the whole run, which
 also tells each attempt to send a frame and each frame that was read. scripts/compare-with-model and
-scripts/check-hostile-bus hold the program's reports against it. It is slow, and keeps everything as plain as it can."""
+scripts/check-hostile-bus hold the program's reports against it. It is slow, and keeps everything as plain as it can.
+It only leaves out bits at which all nodes are idle."""
 
+from collections import deque
 from dataclasses import dataclass
 
-from can_model import RECESSIVE, Node, frame_text, is_remote, key
+import version3
+from can_model import DOMINANT, RECESSIVE, Node, frame_text, is_remote, key
+from stretches import Stretches
+
+
+# ---- scripts
+
+
+def plain(script):
+    """The script in one form for all versions, that of version3.plain."""
+    if script["version"] == 3:
+        return version3.plain(script)
+    return {"bits": script["bits"],
+            "segments": [{"name": segment["name"], "talkers": [plain_talker(t) for t in segment["talkers"]]}
+                         for segment in script["segments"]],
+            "controllers": [{"txfp": True} | controller for controller in script["controllers"]],
+            "routes": [route | {"rewrite": route.get("rewrite", []) if script["version"] == 2 else []}
+                       for route in script["routes"]],
+            "faults": [fault | {"until": fault["bit"] + 1} for fault in script.get("faults", [])],
+            "aborts": script.get("aborts", [])}
+
+
+def plain_talker(talker):
+    """A talker of version 1 or 2, of which each frame is due at bit 0."""
+    return {"name": talker["name"], "on": talker["on"], "queue": [(0, frame) for frame in talker["frames"]]}
 
 
 # ---- controllers
@@ -55,7 +81,7 @@ class Controller:
     """Filters, two FIFOs of three frames, and three mailboxes, the oldest request first."""
 
     def __init__(self, controller):
-        self.banks, self.goes_by_requests = controller["banks"], controller.get("txfp", True)
+        self.banks, self.goes_by_requests = controller["banks"], controller["txfp"]
         self.fifos, self.accepted, self.overrun = [[], []], [0, 0], [0, 0]
         self.requests = []
 
@@ -79,6 +105,10 @@ class Controller:
         if self.goes_by_requests:
             return self.requests
         return sorted(self.requests, key=lambda r: (r.state != "scheduled", key(r.frame), r.mailbox))
+
+    def next_start(self, bit):
+        """The first bit from this one on at which it starts a request, if it is idle; None if there is no request."""
+        return bit if self.requests else None
 
     def start(self):
         """The request that is sent next, if there is one."""
@@ -113,10 +143,9 @@ def rewritten(entries, frame):
 class Route:
     def __init__(self, script, place, controllers):
         route = script["routes"][place]
-        self.rewrites = route.get("rewrite", []) if script["version"] == 2 else []
-        self.name, self.fifo = route["name"], route["fifo"]
+        self.name, self.fifo, self.rewrites = route["name"], route["fifo"], route["rewrite"]
         self.source, self.target = controllers[route["from"]], controllers[route["to"]]
-        self.aborts = [(a["number"], a["turn"]) for a in script.get("aborts", []) if a["route"] == self.name]
+        self.aborts = [(a["number"], a["turn"]) for a in script["aborts"] if a["route"] == self.name]
         self.turns, self.released, self.requested, self.hand = 0, 0, 0, None
         self.completed, self.aborted = [], []
 
@@ -133,6 +162,18 @@ class Route:
             self.requested = self.hand.number
             self.target.put(self.hand)
             self.hand = None
+
+    def is_idle(self):
+        """Whether its turns request no frame: it has none, or all mailboxes are full."""
+        if self.hand is None:
+            return not self.source.fifos[self.fifo]
+        return len(self.target.requests) == 3
+
+    def turns_to_abort(self):
+        """How many turns from now it makes its next abort, if it requests nothing before; None where it makes none."""
+        if self.aborts and self.aborts[0][0] <= self.requested:
+            return max(1, self.aborts[0][1] - self.turns)
+        return None
 
     def waiting(self):
         return [request for request in self.target.requests if request.route is self]
@@ -181,10 +222,10 @@ class Take:
 
 
 class Member:
-    """A node with its name and what it sends: a talker's list of frames, or a controller's requests."""
+    """A node with its name and what it sends: a talker's queue of instances, or a controller's requests."""
 
-    def __init__(self, name, node, frames=None, controller=None):
-        self.name, self.node, self.frames, self.controller = name, node, frames, controller
+    def __init__(self, name, node, queue=(), controller=None):
+        self.name, self.node, self.queue, self.controller = name, node, deque(queue), controller
         self.attempts, self.takes = [], []
 
     def begin(self, frame, bit):
@@ -203,16 +244,22 @@ class Member:
             self.takes.append(Take(self.name, self.node.start))
         return outcomes
 
-    def next(self):
-        """The frame that it sends next, and what a line says of its request."""
+    def next_start(self, bit):
+        """The first bit from this one on at which it starts a frame, if it is idle; None if it has none."""
+        if self.controller:
+            return self.controller.next_start(bit)
+        return max(bit, self.queue[0][0]) if self.queue else None
+
+    def next(self, bit):
+        """The frame that it sends next, if one is due at this bit, and what a line says of its request."""
         if self.controller is None:
-            return (self.frames[0], "") if self.frames else None
+            return (self.queue[0][1], "") if self.queue and self.queue[0][0] <= bit else None
         request = self.controller.start()
         return request and (request.frame, f" {request.route.name} {request.number}")
 
     def completed(self):
         if self.controller is None:
-            self.frames.pop(0)
+            self.queue.popleft()
             return ""
         request = self.controller.transmitting()
         self.controller.requests.remove(request)
@@ -235,28 +282,51 @@ class Member:
 class Segment:
     def __init__(self, script, segment, controllers, node):
         self.name = segment["name"]
-        self.members = [Member(t["name"], node(t["on"]), frames=list(t["frames"])) for t in segment["talkers"]]
+        self.members = [Member(t["name"], node(t["on"]), queue=t["queue"]) for t in segment["talkers"]]
         self.members += [Member(c["name"], node(c["on"]), controller=controllers[c["name"]])
                          for c in script["controllers"] if c["segment"] == self.name]
-        faults = script.get("faults", [])
-        self.node_faults = {(f["node"], f["bit"]) for f in faults if "node" in f}
-        self.line_faults = {f["bit"]: f["level"] for f in faults if "node" not in f and f["segment"] == self.name}
+        self.line_faults = Stretches([(f["bit"], f["until"], f["level"]) for f in script["faults"]
+                                      if "node" not in f and f["segment"] == self.name])
+        self.node_faults = {}
+        for member in self.members:
+            ranges = [(f["bit"], f["until"], True) for f in script["faults"] if f.get("node") == member.name]
+            self.node_faults[member.name] = Stretches(ranges)
         self.events = []
+
+    def is_flipped(self, name, bit):
+        """Whether this node samples the opposite of the line at this bit."""
+        return self.node_faults[name].at(bit) is not None
 
     def make_bit(self, bit):
         members = [member for member in self.members if member.node.on <= bit]
         for member in members:
-            sends = member.next() if member.node.wants_start() else None
+            sends = member.next(bit) if member.node.wants_start() else None
             if sends:
                 member.begin(sends[0], bit)
                 self.tell(bit, member, f"started {frame_text(sends[0])}{sends[1]}")
         line = min([member.node.drive() for member in members], default=RECESSIVE)
-        line = self.line_faults.get(bit, line)
+        fault = self.line_faults.at(bit)
+        line = line if fault is None else fault
         for member in members:
-            level = line ^ ((member.name, bit) in self.node_faults)
+            level = line ^ self.is_flipped(member.name, bit)
             for outcome in member.sample(level, bit):
                 for words in member.lines(outcome):
                     self.tell(bit, member, words)
+
+    def idle_until(self, bit, bits):
+        """The first bit from this one on that has to be made, or `bits`. Before it all nodes that are on are idle,
+        none of them starts, and each samples a recessive level."""
+        if self.line_faults.at(bit) == DOMINANT:
+            return bit
+        changes = [self.line_faults.next_change(bit)]
+        for member in self.members:
+            if member.node.on > bit:
+                changes.append(member.node.on)
+            elif member.node.state != "idle" or self.is_flipped(member.name, bit):
+                return bit
+            else:
+                changes += [member.next_start(bit), self.node_faults[member.name].next_change(bit)]
+        return min([bits, *(change for change in changes if change is not None)])
 
     def tell(self, bit, member, words):
         self.events.append(f"{self.name} {bit} {member.name} {words}")
@@ -277,6 +347,7 @@ class Run:
     """A script before its first bit, and behind each bit that was made. `node` makes each of its nodes."""
 
     def __init__(self, script, turn=1, node=Node):
+        script = plain(script)
         controllers = {c["name"]: Controller(c) for c in script["controllers"]}
         self.bits, self.turn = script["bits"], turn
         self.segments = [Segment(script, segment, controllers, node) for segment in script["segments"]]
@@ -289,6 +360,37 @@ class Run:
             for route in self.routes:
                 route.turn()
 
+    def idle_until(self, bit):
+        """The first bit from this one on that has to be made. Before it all segments are idle, and turns of routes
+        neither request nor abort."""
+        end = self.bits
+        for route in self.routes:
+            turns = route.turns_to_abort()
+            if not route.is_idle():
+                end = bit
+            elif turns is not None:
+                end = min(end, (bit // self.turn + turns) * self.turn - 1)
+        for segment in self.segments:
+            if end > bit:
+                end = segment.idle_until(bit, end)
+        return end
+
+    def leave_out(self, bit, end):
+        """Counts the turns that come from this bit on and before `end`, and makes none of these bits."""
+        for route in self.routes:
+            route.turns += end // self.turn - bit // self.turn
+
+    def make_all(self):
+        bit = 0
+        while bit < self.bits:
+            end = self.idle_until(bit)
+            if end > bit:
+                self.leave_out(bit, end)
+            else:
+                self.make_bit(bit)
+                end += 1
+            bit = end
+
     def report(self):
         lines = [line for segment in self.segments for line in segment.lines(self.bits)]
         return "".join(line + "\n" for line in lines + [route.line() for route in self.routes])
@@ -297,8 +399,7 @@ class Run:
 def run(script, turn=1, node=Node):
     """The whole run of a script."""
     result = Run(script, turn, node)
-    for bit in range(script["bits"]):
-        result.make_bit(bit)
+    result.make_all()
     return result
 
 

@@ -7,7 +7,13 @@ import re
 TOKEN = re.compile(rb'"(?:[^"\\]|\\.)*"|-?[0-9.eE+]+|true|false|null|[{}\[\],:]')
 VALUES = [b"0", b"1", b"2", b"8", b"-1", b"1.0", b"1e3", b"1e400", b"18446744073709551616", b"1000000", b"1000001",
           b"16777215", b"16777216", b"536870912", b"true", b"false", b"null", b'""', b'"a"', b'"x y"', b"[]", b"{}",
-          b'"version"', b'"name"', b'"data"', b'"remote"', b'"\\u0000"', b'"\xff"']
+          b'"version"', b'"name"', b'"data"', b'"remote"', b'"\\u0000"', b'"\xff"',
+          # of version 3
+          b'3', b'"frame"', b'"at"', b'"every"', b'"until"', b'"comment"', b'"10ms"', b'"0us"', b'"999999999s"',
+          b'"7FF#"', b'"1FFFFFFF#R8"', b'"800#"', b'"123:7F0"', b'"000"']
+FIELDS = ["comment", "$schema", "bitrate", "bits", "name", "on", "frame", "id", "data", "remote", "at", "every",
+          "times", "filters", "banks", "accept", "fifo", "rewrite", "from", "to", "node", "segment", "bit", "until",
+          "level", "x"]
 
 
 def span(draw, text, most=40):
@@ -88,8 +94,21 @@ def holders(value):
     return found
 
 
+def other_text(draw, text):
+    """The text with a character more, less or another one, or a part of it twice."""
+    place = draw.randrange(len(text) + 1)
+    way = draw.random()
+    if way < 0.3:
+        return text[:place] + text[place + 1:]
+    if way < 0.5:
+        return text[:place] + text[place // 2:]
+    character = draw.choice("0123456789ABCDEFabcdef#:Rrums \n\u0660")
+    return text[:place] + character + text[place + (way < 0.8):]
+
+
 def replace_value(draw, text):
-    """A value of the JSON becomes another, comes a second time, or goes; other texts stay as they are."""
+    """A value of the JSON becomes another, comes a second time, has another name, or goes; other texts stay as they
+    are."""
     try:
         value = json.loads(text)
     except (ValueError, RecursionError):
@@ -104,12 +123,16 @@ def replace_value(draw, text):
         place = draw.choice(list(holder)) if isinstance(holder, dict) else draw.randrange(len(holder))
         there = draw.choice(list(other.values()) if isinstance(other, dict) else other)
         way = draw.random()
-        if way < 0.15:
+        if way < 0.08 and isinstance(holder, dict):
+            holder[draw.choice(FIELDS)] = holder.pop(place)
+        elif way < 0.15:
             del holder[place]
         elif way < 0.35 and isinstance(holder, list):
             holder.insert(draw.randrange(len(holder) + 1), holder[place])
         elif way < 0.6 and isinstance(holder[place], int):
             holder[place] += draw.choice([-1, 1, 7, 64, 1000])
+        elif way < 0.6 and isinstance(holder[place], str):
+            holder[place] = other_text(draw, holder[place])
         elif way < 0.8:
             # a copy, so that no value holds itself
             holder[place] = json.loads(json.dumps(there))

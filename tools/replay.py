@@ -5,7 +5,9 @@ controller starts, and at which bit, and which of its requests is given up is th
 other line must come out as the model makes it from that, and each route's numbers must be those of its lines.
 `differences(script, text)` tells where they are not."""
 
-from model import Controller, Request, Segment, chosen_fifo, rewritten
+import bisect
+
+from model import Controller, Request, Segment, chosen_fifo, plain, rewritten
 
 
 def frame_of(words):
@@ -39,6 +41,7 @@ class Sender(Controller):
     def __init__(self, controller, told):
         super().__init__(controller)
         self.name, self.told, self.now = controller["name"], told, None
+        self.start_bits = sorted(told.starts)
         self.taken, self.started, self.done, self.given_up = [[], []], [], [], []
         self.on_bus, self.ends, self.faults = None, {}, []
 
@@ -46,6 +49,10 @@ class Sender(Controller):
         fifo = chosen_fifo(self.banks, frame)
         if fifo is not None:
             self.taken[fifo].append(frame)
+
+    def next_start(self, bit):
+        place = bisect.bisect_left(self.start_bits, bit)
+        return self.start_bits[place] if place < len(self.start_bits) else None
 
     def start(self):
         request = self.told.starts.get(self.now)
@@ -118,8 +125,10 @@ def replayed_lines(script, senders):
     lines = []
     for segment in script["segments"]:
         replayed = Replayed(script, segment, senders, Node)
-        for bit in range(script["bits"]):
+        bit = 0
+        while bit < script["bits"]:
             replayed.make_bit(bit)
+            bit = replayed.idle_until(bit + 1, script["bits"])
         lines += replayed.lines(script["bits"])
     return lines
 
@@ -165,12 +174,11 @@ def route_faults(script, place, senders, line):
                                                         "held"]:
         return [f"{line}: no line of route {name}"]
     accepted, overrun, released, completed, aborted, held = map(int, words[3::2])
-    rewrites = route.get("rewrite", []) if script["version"] == 2 else []
-    taken = [rewritten(rewrites, frame) for frame in source.taken[route["fifo"]]]
+    taken = [rewritten(route["rewrite"], frame) for frame in source.taken[route["fifo"]]]
     frames = {r.number: r.frame for _, r in target.started if r.route.name == name}
     done = [number for label, number in target.done if label == name]
     given_up = {number for label, number in target.given_up if label == name}
-    asked = {a["number"] for a in script.get("aborts", []) if a["route"] == name}
+    asked = {a["number"] for a in script["aborts"] if a["route"] == name}
     wrong = {
         "accepted": accepted != len(taken),
         "completed": completed != len(done) or len(set(done)) != len(done),
@@ -189,7 +197,7 @@ def route_faults(script, place, senders, line):
 
 
 def differences(script, text):
-    lines = text.splitlines()
+    script, lines = plain(script), text.splitlines()
     told = told_of(script, lines)
     senders = {c["name"]: Sender(c, told[c["name"]]) for c in script["controllers"]}
     for sender in senders.values():
@@ -202,7 +210,7 @@ def differences(script, text):
         place = next((i for i, pair in enumerate(zip(said, expected)) if pair[0] != pair[1]),
                      min(len(said), len(expected)))
         found.append(f"line {place}: {said[place:place + 1]} where the model has {expected[place:place + 1]}")
-    asked = {(a["route"], a["number"]) for a in script.get("aborts", [])}
+    asked = {(a["route"], a["number"]) for a in script["aborts"]}
     for sender in senders.values():
         found += sender.faults + in_order(sender, asked)
     for place in range(count):

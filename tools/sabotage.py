@@ -17,12 +17,12 @@ class Bus:
     def line(self, level, name="t0"):
         """The line of the segment on which this node is has this level at the next bit."""
         segment = self.segments[name]
-        segment.line_faults[self.bit] = level
+        segment.line_faults.put(self.bit, level)
         self.script["faults"].append({"segment": segment.name, "bit": self.bit, "level": level})
 
     def flip(self, name):
         """This node samples the opposite of its line at the next bit."""
-        self.segments[name].node_faults.add((name, self.bit))
+        self.segments[name].node_faults[name].put(self.bit, True)
         self.script["faults"].append({"node": name, "bit": self.bit})
 
     def force(self, draw, level, name):

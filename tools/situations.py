@@ -133,15 +133,15 @@ def faults_at_ends(segment):
     for member in segment.members:
         others = [other.name for other in segment.members if other is not member]
         for bit, place, frame, state in member.node.ends:
-            faulty = [WHOSE[0]] if (member.name, bit) in segment.node_faults else []
-            faulty += [WHOSE[1] for other in others if (other, bit) in segment.node_faults]
+            faulty = [WHOSE[0]] if segment.is_flipped(member.name, bit) else []
+            faulty += [WHOSE[1] for other in others if segment.is_flipped(other, bit)]
             wrong = RECESSIVE if place == "ACK slot" else DOMINANT
-            faulty += [WHOSE[2]] if segment.line_faults.get(bit) == wrong else []
+            faulty += [WHOSE[2]] if segment.line_faults.at(bit) == wrong else []
             for whose in faulty:
                 yield f"{whose} at {place}"
                 yield f"{whose} in the end of an error {state} sender's {form_text(frame)}"
         for bit in member.node.own_slots:
-            if (member.name, bit) in segment.node_faults:
+            if segment.is_flipped(member.name, bit):
                 yield "a node fault of an error passive receiver at its own ACK slot"
 
 
@@ -159,7 +159,7 @@ def lonely(segment):
 
 def joined(segment):
     for attempt in segment.attempts():
-        if attempt.first == attempt.start or segment.line_faults.get(attempt.start) != DOMINANT:
+        if attempt.first == attempt.start or segment.line_faults.at(attempt.start) != DOMINANT:
             continue
         yield "joined behind a dominant third intermission bit"
         if attempt.ending == "lost":

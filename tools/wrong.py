@@ -1,11 +1,13 @@
 """The wrong scripts and event lists of examples/wrong/, each with the fault that it is refused for, and others that
 are too long to be stored."""
 
+import json
 import pathlib
 
 WRONG = pathlib.Path(__file__).resolve().parent.parent / "examples/wrong"
 ONE = (WRONG / "one.json").read_text()
 TWO = (WRONG / "two.json").read_text()
+THREE = (WRONG / "three.json").read_text()
 
 
 def rows(name):
@@ -20,9 +22,12 @@ def changed(text, old, new):
     return text.replace(old, new)
 
 
-def wrong_scripts():
-    """Gives of each row of scripts.tsv the fault and the script's text: the one it names, with its changes made."""
+def wrong_scripts(has_version_3=True):
+    """Gives of each row of scripts.tsv the fault and the script's text: the one it names, with its changes made. Rows
+    of version 3 can be left out."""
     for _, (name, fault, *changes) in rows("scripts.tsv"):
+        if name == "three" and not has_version_3:
+            continue
         text = (WRONG / f"{name}.json").read_text()
         for old, new in zip(changes[::2], changes[1::2], strict=True):
             text = changed(text, old, new)
@@ -87,3 +92,69 @@ def right_scripts():
     yield changed(TWO, '"bank":8', '"bank":27')
     yield changed(TWO, '"version":2', '"version":1')
     yield changed(changed(TWO, '"version":2', '"version":1'), '"rewrite":[', '"rewrite":[0,')
+
+
+def too_long_3():
+    """Lists of version 3 that are just not too long, and lists with one element more; a node and a route too many."""
+    for name, most in [("frames", 10_000), ("faults", 10_000), ("aborts", 1_000), ("rewrite", 32), ("filters", 28),
+                       ("banks", 28)]:
+        old = f'"{name}":[{{'
+        for count, fault in [(most, f"J3 Kind {name}"), (most + 1, f"J8 TooMany {name}")]:
+            yield fault, changed(THREE, old, f'"{name}":[{zeros(count)}],"comment":[{{')
+    # 64 nodes of a segment go before its talker t; and 63, with t, before its controller c
+    for count, fault in [(64, "J8 TooMany talkers"), (63, "J8 TooMany controllers")]:
+        talkers = listed("u", count, '"on":0,"frames":[]')
+        yield fault, changed(THREE, '"talkers":[{', f'"talkers":[{talkers}{{')
+    # the fields of the 65th node come first
+    talkers = listed("u", 64, '"on":0,"frames":[]')
+    yield "J4 Range frame", changed(changed(THREE, "0C0#0102", "0C0"), '"talkers":[{', f'"talkers":[{talkers}{{')
+    # eight routes into d besides r
+    controllers = listed("e", 4, '"segment":"a","on":0')
+    more = changed(THREE, '"controllers":[{', f'"controllers":[{controllers}{{')
+    routes = "".join(f',{{"name":"r{place}","from":"e{place // 2}","fifo":{place % 2},"to":"d"}}' for place in range(8))
+    yield "J8 TooMany routes", changed(more, '"18FF0100"}]}', '"18FF0100"}]}' + routes)
+
+
+def with_comments(value):
+    """The value with a comment in each of its objects."""
+    if isinstance(value, list):
+        return [with_comments(inner) for inner in value]
+    if isinstance(value, dict):
+        return {field: with_comments(inner) for field, inner in value.items()} | {"comment": [{"version": None}]}
+    return value
+
+
+def right_scripts_3():
+    """What is just not wrong in version 3."""
+    yield THREE
+    yield json.dumps(with_comments(json.loads(THREE)))
+    yield changed(THREE, '"version":3', '"version":3,"$schema":0,"comment":null')
+    for old, *news in [
+            ('"bitrate":500000', '"bitrate":1000', '"bitrate":1000000', '"comment":500000'),
+            ('"bits":1000', '"bits":"2ms"', '"bits":"2000us"', '"bits":"000000002ms"', '"bits":"2001us"',
+             '"bits":"1s"'),
+            ('"on":2', '"on":999', '"on":"1999us"', '"on":"0s"'),
+            ('"at":20', '"at":999', '"at":"1ms"', '"at":"0s"', '"comment":20'),
+            ('"every":30,"times":4', '"every":1,"times":1000000', '"every":100000000', '"every":"200s"',
+             '"every":"2us"', '"times":1,"every":999'),
+            ('"0C0#0102"', '"7FF#"', '"7ff#R"', '"1FFFFFFF#R0"', '"00000000#0123456789abCDef"', '"0c0#R8"'),
+            ('"18FEF100#R6"', '"18fef100#"', '{"frame":"000#"}', '{"id":0,"ext":true,"remote":0,"at":0,"every":7}',
+             '{"id":0,"ext":false,"data":[],"remote":null}'),
+            ('"123:7F0"', '"7FF"', '"000:000"', '"7ff:7FF"', '"1FFFFFFF:1FFFFFFF"', '"00000000"'),
+            ('"remote":false,"fifo":1', '"remote":true,"fifo":0', '"fifo":1', '"remote":false'),
+            ('"bank":8', '"bank":2', '"bank":27'),
+            ('"banks":[{', '"comment":[{', '"banks":[],"comment":[{'),
+            ('"filters":[{', '"comment":[{', '"filters":[],"comment":[{'),
+            ('"from":"0C0","to":"18FF0100"', '"to":"7ff","from":"1FFFFFFF"', '"from":"000","to":"000"'),
+            ('"until":6', '"until":2', '"until":1000', '"until":"2ms"', '"comment":6',
+             '"until":6,"segment":0,"level":null'),
+            ('"bit":9,"until":70', '"bit":999', '"bit":"1999us"', '"bit":"18us","until":"20us"')]:
+        for new in news:
+            yield changed(THREE, old, new)
+    # 1,000,000 instances, 64 nodes of a segment, 28 filters
+    yield changed(changed(THREE, '"bits":1000', '"bits":1000000'), '"at":20,"every":30,"times":4',
+                  '"every":1,"times":999998')
+    yield changed(THREE, '"talkers":[{', '"talkers":[' + listed("u", 62, '"on":0,"frames":[]') + "{")
+    filters = ",".join(['{"accept":"000"}'] * 26)
+    most = changed(THREE, '{"accept":"0000000A"}', '{"accept":"0000000A"},' + filters)
+    yield changed(most, '"banks":[{', '"comment":[{')
