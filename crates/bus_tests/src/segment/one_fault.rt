@@ -41,7 +41,7 @@ impl Turned {
 fn record_with(alloc: Global, turned: Option<Turned>, level: bool) -> Result<Record, Fail> {
     let mut plan: SegmentPlan = sender_and_listener(alloc, 200, 1)?;
     if let Some(Turned { place, bit }) = turned {
-        let until = bit + 1;
+        let until = bit.saturating_add(1);
         match place {
             Place::Sender => plan.node_faults.push(NodeFault {
                 node: SENDER,
