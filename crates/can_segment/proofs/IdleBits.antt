@@ -21,12 +21,13 @@ use Rattle.can_segment.specs.UneventfulBits.MakeIdleBits.{no_idle_bit, one_idle_
 use Rattle.can_segment.specs.DeferredState.{AllDeferred, AreIdle, AreRecessive, AreDeferred, Drives, DeferredHolds}
 use Rattle.can_segment.specs.DeferredState.{FollowsThrough}
 use Rattle.can_segment.specs.DeferredState.{materialized}
+use Rattle.can_segment.specs.IdleUntil.{FaultlessUntil}
 use Rattle.can_segment.specs.Segments.{SegmentValue, sending_of_all}
 use Rattle.can_segment.proofs.Going.{go_uneventful, go_samples, go_starts}
 use Rattle.can_segment.proofs.Holds.{through_holds}
 use Rattle.can_segment.proofs.IdleBursts.{deferred_drive, stay_deferred}
 use Rattle.can_segment.proofs.UneventfulBits.{LeftUneventfully, SoFar, both_so_far, holds_so, kept_so, none_so_far}
-use Rattle.can_segment.proofs.UneventfulBursts.{Between, UneventfulUntil, value_of}
+use Rattle.can_segment.proofs.UneventfulBursts.{Between, value_of}
 use Rattle.can_segment.proofs.DeferredState.{all_drive, all_uneventful, members_sample, real_at, talkers_start}
 use Rattle.can_segment.proofs.SingleBit.{follows_through}
 use Rattle.can_station.proofs.Places.{same_some}
@@ -54,6 +55,16 @@ idle_deferred limit deferred bit members is_deferred k m e is =
       listening =
           h.listening;
     }
+
+-- a bus that idles before a bit does so before an earlier one
+pub idles_sooner : (deferred : Deferred) (until limit : ℕ) (plan : List Talker) (t c : List Member) → until ≤ limit →
+    AreIdle deferred limit plan t c → AreIdle deferred until plan t c
+idles_sooner deferred until limit plan t c sooner idle = record {
+  idles = idle.idles;
+  talkers_deferred = idle.talkers_deferred;
+  controllers_deferred = idle.controllers_deferred;
+  talkers_not_due = λ k m talker e f bit before. idle.talkers_not_due k m talker e f bit (omega (arith, before, sooner));
+}
 
 -- a recessive bit leaves the deferred nodes as they are
 idles_through : (deferred : Deferred) (bit limit : ℕ) (plan : List Talker) (t c : List Member) →
@@ -153,14 +164,14 @@ same_sending deferred bit next (m ∷ members) =
     ap (λ sent. item_of m.station.sending ∷ sent) (same_sending deferred bit next members)
 
 idle_one : (plan : SegmentPlan) (faults : CurrentFaults) (levels : List Bool) (events : List Event)
-    (counters : List Counters) (deferred : Deferred) (limit : ℕ) (t c : List Member) →
+    (counters : List Counters) (deferred : Deferred) (limit : ℕ) (t c : List Member) (was is : ℕ) →
     AreIdle deferred limit plan.talkers.items t c → length levels < limit →
     Between plan faults levels events counters deferred t c → length levels < plan.bits →
     IsFaultless plan (length levels) → IsCurrent plan (length levels + 1) faults →
     Between plan faults (levels ++ true ∷ []) events counters deferred t c
-    × MakesIdleBit (value_of plan levels events counters deferred c)
-    (value_of plan (levels ++ true ∷ []) events counters deferred c)
-idle_one plan faults levels events counters deferred limit t c idle before h still faultless stands =
+    × MakesIdleBit (value_of plan levels events counters deferred c was)
+    (value_of plan (levels ++ true ∷ []) events counters deferred c is)
+idle_one plan faults levels events counters deferred limit t c was is idle before h still faultless stands =
     let bit = length levels in
     let longer : length (levels ++ true ∷ []) ≡ bit + 1 = length-append levels (true ∷ []) in
     let through = idles_through deferred bit limit plan.talkers.items t c idle in
@@ -188,30 +199,31 @@ idle_one plan faults levels events counters deferred limit t c idle before h sti
 
 -- such bits one after another, whose levels the record got at once
 pub idle_burst : (plan : SegmentPlan) (faults : CurrentFaults) (levels : List Bool) (events : List Event)
-    (counters : List Counters) (made : List Bool) (deferred : Deferred) (limit : ℕ) (t c : List Member) (last : ℕ) →
-    AreRecessive made → AreIdle deferred limit plan.talkers.items t c → last ≤ limit → Between plan faults levels events counters deferred t c →
-    UneventfulUntil plan faults last → last ≤ plan.bits → (0 < length made → length levels + length made ≤ last) →
+    (counters : List Counters) (made : List Bool) (deferred : Deferred) (until : ℕ) (t c : List Member) (was is : ℕ) →
+    AreRecessive made → AreIdle deferred until plan.talkers.items t c → until ≤ plan.bits →
+    Between plan faults levels events counters deferred t c → FaultlessUntil plan faults until →
+    (0 < length made → length levels + length made ≤ until) → (length made ≡ 0 → was ≡ is) →
     Between plan faults (levels ++ made) events counters deferred t c
-    × MakeIdleBits (value_of plan levels events counters deferred c)
-    (value_of plan (levels ++ made) events counters deferred c)
-idle_burst plan faults levels events counters [] deferred limit t c last recessive idle ends h until still fits =
-    rw (append-nil levels) (h, no_idle_bit)
-idle_burst plan faults levels events counters (level ∷ made) deferred limit t c last recessive idle ends h until still
-    fits =
+    × MakeIdleBits (value_of plan levels events counters deferred c was)
+    (value_of plan (levels ++ made) events counters deferred c is)
+idle_burst plan faults levels events counters [] deferred until t c was is recessive idle still h faultless fits same =
+    rw (append-nil levels, same refl) (h, no_idle_bit)
+idle_burst plan faults levels events counters (level ∷ made) deferred until t c was is recessive idle still h faultless
+    fits same =
     let within = fits (omega arith) in
     let bit = length levels in
     let next = levels ++ true ∷ [] in
     let longer : length next ≡ bit + 1 = length-append levels (true ∷ []) in
-    let free = until bit (omega (arith, within)) h.stands in
-    let one = idle_one plan faults levels events counters deferred limit t c idle (omega (arith, within, ends)) h (omega (arith, within, still)) free.0
-    free.1
-    in
-    let more = idle_burst plan faults next events counters made deferred limit t c last recessive.1 idle ends one.0 until still
-    (λ more. omega (arith, longer, within)) in
+    let free = faultless bit (omega (arith, within)) h.stands in
+    let one = idle_one plan faults levels events counters deferred until t c was is idle (omega (arith, within)) h
+    (omega (arith, within, still)) free.0 free.1 in
+    let more = idle_burst plan faults next events counters made deferred until t c is is recessive.1 idle still one.0
+    faultless (λ more. omega (arith, longer, within)) (λ none. refl) in
     let all : next ++ made ≡ levels ++ level ∷ made =
     append_assoc levels (true ∷ []) made ∙ ap (λ l. levels ++ l ∷ made) (sym recessive.0) in
     subst (λ ls. Between plan faults ls events counters deferred t c
-    × MakeIdleBits (value_of plan levels events counters deferred c) (value_of plan ls events counters deferred c))
+    × MakeIdleBits (value_of plan levels events counters deferred c was) (value_of plan ls events counters deferred c
+    is))
     all (more.0, one_idle_bit one.1 more.1)
 
 -- idle bits so far
@@ -228,6 +240,13 @@ idle_start segment limit = none_so_far segment limit no_idle_bit
 pub idle_both : {old mid new : SegmentValue} {limit : ℕ} → IdleSoFar old mid limit → IdleSoFar mid new limit →
     IdleSoFar old new limit
 idle_both first more = both_so_far idle_on first more
+
+-- Idle bits so far, and at least up to this bit. A bus that idled beyond them at first still does so.
+pub record IdleUpTo (old new : SegmentValue) (limit made : ℕ) : Type 0 where
+  pub so_far : IdleSoFar old new limit
+  pub made_is : made ≤ length new.levels
+  pub longer : length old.levels ≤ length new.levels
+  pub idle : length new.levels < old.idle_until → new.idle_until ≡ old.idle_until
 
 -- what idle bits leave of a segment, whatever its ports are
 pub left_idle : {old new : SegmentValue} → MakeIdleBits old new → LeftUneventfully old new

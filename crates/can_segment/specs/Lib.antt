@@ -10,4 +10,5 @@ pub mod Copies
 pub mod Queues
 pub mod StepOutcome
 pub mod DeferredState
+pub mod IdleUntil
 pub mod UneventfulBits

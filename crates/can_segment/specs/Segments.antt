@@ -20,7 +20,7 @@ use Rattle.can_segment.specs.Runs.{Run, Shows, firsts}
 use Rattle.can_segment.specs.Traces.{Bit, past_of}
 
 -- its plan, what it recorded so far, what each controller has on the bus, and whether it is on and wants to start at
--- the next bit
+-- the next bit; and a bit up to which its bus idles as long as no controller is given a request, if it is still to come
 pub record SegmentValue : Type 0 where
   pub plan : SegmentPlan
   pub levels : List Bool
@@ -28,6 +28,7 @@ pub record SegmentValue : Type 0 where
   pub counters : List Counters
   pub sending : List (Option Item)
   pub wanting : List Bool
+  pub idle_until : ℕ
 
 -- whether this controller is on and wants to start at the next bit
 abbrev pub wants_next : SegmentValue → ℕ → Bool

@@ -1,15 +1,17 @@
 //! Bits of an idle bus on which all nodes are deferred, many at once.
 
-ghost use Rattle.std.specs.Prelude.{◌≡◌, ◌≤◌, ◌<◌, ◌+◌, ◌++◌, true, Bool, List, length, vec_capacity, vec_len};
+ghost use Rattle.std.specs.Prelude.{◌≡◌, ◌≤◌, ◌<◌, ◌+◌, ◌++◌, true, Bool, List, length, min, vec_capacity, vec_len};
 ghost use Rattle.can_station.specs.DeferredNodes.{ActiveWithin};
 ghost use Rattle.can_segment.specs.DeferredState.{AreIdle, AreNoneDueBefore, AreRecessive, AreUneventfulBits};
+ghost use Rattle.can_segment.specs.IdleUntil.{IdlesUntil};
 
 use crate::deferred::Deferred;
-use can_station::{Member, Talker};
+use crate::record::Record;
+use can_station::{CurrentFaults, Member, SegmentPlan, Talker};
 
 /// Returns this many recessive levels, and at most 256.
 pub(crate) fn recessive<'a>(most: usize) -> &'a [bool]
-    ensures few { length result.now ≤ most }
+    ensures size { length result.now ≡ min most 256 }
     ensures recessive { AreRecessive result.now }
 {
     const RECESSIVE: &[bool] = &[true; 256];
@@ -56,24 +58,41 @@ fn next_due(plan: &[Talker], talkers: &[Member]) -> u64
     first
 }
 
-/// Returns a bit before which the bus stays idle as long as no controller is given a request: all nodes are deferred on
-/// an idle bus, and no talker has a frame that is due before that bit. It is 0 where that is not so.
-pub(crate) fn idle_until(
+/// Returns a bit before which no talker has a frame that is due, where all nodes are deferred on an idle bus; 0 where
+/// that is not so.
+fn next_start(
     plan: &[Talker],
+    deferred: &Deferred,
     talkers: &[Member],
     controllers: &[Member],
-    deferred: &Deferred,
 ) -> u64
     requires plan { length plan.now ≡ length talkers.now }
     requires talkers_within { ActiveWithin deferred.now.talkers talkers.now }
     requires controllers_within { ActiveWithin deferred.now.controllers controllers.now }
     ensures { 0 < result → AreIdle deferred.now result plan.now talkers.now controllers.now }
 {
-    if !deferred.talkers.is_empty() || !deferred.controllers.is_empty() {
-        return 0;
-    }
-    if !deferred.shared_receiver.is_idle() {
+    let all_deferred = deferred.talkers.is_empty() && deferred.controllers.is_empty();
+    if !all_deferred || !deferred.shared_receiver.is_idle() {
         return 0;
     }
     next_due(plan, talkers)
+}
+
+/// Returns a bit until which the bus idles as long as no controller is given a request; 0 where none is known.
+pub(crate) fn idle_until(
+    plan: &SegmentPlan,
+    made: &Record,
+    faults: &CurrentFaults,
+    deferred: &Deferred,
+    talkers: &[Member],
+    controllers: &[Member],
+) -> u64
+    requires plan { length plan.now.talkers.items ≡ length talkers.now }
+    requires talkers_within { ActiveWithin deferred.now.talkers talkers.now }
+    requires controllers_within { ActiveWithin deferred.now.controllers controllers.now }
+    ensures { 0 < result → IdlesUntil result plan.now made.now faults.now deferred.now talkers.now controllers.now }
+{
+    let start = next_start(plan.talkers.as_slice(), deferred, talkers, controllers);
+    let room = made.levels.capacity() as u64;
+    faults.faultless_until(plan.bits.min(start).min(room))
 }

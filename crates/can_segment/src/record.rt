@@ -23,6 +23,7 @@ pub(crate) fn make_room(made: &mut Record, nodes: usize) -> Result<(), AllocErro
     ensures levels { made.new.levels.items ≡ made.old.levels.items }
     ensures events { made.new.events.items ≡ made.old.events.items }
     ensures counters { made.new.counters ≡ made.old.counters }
+    ensures capacity { vec_capacity made.old.levels ≤ vec_capacity made.new.levels }
     ensures level_room { OnOk result (vec_len made.new.levels < vec_capacity made.new.levels) }
     ensures event_room { OnOk result (vec_len made.new.events + 3 * nodes ≤ vec_capacity made.new.events) }
 {

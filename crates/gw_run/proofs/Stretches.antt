@@ -1,21 +1,22 @@
 -- Stretches of bits at which each segment idles or is ahead.
 use Rattle.std.proofs.Common.{◌≡◌, ◌&&◌, Bool, true, false, ℕ, ◌+◌, ◌-◌, ◌/◌}
-use Rattle.std.proofs.Common.{◌<◌, ◌≤◌, Some, List, length, slice_get, refl, sym, ap, subst}
+use Rattle.std.proofs.Common.{◌<◌, ◌≤◌, Some, List, length, set, slice_get, refl, sym, ap, subst, inl, inr}
 use Rattle.std.proofs.Common.{arith, ◌∙◌}
-use Rattle.std.proofs.Math.Nat.{div-le_self, div-mul-le_self}
+use Rattle.std.proofs.Math.Nat.{div-mul-le_self}
 use Rattle.std.proofs.lemmas.Nat.{le-div}
+use Rattle.std.proofs.lemmas.Bool.{cases_eq, cases_lt}
 use Rattle.std.proofs.lemmas.Option.{slice_get_within}
 use Rattle.bx_core.specs.PlainMail.{core_of}
 use Rattle.bx_core.specs.Stands.{RouteStands}
 use Rattle.can_station.specs.Places.{AtPlaces}
-use Rattle.can_station.proofs.Places.{same_some, some_there}
+use Rattle.can_station.proofs.Places.{get_set_other, get_set_same, same_some, some_there}
 use Rattle.gw_route.specs.Plans.{FromPlan}
 use Rattle.gw_route.specs.RouteHand.{IsLinked, LogsReleased, hand_value}
 use Rattle.gw_route.proofs.Idles.{linked_idled, planned_idled}
 use Rattle.gw_opening.specs.declared.lane.Lane.{Lane}
 use Rattle.gw_opening.specs.Places.{IsAt, slot_of}
 use Rattle.gw_run.specs.Ports.{Site}
-use Rattle.gw_run.specs.Sites.{SiteIdles, SiteMoves}
+use Rattle.gw_run.specs.Sites.{Reaches, SiteIdles, SiteMoves}
 use Rattle.gw_run.specs.Worlds.{AreFar, HaveMade, HaveMadeUpTo, HaveTurned, LaneIdles, LaneKeeps, LanesKeep, Leads}
 use Rattle.gw_run.specs.Worlds.{MayIdle, WorldHolds}
 use Rattle.gw_run.proofs.Ahead.{ahead_least, ahead_up, idles_not, idles_on}
@@ -29,6 +30,23 @@ made_up_to bits made most sites less h =
 pub both_true : (a b : Bool) → (a && b) ≡ true → (a ≡ true) × (b ≡ true)
 both_true true b e = (refl, e)
 both_true false b e = absurd (cc e)
+
+-- the segments before a place are as far, and so is the one that is put there
+pub far_put : (until : ℕ) (sites : List Site) (place : ℕ) (new : Site) → place < length sites →
+    ((i : ℕ) (site : Site) → i < place → slice_get sites i ≡ Some site → until ≤ length site.segment.levels) →
+    until ≤ length new.segment.levels → (i : ℕ) (site : Site) → i < place + 1 →
+    slice_get (set sites place new) i ≡ Some site → until ≤ length site.segment.levels
+far_put until sites place new within before far i site less e = elim (cases_eq i place) [
+  | inl here ↦
+      let same = same_some site new
+      (sym e ∙ ap (slice_get (set sites place new)) here ∙ get_set_same sites place new within) in
+      subst (λ (s : Site). until ≤ length s.segment.levels) (sym same) far
+  | inr other ↦ before i site
+      (elim (cases_lt i place) [
+        | inl below ↦ below
+        | inr above ↦ absurd (other (omega (arith, above, less)))
+      ]) (sym (get_set_other sites place i new other) ∙ e)
+]
 
 -- bits of one segment
 idles_up : (until more : ℕ) (a b : Site) → until ≤ more → SiteIdles until a b → SiteIdles more a b
@@ -67,10 +85,10 @@ idle_both until old mid new first next = record {
   size = next.size ∙ first.size;
 }
 
-pub idle_up : (until : ℕ) (old new : List Site) → AtPlaces (λ i. SiteIdles until) old new →
-    AtPlaces (λ i. SiteIdles (until + 1)) old new
-idle_up until old new h =
-    record { at = λ i a b p q. idles_up until (until + 1) a b (omega arith) (h.at i a b p q); size = h.size }
+pub idle_up : (until more : ℕ) (old new : List Site) → until ≤ more → AtPlaces (λ i. SiteIdles until) old new →
+    AtPlaces (λ i. SiteIdles more) old new
+idle_up until more old new less h =
+    record { at = λ i a b p q. idles_up until more a b less (h.at i a b p q); size = h.size }
 
 -- none is less far behind them
 pub far_on : (until made : ℕ) (old new : List Site) → AtPlaces (λ i. SiteIdles until) old new → AreFar made old →
@@ -104,6 +122,11 @@ idle_made bits made until old new few h idle = record {
       let before = some_there old i (let within = slice_get_within new i site e in omega (arith, within, idle.size)) in
       (idle.at i before.0 site before.1 e).ahead;
 }
+
+-- a segment that gets up to a bit by itself gets up to an earlier one
+pub reaches_sooner : (until later : ℕ) (site : Site) → until ≤ later → Reaches later site → Reaches until site
+reaches_sooner until later site sooner (inl far) = inl (omega (arith, far, sooner))
+reaches_sooner until later site sooner (inr idle) = inr (idle.0, omega (arith, idle.1, sooner))
 
 -- what idle turns keep of a route
 idles_keeps : (more : ℕ) (old new : Lane) → LaneIdles more old new → LaneKeeps old new

@@ -2,7 +2,7 @@
 
 ghost use Rattle.std.specs.Prelude.{◌≡◌, ◌⊎◌, ◌<◌, ◌≤◌, ℕ, OnOk, true, false, length};
 ghost use Rattle.gw_run.specs.Ports.{NoneWaits};
-ghost use Rattle.gw_run.specs.Sites.{IsAheadUpTo, SiteHolds, SiteIdles, SiteMakes};
+ghost use Rattle.gw_run.specs.Sites.{IsAheadUpTo, Reaches, SiteHolds, SiteIdles, SiteMakes};
 
 use crate::port::{Port, Site};
 use can_frame::Memory;
@@ -11,7 +11,8 @@ use std::sync::Wait;
 
 /// Whether no request waits for any of these controllers: then none is ready, however often they are asked.
 fn none_waits(ports: &[Port]) -> bool
-    ensures { result ≡ true → NoneWaits ports.now }
+    ensures none { result ≡ true → NoneWaits ports.now }
+    ensures some { result ≡ false → NoneWaits ports.now → ⊥ }
 {
     for port in ports {
         if port.mail.core().first().is_some() {
@@ -30,6 +31,7 @@ pub(crate) fn idle_on(site: &mut Site, until: u64) -> bool
     ensures idles { SiteIdles until site.old site.new }
     ensures far { result ≡ true → until ≤ length site.new.segment.levels }
     ensures near { result ≡ false → length site.new.segment.levels < until }
+    ensures reaches { Reaches until site.old → until ≤ length site.new.segment.levels }
     ensures unasked { (site.new ≡ site.old) ⊎ NoneWaits site.old.ports.items }
 {
     if until <= site.segment.record().levels.len() as u64 {
@@ -40,6 +42,20 @@ pub(crate) fn idle_on(site: &mut Site, until: u64) -> bool
     }
     site.segment.idle_bits(until);
     until <= site.segment.record().levels.len() as u64
+}
+
+/// Returns a bit up to which `idle_on` gets a segment: that until which its bus is known to idle, where no request waits
+/// for any of its controllers; else, or where that bit is past, its next one.
+pub(crate) fn idles_until(site: &Site) -> u64
+    ensures reaches { Reaches result site.now }
+    ensures least { length site.now.segment.levels ≤ result }
+{
+    let made = site.segment.record().levels.len() as u64;
+    let idle = site.segment.idle_until();
+    if idle <= made || !none_waits(site.ports.as_slice()) {
+        return made;
+    }
+    idle
 }
 
 /// A segment with its controllers makes bits until there are so many, of all that it has to make, unless there are

@@ -1,14 +1,14 @@
 //! Stretches of bits at which each segment idles or is ahead, and no route has anything to do.
 
-ghost use Rattle.std.specs.Prelude.{◌≡◌, ◌<◌, ◌≤◌, ◌+◌, true};
+ghost use Rattle.std.specs.Prelude.{◌≡◌, ◌<◌, ◌≤◌, ◌+◌, ℕ, true};
 ghost use Rattle.can_station.specs.Places.{AtPlaces};
 ghost use Rattle.gw_opening.specs.declared.lane.Lane.{Lane};
 ghost use Rattle.gw_run.specs.Sites.{SiteIdles};
-ghost use Rattle.gw_run.specs.Worlds.{AllAskedInVain, AllWait, AreFar, HaveMade, HaveMadeUpTo, HaveTurned};
+ghost use Rattle.gw_run.specs.Worlds.{AllAskedInVain, AllReach, AllWait, AreFar, HaveMade, HaveMadeUpTo, HaveTurned};
 ghost use Rattle.gw_run.specs.Worlds.{LaneIdles, LanesKeep, MayIdle, NoneShort, SitesKeep, WorldHolds};
 
 use crate::port::Site;
-use crate::site::idle_on;
+use crate::site::{idle_on, idles_until};
 use gw_opening::Lane;
 
 /// Whether each of these routes waits for a frame.
@@ -40,6 +40,7 @@ fn all_idle_on(sites: &mut [Site], until: u64) -> bool
     requires { MayIdle until sites.old }
     ensures idle { AtPlaces (λ i. SiteIdles until) sites.old sites.new }
     ensures far { result ≡ true → AreFar until sites.new }
+    ensures reach { AllReach until sites.old → AreFar until sites.new }
 {
     let mut all = true;
     for place in 0..sites.len() {
@@ -48,8 +49,21 @@ fn all_idle_on(sites: &mut [Site], until: u64) -> bool
     all
 }
 
-/// Bits of all segments, one after another, as long as each idles or is ahead, up to so many in all: how many all have
-/// made then.
+/// Returns a bit up to which `all_idle_on` gets each of these segments, at most `last`.
+fn all_idle_until(sites: &[Site], last: u64) -> u64
+    ensures reach { AllReach result sites.now }
+    ensures most { result ≤ last }
+    ensures least { (made : ℕ) → made ≤ last → AreFar made sites.now → made ≤ result }
+{
+    let mut until = last;
+    for site in sites {
+        until = until.min(idles_until(site));
+    }
+    until
+}
+
+/// Bits of all segments, as long as each idles or is ahead, up to so many in all: how many all have made then. Behind a
+/// bit that all have made, it passes over all bits at once up to the next one at which something may happen.
 fn idle_until(sites: &mut [Site], made: u64, last: u64) -> u64
     requires may { MayIdle made sites.old }
     requires far { AreFar made sites.old }
@@ -65,7 +79,8 @@ fn idle_until(sites: &mut [Site], made: u64, last: u64) -> u64
         if !all_idle_on(sites, made + 1) {
             return made;
         }
-        made += 1;
+        made = all_idle_until(sites, last);
+        all_idle_on(sites, made);
     }
     made
 }

@@ -11,10 +11,10 @@ returns c =
     let here : c.len.result ≡ length c.args.levels.now.items = search rules in
     let fine : is_ok c.extend_from_slice.result ≡ true = search rules in (
       c.recessive.result.now,
-      omega (arith, c.recessive.ensures.few, c.min.ensures),
+      omega (arith, c.recessive.ensures.size, c.min.ensures),
       rw fine at c.extend_from_slice.ensures.items,
       idle_bits (length c.args.levels.now.items) c.recessive.result.now deferred talkers controllers
-          (omega (arith, c.recessive.ensures.few, c.min.ensures, c.saturating_sub-until_start.ensures, here))
+          (omega (arith, c.recessive.ensures.size, c.min.ensures, c.saturating_sub-until_start.ensures, here))
           (c.is_idle.ensures c.if-not-is_idle.false)
           (all_are_deferred deferred.talkers talkers within.talkers_within (c.is_empty.ensures.none
           c.if-not-is_empty.false))

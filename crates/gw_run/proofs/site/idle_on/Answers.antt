@@ -1,4 +1,4 @@
-use Rattle.std.proofs.Common.{rules, ◌≤◌, length, refl, arith}
+use Rattle.std.proofs.Common.{rules, ◌≤◌, length, refl, arith, inl, inr}
 use Rattle.bx_controller.specs.Ports.{SinkStands, bus_leaves-self, port_of_bus}
 use Rattle.bx_core.specs.Stands.{BusKeeps, bus_keeps-self}
 use Rattle.can_segment.proofs.IdleBits.{left_idle}
@@ -25,3 +25,15 @@ returns-clause-idles c =
       longer = left.longer;
       at_most = λ bits until before. omega (arith, few, until);
     }
+
+pub returns-then-not-none_waits-clause-reaches : goal.returns-then-not-none_waits-clause-reaches
+returns-then-not-none_waits-clause-reaches c reaches = elim reaches [
+  | inl far ↦ far
+  | inr idle ↦ absurd (c.none_waits.ensures.some (search rules) (rw (← c.as_slice.ensures.value) at idle.0))
+]
+
+pub returns-clause-reaches : goal.returns-clause-reaches
+returns-clause-reaches c reaches = elim reaches [
+  | inl far ↦ omega (arith, far, (left_idle c.idle_bits.ensures.bits).longer)
+  | inr idle ↦ c.idle_bits.ensures.idle idle.1
+]

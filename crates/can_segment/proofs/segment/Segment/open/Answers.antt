@@ -41,6 +41,7 @@ invariant_of-result c =
           (search rules) (search rules)
           (omega (arith, held.few)) (omega (arith, held.few))
           active active_too,
+      λ before. absurd (omega (arith, before)),
     )
 
 pub returns : goal.returns

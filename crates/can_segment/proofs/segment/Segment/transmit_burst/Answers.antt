@@ -1,4 +1,4 @@
-use Rattle.std.proofs.Common.{rules, ◌≡◌, length, slice_get, ◌++◌, arith, sym, ap, refl, subst, ◌∙◌}
+use Rattle.std.proofs.Common.{rules, ◌≡◌, length, slice_get, ◌≤◌, ◌++◌, arith, sym, ap, refl, subst, length-append, ◌∙◌}
 use Rattle.can_segment.specs.UneventfulBits.{MakeUneventfulBits}
 use Rattle.can_segment.specs.DeferredState.{materialized}
 use Rattle.can_segment.proofs.Keeps.{controller_clocks, talker_clocks}
@@ -39,7 +39,7 @@ invariant_of-self c =
     c.transmit_burst.ensures.0 inside.deferred c.transmit_burst.new.deferred c.as_mut_slice.result.now
     inside.talkers.items
     c.transmit_burst.new.talkers c.as_mut_slice-2.result.now inside.controllers.items c.transmit_burst.new.controllers
-    c.faultless_until-end.result
+    inside.idle_until c.faultless_until-end.result
     (record { holds = c.self.invariant.0; stands = c.self.invariant.1; is_deferred = c.self.invariant.2 })
     (c.faultless_until-end.ensures.uneventful inside.plan)
     (omega (arith, c.faultless_until-end.ensures.limit, c.min.ensures))
@@ -52,7 +52,14 @@ invariant_of-self c =
     (omega (arith, c.as_mut_slice-2.ensures.len, ap length c.as_mut_slice-2.ensures.value, ran.controllers_size))
     (sym ran.controllers_size) in
     let behind = ran.between in
-    rw (talkers, controllers, c.transmit_burst.ensures.2) (behind.holds, behind.stands, behind.is_deferred)
+    let passed : inside.idle_until ≤ bit = rw (← c.self.view_is) at c.requires in
+    let longer = length-append made.levels.items c.transmit_burst.ensures.0 in
+    let levels = c.transmit_burst.ensures.2 in (
+      rw (talkers, controllers, levels) behind.holds,
+      rw levels behind.stands,
+      rw (talkers, controllers, levels) behind.is_deferred,
+      λ before. absurd (omega (arith, before, passed, longer, ap length levels)),
+    )
 
 pub returns-clause-bits : goal.returns-clause-bits
 returns-clause-bits c =
@@ -64,7 +71,7 @@ returns-clause-bits c =
     c.transmit_burst.ensures.0 inside.deferred c.transmit_burst.new.deferred c.as_mut_slice.result.now
     inside.talkers.items
     c.transmit_burst.new.talkers c.as_mut_slice-2.result.now inside.controllers.items c.transmit_burst.new.controllers
-    c.faultless_until-end.result
+    inside.idle_until c.faultless_until-end.result
     (record { holds = c.self.invariant.0; stands = c.self.invariant.1; is_deferred = c.self.invariant.2 })
     (c.faultless_until-end.ensures.uneventful inside.plan)
     (omega (arith, c.faultless_until-end.ensures.limit, c.min.ensures))
@@ -75,5 +82,5 @@ returns-clause-bits c =
     (sym ran.controllers_size) in
     let behind = value_of inside.plan (made.levels.items ++ c.transmit_burst.ensures.0) made.events.items
     made.counters.items
-    c.transmit_burst.new.deferred c.transmit_burst.new.controllers in
+    c.transmit_burst.new.deferred c.transmit_burst.new.controllers inside.idle_until in
     rw (controllers, c.transmit_burst.ensures.2) (subst (λ s. MakeUneventfulBits s behind) c.self.view_is ran.bits)

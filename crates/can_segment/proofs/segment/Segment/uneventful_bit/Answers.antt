@@ -1,4 +1,4 @@
-use Rattle.std.proofs.Common.{rules, length-append, ◌≡◌, ◌+◌, ◌<◌, ◌++◌, ◌∷◌, [], length, slice_get, refl, arith, sym}
+use Rattle.std.proofs.Common.{rules, length-append, ◌≡◌, ◌+◌, ◌<◌, ◌≤◌, ◌++◌, ◌∷◌, [], length, slice_get, refl, arith, sym}
 use Rattle.std.proofs.Common.{ap, subst, ◌∙◌}
 use Rattle.can_station.specs.CurrentFaults.{IsCurrent}
 use Rattle.can_segment.specs.UneventfulBits.{GrowsUneventfully}
@@ -81,11 +81,13 @@ invariant_of-self-2 c =
     let here : c.len-made.result ≡ bit = search rules in
     let longer : c.len-made.result + 1 ≡ next =
     omega (arith, here, ap length grown.levels_is, length-append inside.made.levels.items (grown.level ∷ [])) in
+    let passed : inside.idle_until ≤ bit = rw (← c.self.view_is) at c.requires in
     let stood = subst (λ n. IsCurrent inside.plan n inside.faults) (sym here) held.1 in (
       rw (talkers, controllers) holds,
       subst (λ n. IsCurrent inside.plan n c.pass.new.self) longer
           (c.pass.ensures.current inside.plan stood),
       rw (talkers, controllers) is_deferred,
+      λ before. absurd (omega (arith, before, longer, here, passed)),
     )
 
 pub returns-clause-made : goal.returns-clause-made
