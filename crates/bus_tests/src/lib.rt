@@ -1,5 +1,7 @@
-//! The tests of segments, over what these libraries show to those above them.
+//! The tests of segments and of the levels of a line, over what these libraries show to those above them.
 #![tactic(auto)]
 
+#[cfg(test)]
+mod levels;
 #[cfg(test)]
 mod segment;

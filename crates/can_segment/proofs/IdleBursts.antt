@@ -1,5 +1,5 @@
 -- Bits of an idle bus on which all nodes are deferred, one after another.
-use Rattle.std.proofs.Common.{◌≡◌, ℕ, ◌<◌, ◌≤◌, ◌-◌, length, arith, ◌+◌, ◌&&◌, cond, Bool, true, List}
+use Rattle.std.proofs.Common.{◌≡◌, ℕ, zero, suc, ◌<◌, ◌≤◌, ◌-◌, length, arith, ◌+◌, ◌&&◌, cond, Bool, true, List}
 use Rattle.std.proofs.Common.{[], ◌∷◌, refl, sym, ap, subst, inl}
 use Rattle.std.proofs.Common.{◌∙◌}
 use Rattle.can_node.specs.SharedReceiver.{Idles}
@@ -14,6 +14,7 @@ use Rattle.can_station.proofs.PlaceSets.{all_pass}
 use Rattle.can_segment.specs.declared.deferred.Deferred.{Deferred}
 use Rattle.can_segment.specs.DeferredState.{AllDeferred, AreRecessive, AreUneventfulBits, IsUneventfulBit}
 use Rattle.can_segment.specs.DeferredState.{driven_beside}
+use Rattle.can_segment.specs.Levels.{recessive_levels}
 use Rattle.can_segment.proofs.SingleBit.{follows_through}
 
 pub stay_deferred : (bit : ℕ) (members : List Member) → AllDeferred members → AllGo bit true members members
@@ -62,3 +63,8 @@ idle_bits bit (level ∷ sent) deferred t c before idles each_deferred each_defe
 pub all_are_deferred : (set : PlaceSet) (members : List Member) → ActiveWithin set members → IsEmpty set → AllDeferred
     members
 all_are_deferred set members within none k m e = deferred_outside set members k m within e (none k)
+
+-- the levels of this many recessive bits
+pub are_recessive : (n : ℕ) → AreRecessive (recessive_levels n)
+are_recessive zero = tt
+are_recessive (suc n) = (refl, are_recessive n)

@@ -7,6 +7,7 @@ pub mod Collects
 pub mod NextBits
 pub mod Makes
 pub mod Moves
+pub mod PackedLevels
 pub mod Keeps
 pub mod Brought
 pub mod Shown

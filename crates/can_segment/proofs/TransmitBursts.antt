@@ -1,11 +1,10 @@
 -- Bits that one node sends while all others rest or stay in bus off or in passive error flags, one after another.
-use Rattle.std.proofs.Common.{◌≡◌, ◌≢◌, ℕ, zero, suc, ◌+◌, ◌<◌, ◌≤◌, ◌&&◌, nat_eq, cond, Bool, true, false, Some, List}
-use Rattle.std.proofs.Common.{[], ◌∷◌, ◌++◌, ◌-◌, length, take, drop, slice_get, refl, sym, ap, subst, arith, inl, inr}
-use Rattle.std.proofs.Common.{length-append, ◌∙◌}
+use Rattle.std.proofs.Common.{◌≡◌, ◌≢◌, ℕ, zero, suc, ◌+◌, ◌≤◌, ◌&&◌, nat_eq, cond, Bool, true, false, Some, List}
+use Rattle.std.proofs.Common.{[], ◌∷◌, length, take, slice_get, refl, sym, ap, subst, arith, inl, inr}
+use Rattle.std.proofs.Common.{◌∙◌}
 use Rattle.std.proofs.lemmas.Bool.Decides.{eqb_tells}
-use Rattle.std.proofs.lemmas.List.{length-take, take_all, take-take}
+use Rattle.std.proofs.lemmas.List.{length-take, take-take}
 use Rattle.std.proofs.lemmas.Option.{slice_get_within}
-use Rattle.std.proofs.Math.Seq.{drop-append_seam}
 use Rattle.can_node.specs.declared.shared_receiver.SharedReceiver.{SharedReceiver}
 use Rattle.can_node.specs.SharedReceiver.{ReadsAlong, ReadsAlongBy}
 use Rattle.can_station.specs.declared.member.Member.{Member}
@@ -287,15 +286,7 @@ waited_beside past beyond bit sent deferred after s0 s1 o0 o1 recessive none non
     (all_run past bit sent s0 s1 (λ m e. absurd (not_behind past s0 m none e)) stay go)
     (all_run beyond bit sent o0 o1 (λ m e. absurd (not_behind beyond o0 m none_too e)) stay_too go_too) along
 
--- so many recessive levels
-abbrev pub all_recessive : ℕ → List Bool
-all_recessive zero = []
-all_recessive (suc n) = true ∷ all_recessive n
-
-pub are_recessive : (n : ℕ) → AreRecessive (all_recessive n)
-are_recessive zero = tt
-are_recessive (suc n) = (refl, are_recessive n)
-
+-- the first of recessive levels are recessive
 pub recessive_taken : (n : ℕ) (levels : List Bool) → AreRecessive levels → AreRecessive (take n levels)
 recessive_taken zero levels h = tt
 recessive_taken (suc n) [] h = tt
@@ -335,27 +326,6 @@ each_on place bit ahead members sender others k m e active = elim (eqb_tells k p
 pub none_at : (members : List Member) (bit : ℕ) (ahead : List Bool) (sender : Member) →
     slice_get members (length members) ≡ Some sender → MayGoBy true bit ahead sender
 none_at members bit ahead sender e = absurd (not_behind (length members) members sender (omega arith) e)
-
--- the newest levels of a list that was added to
-pub newest : (made sent : List Bool) →
-    take (length (made ++ sent) - length made) (drop (length made) (made ++ sent)) ≡ sent
-newest made sent =
-    let size : length (made ++ sent) - length made ≡ length sent = omega (arith, length-append made sent) in
-    rw (size, drop-append_seam made sent) (take_all (length sent) sent (omega arith))
-
--- what is kept of a run behind what was made: its levels are the newest
-pub record Kept (made ahead all : List Bool) (count at : ℕ) : Type 0 where
-  pub some : 0 < length ahead
-  pub at_is : at ≡ length made
-  pub newest_is : take (length all - at) (drop at all) ≡ take count ahead
-
-pub kept : (made ahead all grown : List Bool) (count at : ℕ) → (count ≡ 0 → ⊥) → count ≤ length ahead → all ≡ grown →
-    grown ≡ made ++ take count ahead → at ≡ length made → Kept made ahead all count at
-kept made ahead all grown count at not_none few same grows here = record {
-  some = omega (arith, not_none, few);
-  at_is = here;
-  newest_is = rw (same, grows, here) (newest made (take count ahead));
-}
 
 -- whichever of both lists has the sender
 and_swaps : (a b : Bool) → (a && b) ≡ (b && a)

@@ -1,5 +1,5 @@
 -- Until when the bus of a segment idles.
-use Rattle.std.specs.Prelude.{ℕ, ◌+◌, ◌<◌, ◌≤◌, List, vec_capacity}
+use Rattle.std.specs.Prelude.{ℕ, ◌+◌, ◌<◌, ◌≤◌, List}
 use Rattle.can_station.specs.declared.current_faults.CurrentFaults.{CurrentFaults}
 use Rattle.can_station.specs.declared.member.Member.{Member}
 use Rattle.can_station.specs.declared.plan.SegmentPlan.{SegmentPlan}
@@ -21,4 +21,4 @@ pub record IdlesUntil (until : ℕ) (plan : SegmentPlan) (made : Record) (faults
   pub idle : AreIdle deferred until plan.talkers.items talkers controllers
   pub faultless : FaultlessUntil plan faults until
   pub within : until ≤ plan.bits
-  pub room : until ≤ vec_capacity made.levels
+  pub room : until ≤ made.levels.capacity

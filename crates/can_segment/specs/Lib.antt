@@ -2,6 +2,7 @@ pub mod Traces
 pub mod Tells
 pub mod Runs
 pub mod Kept
+pub mod Levels
 pub mod Moves
 pub mod Brought
 pub mod Segments

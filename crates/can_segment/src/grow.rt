@@ -37,7 +37,8 @@ pub(crate) fn grow<R, P: RxSink<R>>(
     requires ports { length ports.old ≡ length controllers.old }
     requires transmits { TransmitsAll P.transmitting
         (materialized deferred.old (length made.old.levels.items) controllers.old) ports.old }
-    requires level_room { vec_len made.old.levels < vec_capacity made.old.levels }
+    requires bit { length made.old.levels.items < u64.MAX }
+    requires level_room { length made.old.levels.items < made.old.levels.capacity }
     requires event_room { vec_len made.old.events + 3 * (length talkers.old + length controllers.old)
         ≤ vec_capacity made.old.events }
     ensures holds { SegmentHolds plan.now made.new

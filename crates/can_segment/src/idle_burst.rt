@@ -1,29 +1,21 @@
 //! Bits of an idle bus on which all nodes are deferred, many at once.
 
-ghost use Rattle.std.specs.Prelude.{◌≡◌, ◌≤◌, ◌<◌, ◌+◌, ◌++◌, true, Bool, List, length, min, vec_capacity, vec_len};
+ghost use Rattle.std.specs.Prelude.{◌≡◌, ◌≤◌, ◌<◌, ◌+◌, ◌++◌, true, Bool, List, length};
 ghost use Rattle.can_station.specs.DeferredNodes.{ActiveWithin};
-ghost use Rattle.can_segment.specs.DeferredState.{AreIdle, AreNoneDueBefore, AreRecessive, AreUneventfulBits};
+ghost use Rattle.can_segment.specs.DeferredState.{AreIdle, AreNoneDueBefore, AreUneventfulBits};
 ghost use Rattle.can_segment.specs.IdleUntil.{IdlesUntil};
 
 use crate::deferred::Deferred;
+use crate::levels::Levels;
 use crate::record::Record;
 use can_station::{CurrentFaults, Member, SegmentPlan, Talker};
 
-/// Returns this many recessive levels, and at most 256.
-pub(crate) fn recessive<'a>(most: usize) -> &'a [bool]
-    ensures size { length result.now ≡ min most 256 }
-    ensures recessive { AreRecessive result.now }
-{
-    const RECESSIVE: &[bool] = &[true; 256];
-    &RECESSIVE[..most.min(RECESSIVE.len())]
-}
-
 /// Simulates bits of an idle bus where all nodes are deferred, before the bit at which one may have something to start:
-/// up to `most`, and at most 256; none where that is not so. Appends their levels, for which there is room. On a
-/// segment that has a controller it simulates none, since a deferred controller may always have something to start: see
+/// up to `most`; none where that is not so. Appends their levels, for which there is room. On a segment that has a
+/// controller it simulates none, since a deferred controller may always have something to start: see
 /// `Segment::idle_bits`.
 pub(crate) fn idle_burst(
-    levels: &mut Vec<bool>,
+    levels: &mut Levels,
     talkers: &[Member],
     controllers: &[Member],
     deferred: &Deferred,
@@ -31,7 +23,7 @@ pub(crate) fn idle_burst(
 )
     requires talkers_within { ActiveWithin deferred.now.talkers talkers.now }
     requires controllers_within { ActiveWithin deferred.now.controllers controllers.now }
-    requires level_room { vec_len levels.old + most ≤ vec_capacity levels.old }
+    requires level_room { length levels.old.items + most ≤ levels.old.capacity }
     ensures { (sent : List Bool) × (length sent ≤ most) × (levels.new.items ≡ levels.old.items ++ sent)
         × AreUneventfulBits (length levels.old.items) sent deferred.now deferred.now talkers.now talkers.now
         controllers.now controllers.now }
@@ -43,7 +35,7 @@ pub(crate) fn idle_burst(
         return;
     }
     let until_start = deferred.next_start.saturating_sub(levels.len() as u64) as usize;
-    let _ = levels.extend_from_slice(recessive(most.min(until_start)));
+    levels.extend_recessive(most.min(until_start));
 }
 
 /// Returns a bit before which none of these talkers has a frame that is due; `u64::MAX` where none has a frame left.

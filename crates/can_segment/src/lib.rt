@@ -7,6 +7,7 @@ mod counts_shown;
 mod deferred;
 mod grow;
 mod idle_burst;
+mod levels;
 mod make_bit;
 mod opening;
 mod receiver_choice;
@@ -20,6 +21,7 @@ mod single_bit;
 mod step_outcome;
 mod transmit_burst;
 
+pub use crate::levels::Levels;
 pub use crate::record::Record;
 pub use crate::seg_fault::SegFault;
 pub use crate::segment::Segment;

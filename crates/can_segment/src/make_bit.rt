@@ -13,15 +13,8 @@ ghost use Rattle.can_station.specs.declared.member.Member.{Member};
 
 use crate::all_nodes::{Moved, Sampled, move_nodes};
 use crate::deferred::Deferred;
+use crate::levels::Levels;
 use can_station::{CurrentFaults, Event, Member, RxSink, SegmentPlan, tell_rests, tell_starts};
-
-/// Appends one level, for which there is room.
-pub(crate) fn keep(levels: &mut Vec<bool>, level: bool)
-    requires { vec_len levels.old < vec_capacity levels.old }
-    ensures { levels.new.items ≡ levels.old.items ++ level ∷ [] }
-{
-    let _ = levels.push(level);
-}
 
 /// Appends the events of a bit: what starts, then the rest, each in the order of nodes. With `reported` false, as at most
 /// bits, nothing is reported.
@@ -55,7 +48,7 @@ pub(crate) fn make_bit<R, P: RxSink<R>>(
     controllers: &mut [Member],
     ports: &mut [P],
     deferred: &mut Deferred,
-    levels: &mut Vec<bool>,
+    levels: &mut Levels,
     events: &mut Vec<Event>,
     faults: &CurrentFaults,
 ) -> Sampled
@@ -70,7 +63,8 @@ pub(crate) fn make_bit<R, P: RxSink<R>>(
         (materialized deferred.old (length levels.old.items) controllers.old) ports.old }
     requires is_deferred { DeferredHolds deferred.old (length levels.old.items) plan.now.talkers.items talkers.old
         controllers.old }
-    requires level_room { vec_len levels.old < vec_capacity levels.old }
+    requires bit { length levels.old.items < u64.MAX }
+    requires level_room { length levels.old.items < levels.old.capacity }
     requires event_room { vec_len events.old + 3 * (length talkers.old + length controllers.old)
         ≤ vec_capacity events.old }
     ensures kept { SegmentKept plan.now levels.new.items events.new.items
@@ -104,6 +98,6 @@ pub(crate) fn make_bit<R, P: RxSink<R>>(
         faults,
     );
     tell(events, bit, talkers, controllers, sampled.reported);
-    keep(levels, level);
+    levels.push(level);
     sampled
 }

@@ -4,7 +4,6 @@
 //! bit, since no controller may start.
 
 ghost use Rattle.std.specs.Prelude.{◌≡◌, ◌<◌, ◌-◌, true, false, length, IfSome, IfNone};
-ghost use Rattle.std.specs.Prelude.{vec_capacity, vec_len};
 ghost use Rattle.can_station.specs.CurrentFaults.{IsFaultless, IsCurrent};
 ghost use Rattle.can_station.specs.declared.plan.SegmentPlan.{SegmentPlan};
 ghost use Rattle.can_segment.specs.UneventfulBits.{GrowsUneventfully};
@@ -13,7 +12,6 @@ ghost use Rattle.can_station.specs.DeferredNodes.{ActiveWithin, HasRoom};
 
 use crate::active::asks_at_each_bit;
 use crate::deferred::Deferred;
-use crate::make_bit::keep;
 use crate::record::Record;
 use can_station::{CurrentFaults, Member, all_go_on, driven_by_all, go_on};
 
@@ -87,7 +85,7 @@ pub(crate) fn grow_uneventfully(
     requires controllers_within { ActiveWithin deferred.old.controllers controllers.old }
     requires talker_room { HasRoom u64.MAX (length made.old.levels.items) talkers.old }
     requires room { HasRoom u64.MAX (length made.old.levels.items) controllers.old }
-    requires level_room { vec_len made.old.levels < vec_capacity made.old.levels }
+    requires level_room { length made.old.levels.items < made.old.levels.capacity }
     ensures uneventful { result ≡ true → GrowsUneventfully faults.now made.old made.new deferred.old deferred.new
         talkers.old talkers.new controllers.old controllers.new }
     ensures none { result ≡ false → (made.new ≡ made.old) × (deferred.new ≡ deferred.old)
@@ -97,6 +95,6 @@ pub(crate) fn grow_uneventfully(
     let Some(level) = uneventful_level(talkers, controllers, deferred, bit, faults) else {
         return false;
     };
-    keep(&mut made.levels, level);
+    made.levels.push(level);
     true
 }

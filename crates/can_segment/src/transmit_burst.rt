@@ -2,21 +2,34 @@
 //!
 //! The shared receiver reads on with the transmitter's next levels in a loop of its own, up to the end of the stuffed
 //! region, the ACK slot or the end of the frame, the next fault, the bits that are asked for and the room of the
-//! record. The record gets the levels that it read by one copy, and each active node continues with all of them: one in
+//! record. The record gets the levels that it read at once, and each active node continues with all of them: one in
 //! bus off, in a passive error flag, in a delimiter, the intermission or suspend transmission, or one that reads by
 //! itself since it sampled another level than the others. Each node continues with all levels before the next node
 //! does; the contract says that this equals the same bits simulated one after another, of all nodes at a time
 //! (`AreUneventfulBits`).
 
 ghost use Rattle.std.specs.Prelude.{◌≡◌, ◌≤◌, ◌<◌, ◌+◌, ◌-◌, ◌++◌, true, Bool, List, Some, IfSome, length, slice_get};
-ghost use Rattle.std.specs.Prelude.{vec_capacity, vec_len};
 ghost use Rattle.can_segment.specs.DeferredState.{AreRecessive, AreUneventfulBits};
 ghost use Rattle.can_station.specs.DeferredNodes.{ActiveWithin, HasRoom, MayGoBy, OthersStayOut};
 ghost use Rattle.can_station.specs.declared.member.Member.{Member};
 
 use crate::deferred::Deferred;
-use crate::idle_burst::{idle_burst, recessive};
+use crate::idle_burst::idle_burst;
+use crate::levels::Levels;
+use arrayvec::ArrayVec;
 use can_station::{Member, PlaceSet, all_stay_out, go_on_by};
+
+/// How many bits are simulated at once, at most.
+const BURST: usize = 256;
+
+/// Returns this many recessive levels, at most `BURST`.
+fn recessive<'a>(most: usize) -> &'a [bool]
+    ensures few { length result.now ≤ most }
+    ensures recessive { AreRecessive result.now }
+{
+    const RECESSIVE: &[bool] = &[true; BURST];
+    &RECESSIVE[..most.min(RECESSIVE.len())]
+}
 
 /// Returns the first of these places whose node is active and transmits a frame; the number of nodes where there is
 /// none.
@@ -78,7 +91,7 @@ fn ahead_beside<'a>(
 /// and all other active nodes continue without transmitting: at most `most`. Appends their levels, for which there is
 /// room.
 fn transmit_beside(
-    levels: &mut Vec<bool>,
+    levels: &mut Levels,
     senders: &mut [Member],
     place: usize,
     active: PlaceSet,
@@ -91,29 +104,24 @@ fn transmit_beside(
     requires others_within { ActiveWithin active_others others.old }
     requires sender_room { HasRoom (u64.MAX + 1 - most) (length levels.old.items) senders.old }
     requires room { HasRoom (u64.MAX + 1 - most) (length levels.old.items) others.old }
-    requires level_room { vec_len levels.old + most ≤ vec_capacity levels.old }
+    requires level_room { length levels.old.items + most ≤ levels.old.capacity }
     ensures { (sent : List Bool) × (length sent ≤ most) × (levels.new.items ≡ levels.old.items ++ sent)
         × AreUneventfulBits (length levels.old.items) sent deferred.old deferred.new senders.old senders.new others.old
         others.new }
 {
-    let made = levels.len();
-    let ahead = ahead_beside(
-        senders,
-        place,
-        active,
-        others,
-        active_others,
-        made as u64,
-        most,
-    );
+    let made = levels.len() as u64;
+    let most = most.min(BURST);
+    let ahead = ahead_beside(senders, place, active, others, active_others, made, most);
     let count = deferred.shared_receiver.reads_along_by(ahead);
     if count == 0 {
         return;
     }
-    let _ = levels.extend_from_slice(&ahead[..count]);
-    let sent = &levels.as_slice()[made..];
-    go_on_by(senders, sent, active);
-    go_on_by(others, sent, active_others);
+    levels.extend_from_slice(&ahead[..count]);
+    // the levels ahead are the sender's own, which goes on by them
+    let mut sent = ArrayVec::<bool, BURST>::new();
+    let _ = sent.try_extend_from_slice(&ahead[..count]);
+    go_on_by(senders, sent.as_slice(), active);
+    go_on_by(others, sent.as_slice(), active_others);
 }
 
 /// Simulates many bits at once: those that one node transmits in the stuffed region of its frame or behind the ACK
@@ -122,7 +130,7 @@ fn transmit_beside(
 /// nodes wait, also on an idle bus. At most `most`, and none where that is not so. Appends their levels, for which
 /// there is room.
 pub(crate) fn transmit_burst(
-    levels: &mut Vec<bool>,
+    levels: &mut Levels,
     talkers: &mut [Member],
     controllers: &mut [Member],
     deferred: &mut Deferred,
@@ -132,7 +140,7 @@ pub(crate) fn transmit_burst(
     requires controllers_within { ActiveWithin deferred.old.controllers controllers.old }
     requires talker_room { HasRoom (u64.MAX + 1 - most) (length levels.old.items) talkers.old }
     requires room { HasRoom (u64.MAX + 1 - most) (length levels.old.items) controllers.old }
-    requires level_room { vec_len levels.old + most ≤ vec_capacity levels.old }
+    requires level_room { length levels.old.items + most ≤ levels.old.capacity }
     ensures { (sent : List Bool) × (length sent ≤ most) × (levels.new.items ≡ levels.old.items ++ sent)
         × AreUneventfulBits (length levels.old.items) sent deferred.old deferred.new talkers.old talkers.new
         controllers.old controllers.new }

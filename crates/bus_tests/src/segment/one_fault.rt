@@ -123,7 +123,7 @@ fn one_wrong_level_makes_no_copy_that_the_standard_forbids(rt: HostRuntime) -> R
     for bit in 11..91u64 {
         let index = usize::try_from(bit)?;
         for place in [Place::Sender, Place::Receiver, Place::Line] {
-            let level = calm.levels.get(index) == Some(&false);
+            let level = calm.levels.get(index) == Some(false);
             let turned = Turned { place, bit };
             let record = record_with(alloc, Some(turned), level)?;
             assert_eq!(rt; record.levels.len(), 200);

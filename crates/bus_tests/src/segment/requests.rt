@@ -136,7 +136,10 @@ fn bits_of_an_idle_bus_are_made_at_once(rt: HostRuntime) -> Result<(), Fail> {
     let mail = PlainMail::new(rt.alloc(), 1);
     let mut ports = [Port { mail, taken: 0 }];
     let (record, calls) = recorded_idle(rt.alloc(), plan, &mut ports)?;
-    assert!(rt; record.levels.as_slice() == [true; 200].as_slice());
+    assert_eq!(rt; record.levels.len(), 200);
+    for bit in 0..200 {
+        assert_eq!(rt; record.levels.get(bit), Some(true));
+    }
     assert!(rt; record.events.is_empty());
     assert!(rt; calls < 20);
     Ok(())

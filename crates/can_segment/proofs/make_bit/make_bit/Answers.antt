@@ -79,10 +79,10 @@ returns-clause-kept g c =
     ap (λ es. c.args.events.now.items ++ es)
     (lines_whole bit new (bit + 1) c.move_nodes-level.new.talkers c.move_nodes-level.new.controllers)
     ∙ sym c.tell.ensures in
-    subst (λ n. SegmentKept c.args.plan.now c.keep.new.levels.items c.tell.new.events.items
+    subst (λ n. SegmentKept c.args.plan.now c.push.new.self.items c.tell.new.events.items
     (materialized new (n + 1) c.move_nodes-level.new.talkers)
     (materialized new (n + 1) c.move_nodes-level.new.controllers)) here
-    (subst (λ ls. SegmentKept c.args.plan.now ls c.tell.new.events.items talkers controllers) (sym c.keep.ensures)
+    (subst (λ ls. SegmentKept c.args.plan.now ls c.tell.new.events.items talkers controllers) (sym c.push.ensures.items)
     (subst (λ es. SegmentKept c.args.plan.now (c.args.levels.now.items ++ c.move_nodes-level.result.level ∷ []) es
     talkers controllers) reported next))
 

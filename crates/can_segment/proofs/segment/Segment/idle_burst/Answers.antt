@@ -1,17 +1,20 @@
-use Rattle.std.proofs.Common.{rules, ◌≡◌, ◌<◌, ◌≤◌, ◌++◌, ◌+◌, true, is_ok, length, arith, subst}
+use Rattle.std.proofs.Common.{rules, ◌≡◌, ◌<◌, ◌≤◌, ◌+◌, true, length, arith, subst}
+use Rattle.std.proofs.lemmas.List.{length-replicate}
 use Rattle.can_segment.specs.IdleUntil.{IdlesUntil}
+use Rattle.can_segment.specs.Levels.{recessive_levels}
 use Rattle.can_segment.specs.UneventfulBits.{MakeIdleBits}
 use Rattle.can_segment.specs.UneventfulBits.MakeIdleBits.{no_idle_bit}
 use Rattle.can_segment.proofs.IdleBits.{idle_burst}
+use Rattle.can_segment.proofs.IdleBursts.{are_recessive}
 use Rattle.can_segment.proofs.UneventfulBursts.{Between, value_of}
 use Rattle.can_segment.proofs.segment.Segment.idle_burst.Goals as goal
-use Rattle.can_segment.proofs.segment.Segment.idle_burst.Goals.{After-extend_from_slice, then-made-self, else-made-self}
+use Rattle.can_segment.proofs.segment.Segment.idle_burst.Goals.{After-extend_recessive, then-made-self, else-made-self}
 
 pub returns-then-most-eq0-clause-bits : goal.returns-then-most-eq0-clause-bits
 returns-then-most-eq0-clause-bits c = no_idle_bit
 
 -- until when the bus idles, known from a call before or found in this one
-idles : (c : After-extend_from_slice) → IdlesUntil c.if-made-self.until c.self.inside.plan c.self.inside.made
+idles : (c : After-extend_recessive) → IdlesUntil c.if-made-self.until c.self.inside.plan c.self.inside.made
     c.self.inside.faults c.self.inside.deferred c.self.inside.talkers.items c.self.inside.controllers.items
 idles c =
     let inside = c.self.inside in
@@ -27,36 +30,35 @@ idles c =
     ]
 
 -- what stands behind these bits, and that they were made one after another
-ran : (c : After-extend_from_slice) →
-    Between c.self.inside.plan c.self.inside.faults c.extend_from_slice.new.self.items c.self.inside.made.events.items
+ran : (c : After-extend_recessive) →
+    Between c.self.inside.plan c.self.inside.faults c.extend_recessive.new.self.items c.self.inside.made.events.items
     c.self.inside.made.counters.items c.self.inside.deferred c.self.inside.talkers.items c.self.inside.controllers.items
     × MakeIdleBits (value_of c.self.inside.plan c.self.inside.made.levels.items c.self.inside.made.events.items
     c.self.inside.made.counters.items c.self.inside.deferred c.self.inside.controllers.items c.self.inside.idle_until)
-    (value_of c.self.inside.plan c.extend_from_slice.new.self.items c.self.inside.made.events.items
+    (value_of c.self.inside.plan c.extend_recessive.new.self.items c.self.inside.made.events.items
     c.self.inside.made.counters.items c.self.inside.deferred c.self.inside.controllers.items c.if-made-self.until)
 ran c =
     let inside = c.self.inside in
     let made = inside.made in
     let until = c.if-made-self.until in
     let here : c.len-made.result ≡ length made.levels.items = search rules in
-    let fine : is_ok c.extend_from_slice.result ≡ true = search rules in
     let idle = idles c in
-    let items : c.extend_from_slice.new.self.items ≡ made.levels.items ++ c.recessive.result.now =
-    rw fine at c.extend_from_slice.ensures.items in
-    let within : length made.levels.items + length c.recessive.result.now ≤ until = omega (
+    let count = c.saturating_sub-most.result in
+    let size = length-replicate count true in
+    let within : length made.levels.items + length (recessive_levels count) ≤ until = omega (
       arith,
       here,
-      c.recessive.ensures.size,
+      size,
       c.min.ensures,
       c.saturating_sub-most.ensures,
       c.if-most-eq0.false,
     ) in
-    rw items (idle_burst inside.plan inside.faults made.levels.items made.events.items made.counters.items
-    c.recessive.result.now inside.deferred until inside.talkers.items inside.controllers.items inside.idle_until until
-    c.recessive.ensures.recessive idle.idle idle.within
+    rw c.extend_recessive.ensures.items (idle_burst inside.plan inside.faults made.levels.items made.events.items
+    made.counters.items (recessive_levels count) inside.deferred until inside.talkers.items inside.controllers.items
+    inside.idle_until until (are_recessive count) idle.idle idle.within
     (record { holds = c.self.invariant.0; stands = c.self.invariant.1; is_deferred = c.self.invariant.2 })
     idle.faultless (λ some. within)
-    (λ none. absurd (omega (arith, none, c.recessive.ensures.size, c.if-most-eq0.false))))
+    (λ none. absurd (omega (arith, none, size, c.if-most-eq0.false))))
 
 pub invariant_of-self : goal.invariant_of-self
 invariant_of-self c =
@@ -69,13 +71,13 @@ invariant_of-self c =
         idle = idle.idle;
         faultless = idle.faultless;
         within = idle.within;
-        room = omega (arith, idle.room, c.extend_from_slice.ensures.capacity);
+        room = omega (arith, idle.room, c.extend_recessive.ensures.capacity);
       },
     )
 
 pub returns-clause-bits : goal.returns-clause-bits
 returns-clause-bits c =
     let inside = c.self.inside in
-    let behind = value_of inside.plan c.extend_from_slice.new.self.items inside.made.events.items
+    let behind = value_of inside.plan c.extend_recessive.new.self.items inside.made.events.items
     inside.made.counters.items inside.deferred inside.controllers.items c.if-made-self.until in
     subst (λ s. MakeIdleBits s behind) c.self.view_is (ran c).1

@@ -1,5 +1,6 @@
 use Rattle.std.proofs.Common.{rules, ◌≡◌, length, slice_get, ◌≤◌, ◌++◌, arith, sym, ap, refl, subst, length-append, ◌∙◌}
 use Rattle.can_segment.specs.UneventfulBits.{MakeUneventfulBits}
+use Rattle.can_segment.specs.UneventfulBits.MakeUneventfulBits.{no_bit}
 use Rattle.can_segment.specs.DeferredState.{materialized}
 use Rattle.can_segment.proofs.Keeps.{controller_clocks, talker_clocks}
 use Rattle.can_segment.proofs.UneventfulBursts.{ran_uneventfully, value_of}
@@ -29,6 +30,9 @@ transmit_burst-requires-clause-room c k m e active on =
     (found_active deferred.shared_receiver bit inside.controllers.items k m
     (ap (λ ms. slice_get ms k) (sym c.as_mut_slice-2.ensures.value) ∙ e) active) on
 
+pub returns-then-most-eq0-clause-bits : goal.returns-then-most-eq0-clause-bits
+returns-then-most-eq0-clause-bits c = no_bit
+
 pub invariant_of-self : goal.invariant_of-self
 invariant_of-self c =
     let inside = c.self.inside in
@@ -43,7 +47,7 @@ invariant_of-self c =
     (record { holds = c.self.invariant.0; stands = c.self.invariant.1; is_deferred = c.self.invariant.2 })
     (c.faultless_until-end.ensures.uneventful inside.plan)
     (omega (arith, c.faultless_until-end.ensures.limit, c.min.ensures))
-    (λ some. omega (arith, some, here, c.transmit_burst.ensures.1, c.min-most.ensures, c.saturating_sub.ensures))
+    (λ some. omega (arith, some, here, c.transmit_burst.ensures.1, c.min-2.ensures, c.saturating_sub-most.ensures))
     c.as_mut_slice.ensures.value c.as_mut_slice-2.ensures.value c.transmit_burst.ensures.3 in
     let talkers = put_back inside.talkers.len c.transmit_burst.new.talkers inside.talkers.items
     (omega (arith, c.as_mut_slice.ensures.len, ap length c.as_mut_slice.ensures.value, ran.talkers_size))
@@ -75,7 +79,7 @@ returns-clause-bits c =
     (record { holds = c.self.invariant.0; stands = c.self.invariant.1; is_deferred = c.self.invariant.2 })
     (c.faultless_until-end.ensures.uneventful inside.plan)
     (omega (arith, c.faultless_until-end.ensures.limit, c.min.ensures))
-    (λ some. omega (arith, some, here, c.transmit_burst.ensures.1, c.min-most.ensures, c.saturating_sub.ensures))
+    (λ some. omega (arith, some, here, c.transmit_burst.ensures.1, c.min-2.ensures, c.saturating_sub-most.ensures))
     c.as_mut_slice.ensures.value c.as_mut_slice-2.ensures.value c.transmit_burst.ensures.3 in
     let controllers = put_back inside.controllers.len c.transmit_burst.new.controllers inside.controllers.items
     (omega (arith, c.as_mut_slice-2.ensures.len, ap length c.as_mut_slice-2.ensures.value, ran.controllers_size))

@@ -1,0 +1,31 @@
+use Rattle.std.proofs.Common.{arith, ◌%◌, length, ap}
+use Rattle.std.proofs.lemmas.Result.{on_ok_weaker}
+use Rattle.can_segment.proofs.PackedLevels.{held, length-held, length-levels_of_words}
+use Rattle.can_segment.proofs.levels.Levels.reserve.Goals as goal
+
+pub returns-in_default-clause-succeeds : goal.returns-in_default-clause-succeeds
+returns-in_default-clause-succeeds c room =
+    let h = held c.self.invariant (ap (λ v. v.items) c.self.view_is) in
+    let capacity = ap (λ v. v.capacity) c.self.view_is in
+    absurd (c.in_default.ensures (omega (arith, capacity, length-held h, c.self.invariant.size, room)))
+
+pub returns-clause-room : goal.returns-clause-room
+returns-clause-room c =
+    let a = c.self.inside in
+    let after = c.reserve.new.self in
+    let words = c.reserve.ensures.items in
+    let sum = c.in-Some.ensures in
+    let up = c.div_ceil.ensures in
+    let size = length-levels_of_words after.items (a.len % 64) a.last in
+    let same = ap length words in
+    let before = a.words.ok.0 in
+    on_ok_weaker c.reserve.result (λ room. omega (arith, after.ok.0)) c.reserve.ensures.ok
+
+pub returns-clause-succeeds : goal.returns-clause-succeeds
+returns-clause-succeeds c room =
+    let a = c.self.inside in
+    let h = held c.self.invariant (ap (λ v. v.items) c.self.view_is) in
+    let capacity = ap (λ v. v.capacity) c.self.view_is in
+    let sum = c.in-Some.ensures in
+    let up = c.div_ceil.ensures in
+    c.reserve.ensures.succeeds (omega (arith, length-held h, a.words.ok.0))
