@@ -1,22 +1,22 @@
 -- Levels that words hold in their bits.
+use Rattle.std.proofs.Common.{mod-eq_of_lt, not, subst, zero-mul}
 use Rattle.std.proofs.Common.{◌≡◌, ℕ, zero, suc, ◌+◌, ◌-◌, ◌*◌, ◌%◌, ◌^◌, ◌<◌, ◌≤◌, Bool, true, false, eqb}
-use Rattle.std.proofs.Common.{List, [], ◌∷◌, ◌++◌, length, replicate, take, get_or, flat_map, bit_and, w64}
-use Rattle.std.proofs.Common.{refl, sym, ap, ap₂, ◌∙◌, inl, inr, arith, add-one, add-zero, zero-add, mod-eq_of_lt}
-use Rattle.std.proofs.Common.{append-nil, append_assoc, length-append, length-take-le}
-use Rattle.std.specs.Int.{bit_at, bit_not}
-use Rattle.std.proofs.lemmas.Bool.{cases_lt}
-use Rattle.std.proofs.lemmas.List.{get_or_append_left, get_or-append_right, same_lists}
-use Rattle.std.proofs.lemmas.List.{replicate_more, replicate-append-replicate}
+use Rattle.std.proofs.Common.{List, [], ◌∷◌, ◌++◌, length, replicate, take, get_or, flat_map, refl, sym, ap}
+use Rattle.std.proofs.Common.{arith, w64, ◌∙◌, bit_and, add-one, add-zero, ap₂, append-nil, append_assoc}
+use Rattle.std.proofs.Common.{length-append, length-take-le, zero-add}
+use Rattle.std.specs.Int.{bit_at, bit_not, from_bool}
+use Rattle.std.proofs.lemmas.List.{get_or_append_left, get_or-append_right, replicate_more}
+use Rattle.std.proofs.lemmas.List.{replicate-append-replicate, same_lists}
 use Rattle.std.proofs.lemmas.List.Concat.{flat_map-append, get_or-flat_map}
 use Rattle.std.proofs.lemmas.List.FromFn.{get_or-map-range_with_len, length-map-range_with_len}
 use Rattle.std.proofs.lemmas.List.FromFn.{map-range_with_len_more}
-use Rattle.std.proofs.lemmas.Nat.{one_shl, pow-add, pow_below, pow_pos}
+use Rattle.std.proofs.lemmas.Nat.{and_mask}
 use Rattle.std.proofs.lemmas.Nat.Bits.{bit_at_clear_other, bit_at_clear_same, bit_at_ones}
 use Rattle.can_segment.specs.Levels.{ArePacked, HasOnesFrom, levels_of_word, levels_of_words, recessive_levels}
 
 -- how many levels there are
 
-length-levels_of_word : (n word : ℕ) → length (levels_of_word n word) ≡ n
+pub length-levels_of_word : (n word : ℕ) → length (levels_of_word n word) ≡ n
 unfolding levels_of_word
 length-levels_of_word n word = length-map-range_with_len (λ i. eqb (bit_at word i) 1) 0 n
 
@@ -66,43 +66,45 @@ with_recessive n word less h = next_is n word 1 (h.ones n (omega arith) less)
 pub ones_later : (n m word : ℕ) → n ≤ m → HasOnesFrom n word → HasOnesFrom m word
 ones_later n m word later h = record { ones = λ i from below. h.ones i (omega (arith, later, from)) below }
 
--- the mask has a one at this bit
-module _ (n word mask : ℕ) (less : n < 64) (mask_is : mask ≡ 2 ^ n) where
-  shifted : bit_not w64 mask ≡ bit_not w64 (1 * 2 ^ n % 2 ^ 64)
-  shifted = ap (bit_not w64) (mask_is ∙ sym (one_shl n 64 less))
+-- this word with a 0 at this bit
+abbrev cleared : ℕ → ℕ → ℕ
+cleared n word = bit_and word (bit_not w64 (1 * 2 ^ n % 2 ^ 64))
 
-  pub with_dominant :
-      levels_of_word (n + 1) (bit_and word (bit_not w64 mask)) ≡ levels_of_word n word ++ false ∷ []
-  with_dominant = rw shifted
-      (next_is n (bit_and word (bit_not w64 (1 * 2 ^ n % 2 ^ 64))) 0 (bit_at_clear_same w64 word n less)
-      ∙ ap (λ levels. levels ++ false ∷ []) (same_levels n _ word (λ i below.
-      bit_at_clear_other w64 word n less i (omega (arith, below, less)) (omega (arith, below)))))
+pub with_dominant : (n word : ℕ) → n < 64 →
+    levels_of_word (n + 1) (cleared n word) ≡ levels_of_word n word ++ false ∷ []
+with_dominant n word less =
+    next_is n (cleared n word) 0 (bit_at_clear_same w64 word n less)
+    ∙ ap (λ levels. levels ++ false ∷ []) (same_levels n (cleared n word) word (λ i below.
+    bit_at_clear_other w64 word n less i (omega (arith, below, less)) (omega (arith, below))))
 
-  pub dominant_ones : HasOnesFrom n word → HasOnesFrom (n + 1) (bit_and word (bit_not w64 mask))
-  dominant_ones h = rw shifted (record {
-    ones = λ i from below. bit_at_clear_other w64 word n less i below (omega (arith, from))
-        ∙ h.ones i (omega (arith, from)) below;
-  })
+pub cleared_ones : (n word : ℕ) → n < 64 → HasOnesFrom n word → HasOnesFrom (n + 1) (cleared n word)
+cleared_ones n word less h = record {
+  ones = λ i from below. bit_at_clear_other w64 word n less i below (omega (arith, from))
+      ∙ h.ones i (omega (arith, from)) below;
+}
 
--- the mask shifted by a bit: it has a one at the next bit, and none behind the last bit
-pub next_mask : (n : ℕ) → n + 1 < 64 → 2 ^ n * 2 ^ 1 % 2 ^ 64 ≡ 2 ^ (n + 1)
-next_mask n less =
-    ap (λ k. k % 2 ^ 64) (sym (pow-add 2 n 1)) ∙ mod-eq_of_lt (pow_below (n + 1) 64 less)
+-- a word stays as it is where no bit is cleared
+all_kept : (word : ℕ) → word < 2 ^ 64 → bit_and word (2 ^ 64 - 1) ≡ word
+all_kept word fits = and_mask word 64 ∙ mod-eq_of_lt fits
 
-pub no_mask : (n : ℕ) → n < 64 → 2 ^ n * 2 ^ 1 % 2 ^ 64 ≡ 0 → n + 1 ≡ 64
-no_mask n less none = elim (cases_lt (n + 1) 64) [
-  | inl more ↦ absurd (let some = pow_pos (n + 1) in omega (arith, some, none, next_mask n more))
-  | inr last ↦ omega (arith, less, last)
-]
+none_cleared : (n word : ℕ) → word < 2 ^ 64 → bit_and word (bit_not w64 (0 * 2 ^ n % 2 ^ 64)) ≡ word
+none_cleared n word fits = ap (λ k. bit_and word (bit_not w64 (k % 2 ^ 64))) (zero-mul (2 ^ n)) ∙ all_kept word fits
 
-pub some_mask : (n : ℕ) → n < 64 → (2 ^ n * 2 ^ 1 % 2 ^ 64 ≡ 0 → ⊥) → n + 1 < 64
-some_mask n less some = elim (cases_lt (n + 1) 64) [
-  | inl more ↦ more
-  | inr last ↦ absurd (some (rw (last_bit n less last)))
-]
-  where
-    last_bit : (k : ℕ) → k < 64 → 64 ≤ k + 1 → k ≡ 63
-    last_bit k a b = omega (arith, a, b)
+-- a word with this level at a bit
+abbrev leveled : ℕ → ℕ → Bool → ℕ
+leveled n word level = bit_and word (bit_not w64 (from_bool (not level) * 2 ^ n % 2 ^ 64))
+
+pub with_level : (n word : ℕ) (level : Bool) → n < 64 → word < 2 ^ 64 → HasOnesFrom n word →
+    levels_of_word (n + 1) (leveled n word level) ≡ levels_of_word n word ++ level ∷ []
+with_level n word false less fits h = with_dominant n word less
+with_level n word true less fits h =
+    ap (levels_of_word (n + 1)) (none_cleared n word fits) ∙ with_recessive n word less h
+
+pub level_ones : (n word : ℕ) (level : Bool) → n < 64 → word < 2 ^ 64 → HasOnesFrom n word →
+    HasOnesFrom (n + 1) (leveled n word level)
+level_ones n word false less fits h = cleared_ones n word less h
+level_ones n word true less fits h =
+    subst (HasOnesFrom (n + 1)) (sym (none_cleared n word fits)) (ones_later n (n + 1) word (omega arith) h)
 
 pub all_ones : (n : ℕ) → HasOnesFrom n (2 ^ 64 - 1)
 all_ones n = record { ones = λ i from below. bit_at_ones 64 i below }
@@ -112,7 +114,7 @@ all_ones n = record { ones = λ i from below. bit_at_ones 64 i below }
 one_more_recessive : (count : ℕ) → recessive_levels count ++ true ∷ [] ≡ recessive_levels (suc count)
 one_more_recessive count = rw add-one at (replicate_more count true)
 
-more_recessive : (n count word : ℕ) → n + count ≤ 64 → HasOnesFrom n word →
+pub more_recessive : (n count word : ℕ) → n + count ≤ 64 → HasOnesFrom n word →
     levels_of_word (n + count) word ≡ levels_of_word n word ++ recessive_levels count
 more_recessive n zero word fits h =
     ap (λ m. levels_of_word m word) (add-zero n) ∙ sym (append-nil (levels_of_word n word))
@@ -141,7 +143,7 @@ recessive_words (suc count) =
 
 -- a word more
 
-filled : (words : List ℕ) (word last : ℕ) →
+pub filled : (words : List ℕ) (word last : ℕ) →
     levels_of_words (words ++ word ∷ []) 0 last ≡ levels_of_words words 64 word
 filled words word last =
     ap (λ levels. flat_map (levels_of_word 64) (words ++ word ∷ []) ++ levels) (no_levels last)
@@ -155,25 +157,19 @@ pub record Hold (words : List ℕ) (n last : ℕ) (levels : List Bool) : Type 0 
   pub rest : HasOnesFrom n last
   pub items : levels_of_words words n last ≡ levels
 
--- the same, where the next level comes at the bit of this mask
-pub record HoldUpTo (words : List ℕ) (mask last : ℕ) (levels : List Bool) : Type 0 where
-  pub n : ℕ
-  pub mask_is : mask ≡ 2 ^ n
-  pub hold : Hold words n last levels
-
-pub held : {words : List ℕ} {last len : ℕ} {levels : List Bool} → ArePacked words last len →
+pub held : (words : List ℕ) (last len : ℕ) (levels : List Bool) → ArePacked words last len →
     levels_of_words words (len % 64) last ≡ levels → Hold words (len % 64) last levels
-held packed is = record { below = omega arith; rest = packed.rest; items = is }
+held words last len levels packed is = record { below = omega arith; rest = packed.rest; items = is }
 
 pub length-held : {words : List ℕ} {n last : ℕ} {levels : List Bool} → Hold words n last levels →
     length levels ≡ 64 * length words + n
 length-held {words = words} {n = n} {last = last} h =
     sym (ap length h.items) ∙ length-levels_of_words words n last
 
--- how many of so many levels the last word has
-rest_of : {words : List ℕ} {n last : ℕ} {levels : List Bool} (len : ℕ) → Hold words n last levels →
+-- so many levels in all
+pub rest_of : {words : List ℕ} {n last : ℕ} {levels : List Bool} (len : ℕ) → Hold words n last levels →
     length levels ≡ len → len % 64 ≡ n
-rest_of len h size =
+rest_of {words = words} {n = n} {last = last} {levels = levels} len h size =
     let less = h.below in omega (arith, less, size, length-held h)
 
 pub packed : {words : List ℕ} {n last : ℕ} {levels : List Bool} (len : ℕ) → Hold words n last levels →
@@ -196,8 +192,8 @@ more_held words n m last next levels more h e =
     ∙ ap (λ part. part ++ more) h.items
 
 -- a level more, within the last word or up to its end
-module _ {words : List ℕ} {n last : ℕ} {levels : List Bool} (next : ℕ) (level : Bool)
-    (h : Hold words n last levels) (e : levels_of_word (n + 1) next ≡ levels_of_word n last ++ level ∷ []) where
+module _ {words : List ℕ} {n last : ℕ} {levels : List Bool} (next : ℕ) (level : Bool) (h : Hold words n last levels)
+    (e : levels_of_word (n + 1) next ≡ levels_of_word n last ++ level ∷ []) where
   pub level_within : HasOnesFrom (n + 1) next → n + 1 < 64 → Hold words (n + 1) next (levels ++ level ∷ [])
   level_within ones room = record {
     below = room;

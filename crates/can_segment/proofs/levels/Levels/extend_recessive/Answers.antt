@@ -1,21 +1,23 @@
-use Rattle.std.proofs.Common.{◌≡◌, ℕ, ◌+◌, ◌-◌, ◌*◌, ◌/◌, ◌%◌, ◌^◌, ◌<◌, ◌++◌, ◌∷◌, [], true, is_ok, length, vec_len}
-use Rattle.std.proofs.Common.{replicate, arith, ap, ◌∙◌, length-append, take_all}
+use Rattle.std.proofs.Common.{arith, ◌≡◌, ◌+◌, ◌/◌, ◌<◌, ◌++◌, ◌∷◌, [], ◌%◌, ℕ, ◌-◌, ◌*◌, ◌^◌, ◌∙◌, true, is_ok}
+use Rattle.std.proofs.Common.{replicate, take_all, vec_len, length, length-append, ap}
 use Rattle.std.proofs.lemmas.List.{length-replicate}
 use Rattle.can_segment.specs.Levels.{recessive_levels}
-use Rattle.can_segment.proofs.PackedLevels.{Hold, held, length-held, packed, recessive_beyond, recessive_within, unpacked}
+use Rattle.can_segment.proofs.PackedLevels.{Hold, held, length-held, packed, recessive_beyond, recessive_within}
+use Rattle.can_segment.proofs.PackedLevels.{unpacked}
 use Rattle.can_segment.proofs.levels.Levels.extend_recessive.Goals as goal
 use Rattle.can_segment.proofs.levels.Levels.extend_recessive.Goals.{Joined-full-len, then-full-len, else-full-len}
 
 pub overflow_add-len : goal.overflow_add-len
 overflow_add-len c =
-    let h = held c.self.invariant (ap (λ v. v.items) c.self.view_is) in
+    let a = c.self.inside in
+    let h = held a.words.items a.last a.len c.args.self.now.items c.self.invariant (ap (λ v. v.items) c.self.view_is) in
     let capacity = ap (λ v. v.capacity) c.self.view_is in
     omega (arith, capacity, length-held h, c.self.invariant.size)
 
 pub push_reserved-requires : goal.push_reserved-requires
 push_reserved-requires c =
     let a = c.self.inside in
-    let h = held c.self.invariant (ap (λ v. v.items) c.self.view_is) in
+    let h = held a.words.items a.last a.len c.args.self.now.items c.self.invariant (ap (λ v. v.items) c.self.view_is) in
     let capacity = ap (λ v. v.capacity) c.self.view_is in
     omega (arith, capacity, length-held h, c.self.invariant.size, a.words.ok.0, c.len.ensures)
 
@@ -24,7 +26,7 @@ extended : (c : Joined-full-len) →
     (c.args.self.now.items ++ recessive_levels c.args.count)
 extended c =
     let a = c.self.inside in
-    let h = held c.self.invariant (ap (λ v. v.items) c.self.view_is) in
+    let h = held a.words.items a.last a.len c.args.self.now.items c.self.invariant (ap (λ v. v.items) c.self.view_is) in
     let size = a.words.ok.0 in
     elim c.if-full-len.branch [
       | then-full-len w ↦
@@ -55,10 +57,16 @@ extended c =
 size_is : (c : Joined-full-len) →
     length (c.args.self.now.items ++ recessive_levels c.args.count) ≡ c.self.inside.len + c.args.count
 size_is c =
+    let a = c.self.inside in
     let items = c.args.self.now.items in
-    let h = held c.self.invariant (ap (λ v. v.items) c.self.view_is) in
-    let count = length-replicate c.args.count true in
-    omega (arith, length-append items (recessive_levels c.args.count), length-held h)
+    let h = held a.words.items a.last a.len items c.self.invariant (ap (λ v. v.items) c.self.view_is) in
+    omega (
+      arith,
+      length-append items (recessive_levels c.args.count),
+      length-replicate c.args.count true,
+      length-held h,
+      c.self.invariant.size,
+    )
 
 pub invariant_of-self : goal.invariant_of-self
 invariant_of-self c =

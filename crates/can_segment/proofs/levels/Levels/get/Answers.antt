@@ -1,5 +1,4 @@
-use Rattle.std.proofs.Common.{◌≡◌, ◌<◌, ◌/◌, ◌%◌, ◌^◌, ℕ, Some, false, eqb, bit_and, length, get_or}
-use Rattle.std.proofs.Common.{arith, ap, sym, ◌∙◌, inl, inr}
+use Rattle.std.proofs.Common.{arith, ◌≡◌, ◌/◌, ◌%◌, ℕ, Some, false, eqb, inl, inr, length, get_or, ap, sym, ◌∙◌}
 use Rattle.std.specs.Int.{bit_at}
 use Rattle.std.proofs.lemmas.Bool.{cases_lt}
 use Rattle.std.proofs.lemmas.Nat.Bits.{shr_and_one}
@@ -11,8 +10,10 @@ use Rattle.can_segment.proofs.levels.Levels.get.Goals as goal
 
 pub returns-then-index-self : goal.returns-then-index-self
 returns-then-index-self c =
-    let h = held c.self.invariant (ap (λ v. v.items) c.self.view_is) in
-    sym (slice_get_past c.args.self.now.items c.args.index (omega (arith, length-held h, c.self.invariant.size)))
+    let a = c.self.inside in
+    let items = c.args.self.now.items in
+    let h = held a.words.items a.last a.len items c.self.invariant (ap (λ v. v.items) c.self.view_is) in
+    sym (slice_get_past items c.args.index (omega (arith, length-held h, c.self.invariant.size)))
 
 pub returns : goal.returns
 returns c =
@@ -22,10 +23,10 @@ returns c =
     let index = c.args.index in
     let q : ℕ = index / 64 in
     let r : ℕ = index % 64 in
-    let h = held c.self.invariant (ap (λ v. v.items) c.self.view_is) in
+    let h = held words a.last a.len items c.self.invariant (ap (λ v. v.items) c.self.view_is) in
     let word : c.unwrap_or-word.result ≡ get_or words q a.last =
-    c.unwrap_or-word.ensures
-    ∙ rw c.copied.ensures (grind (arith, c.get.ensures.lookup, c.deref.ensures.value)) in
+    c.unwrap_or-word.ensures ∙ rw c.copied.ensures
+    (let look = c.get.ensures.lookup in let at = c.deref.ensures.value in grind (arith, look, at)) in
     let at : get_or items index false ≡ eqb (bit_at (get_or words q a.last) r) 1 =
     ap (λ levels. get_or levels index false) (sym h.items)
     ∙ elim (cases_lt q (length words)) [
@@ -38,8 +39,6 @@ returns c =
           (omega (arith, q_is, c.if-index-self.false, c.self.invariant.size))
           ∙ ap (λ x. eqb (bit_at x r) 1) (sym (get_or_past words q a.last behind))
     ] in
-    let within : index < length items =
-    omega (arith, length-held h, c.if-index-self.false, c.self.invariant.size) in
-    let bit : eqb (bit_at (get_or words q a.last) r) 1 ≡ eqb (bit_and (c.unwrap_or-word.result / 2 ^ r) 1) 1 =
-    ap (λ x. eqb (bit_at x r) 1) (sym word) ∙ ap (λ x. eqb x 1) (sym (shr_and_one c.unwrap_or-word.result r)) in
-    sym (slice_get-get_or items index false within ∙ ap Some (at ∙ bit))
+    sym (slice_get-get_or items index false (omega (arith, length-held h, c.if-index-self.false, c.self.invariant.size))
+    ∙ ap Some (at ∙ ap (λ x. eqb (bit_at x r) 1) (sym word)
+    ∙ ap (λ x. eqb x 1) (sym (shr_and_one c.unwrap_or-word.result r))))

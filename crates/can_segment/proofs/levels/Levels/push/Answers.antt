@@ -1,6 +1,5 @@
 use Rattle.std.proofs.Common.{arith, ◌≡◌, ◌+◌, ◌++◌, ◌∷◌, [], ◌%◌, ℕ, length, ap}
 use Rattle.std.proofs.lemmas.List.{length_push}
-use Rattle.std.proofs.lemmas.Nat.{one_shl}
 use Rattle.can_segment.proofs.PackedLevels.{Hold, held, length-held, level_fills, level_within, packed, unpacked}
 use Rattle.can_segment.proofs.levels.Levels.push.Goals as goal
 use Rattle.can_segment.proofs.levels.Levels.push.Goals.{Joined-bit-eq63, then-bit-eq63, else-bit-eq63}
@@ -8,14 +7,14 @@ use Rattle.can_segment.proofs.levels.Levels.push.Goals.{Joined-bit-eq63, then-bi
 pub push_reserved-requires : goal.push_reserved-requires
 push_reserved-requires c =
     let a = c.self.inside in
-    let h = held c.self.invariant (ap (λ v. v.items) c.self.view_is) in
+    let h = held a.words.items a.last a.len c.args.self.now.items c.self.invariant (ap (λ v. v.items) c.self.view_is) in
     let room = ap (λ v. v.capacity) c.self.view_is in
     omega (arith, room, length-held h, a.words.ok.0)
 
 size_is : (c : Joined-bit-eq63) → length c.args.self.now.items ≡ c.if-bit-eq63.self-inside.len
 size_is c =
     let a = c.self.inside in
-    let h = held c.self.invariant (ap (λ v. v.items) c.self.view_is) in
+    let h = held a.words.items a.last a.len c.args.self.now.items c.self.invariant (ap (λ v. v.items) c.self.view_is) in
     let same : c.if-bit-eq63.self-inside.len ≡ a.len = elim c.if-bit-eq63.branch [
       | then-bit-eq63 w ↦ ap (λ b. b.len) w.self-inside-is
       | else-bit-eq63 w ↦ ap (λ b. b.len) w.self-inside-is
@@ -27,11 +26,9 @@ pushed : (c : Joined-bit-eq63) →
     (c.args.self.now.items ++ c.args.level ∷ [])
 pushed c =
     let a = c.self.inside in
-    let h = held c.self.invariant (ap (λ v. v.items) c.self.view_is) in
+    let h = held a.words.items a.last a.len c.args.self.now.items c.self.invariant (ap (λ v. v.items) c.self.view_is) in
     let next = c.with_level-self-inside.result in
-    let mask = one_shl (a.len % 64) 64 h.below in
-    let e = c.with_level-self-inside.ensures.levels (a.len % 64) h.below mask h.rest in
-    let ones = c.with_level-self-inside.ensures.ones (a.len % 64) h.below mask h.rest in
+    let e = c.with_level-self-inside.ensures.levels in
     elim c.if-bit-eq63.branch [
       | then-bit-eq63 w ↦ (
         0,
@@ -41,7 +38,7 @@ pushed c =
       | else-bit-eq63 w ↦ (
         a.len % 64 + 1,
         rw w.self-inside-is
-            (level_within next c.args.level h e ones
+            (level_within next c.args.level h e c.with_level-self-inside.ensures.ones
             (let less = h.below in omega (arith, less, w.if-bit-eq63.false))),
       )
     ]
@@ -52,11 +49,9 @@ overflow_add-self c =
     omega (arith, room, size_is c)
 
 pub invariant_of-self : goal.invariant_of-self
-invariant_of-self c =
-    let j = (goal.at.invariant_of-self c).Joined-bit-eq63 in
+invariant_of-self c = let j = (goal.at.invariant_of-self c).Joined-bit-eq63 in
     packed _ (pushed j).1 (omega (arith, length_push c.args.self.now.items c.args.level, size_is j))
 
 pub returns-clause-items : goal.returns-clause-items
-returns-clause-items c =
-    let j = (goal.at.returns-clause-items c).Joined-bit-eq63 in
+returns-clause-items c = let j = (goal.at.returns-clause-items c).Joined-bit-eq63 in
     unpacked _ (pushed j).1 (omega (arith, length_push c.args.self.now.items c.args.level, size_is j))
