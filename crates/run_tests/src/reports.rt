@@ -3,7 +3,7 @@ ghost use Rattle.gw_script.specs.NamedPlaces.{Names};
 use bx_core::Entry;
 use can_frame::{Frame, Id};
 use can_node::{Counters, ErrorEvent, ErrorKind};
-use can_segment::{Event, EventKind, Label, Record};
+use can_segment::{Event, EventKind, Label, Levels, Record};
 use gw_script::{
     Memory, PrintFault, Report, RouteReport, Script, names_stand, print, print_to, read,
 };
@@ -63,7 +63,7 @@ fn of_first(number: u32) -> Option<Label> {
 /// A record of two nodes without an error.
 fn plain_record(alloc: Global, events: Vec<Event>) -> Result<Record, AllocError> {
     Ok(Record {
-        levels: Vec::new(alloc),
+        levels: Levels::new(alloc),
         events,
         counters: vec![in alloc; Counters::new(), Counters::new()]?,
     })
@@ -167,7 +167,7 @@ fn each_kind_report(
     small: Frame,
 ) -> Result<Report, AllocError> {
     let record = Record {
-        levels: Vec::new(alloc),
+        levels: Levels::new(alloc),
         events: events_of_each_kind(alloc, long, short, small)?,
         counters: vec![in alloc; Counters::new(), counters_after(16), counters_after(32)]?,
     };
