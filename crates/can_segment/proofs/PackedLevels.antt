@@ -1,24 +1,26 @@
 -- Levels that words hold in their bits.
-use Rattle.std.proofs.Common.{mod-eq_of_lt, not, subst, zero-mul}
-use Rattle.std.proofs.Common.{◌≡◌, ℕ, zero, suc, ◌+◌, ◌-◌, ◌*◌, ◌%◌, ◌^◌, ◌<◌, ◌≤◌, Bool, true, false, eqb}
-use Rattle.std.proofs.Common.{List, [], ◌∷◌, ◌++◌, length, replicate, take, get_or, flat_map, refl, sym, ap}
-use Rattle.std.proofs.Common.{arith, w64, ◌∙◌, bit_and, add-one, add-zero, ap₂, append-nil, append_assoc}
-use Rattle.std.proofs.Common.{length-append, length-take-le, zero-add}
-use Rattle.std.specs.Int.{bit_at, bit_not, from_bool}
+use Rattle.std.proofs.Common.{◌≡◌, ℕ, zero, suc, ◌+◌, ◌-◌, ◌*◌, ◌/◌, ◌%◌, ◌^◌, ◌<◌, ◌≤◌, Bool, true, false, eqb}
+use Rattle.std.proofs.Common.{List, [], ◌∷◌, ◌++◌, length, replicate, take, get_or, flat_map, refl, sym, ap, ap₂}
+use Rattle.std.proofs.Common.{arith, ◌∙◌, add-one, add-zero, append-nil, append_assoc, inl, inr}
+use Rattle.std.proofs.Common.{add-mul, length-append, length-take-le, mod-eq_of_lt}
+use Rattle.std.specs.Int.{bit_at, from_bool}
+use Rattle.std.proofs.Math.Nat.{mul-le-mul_left, mul-le-mul_right, mul_assoc, pow-le-pow_right, pow-suc}
+use Rattle.std.proofs.lemmas.Bool.{cases_lt}
 use Rattle.std.proofs.lemmas.List.{get_or_append_left, get_or-append_right, replicate_more}
-use Rattle.std.proofs.lemmas.List.{replicate-append-replicate, same_lists}
+use Rattle.std.proofs.lemmas.List.{replicate-append-replicate}
 use Rattle.std.proofs.lemmas.List.Concat.{flat_map-append, get_or-flat_map}
-use Rattle.std.proofs.lemmas.List.FromFn.{get_or-map-range_with_len, length-map-range_with_len}
-use Rattle.std.proofs.lemmas.List.FromFn.{map-range_with_len_more}
-use Rattle.std.proofs.lemmas.Nat.{and_mask}
-use Rattle.std.proofs.lemmas.Nat.Bits.{bit_at_clear_other, bit_at_clear_same, bit_at_ones}
-use Rattle.can_segment.specs.Levels.{ArePacked, HasOnesFrom, levels_of_word, levels_of_words, recessive_levels}
+use Rattle.std.proofs.lemmas.Nat.{one_shl, pow-add, pow_pos}
+use Rattle.std.proofs.lemmas.Nat.Bits.{bit_at-suc, bit_at_lowest}
+use Rattle.can_segment.specs.Levels.{ArePacked, levels_of_word, levels_of_words, recessive_levels}
 
 -- how many levels there are
 
 pub length-levels_of_word : (n word : ℕ) → length (levels_of_word n word) ≡ n
 unfolding levels_of_word
-length-levels_of_word n word = length-map-range_with_len (λ i. eqb (bit_at word i) 1) 0 n
+length-levels_of_word zero word = refl
+length-levels_of_word (suc n) word =
+    length-append (levels_of_word n (word / 2)) (eqb (word % 2) 1 ∷ [])
+    ∙ omega (arith, length-levels_of_word n (word / 2))
 
 length-full : (words : List ℕ) → length (flat_map (levels_of_word 64) words) ≡ 64 * length words
 length-full [] = refl
@@ -34,127 +36,129 @@ length-levels_of_words words n last =
 
 -- the levels of a word, one by one
 
-level_at : (n word i : ℕ) (d : Bool) → i < n → get_or (levels_of_word n word) i d ≡ eqb (bit_at word i) 1
+level_at : (n word i : ℕ) (d : Bool) → i < n → get_or (levels_of_word n word) i d ≡ eqb (bit_at word (n - 1 - i)) 1
 unfolding levels_of_word
-level_at n word i d h = get_or-map-range_with_len (λ k. eqb (bit_at word k) 1) 0 n i i d h (omega arith)
-
-same_levels : (n a b : ℕ) → ((i : ℕ) → i < n → bit_at a i ≡ bit_at b i) → levels_of_word n a ≡ levels_of_word n b
-same_levels n a b same =
-    same_lists (levels_of_word n a) (levels_of_word n b) (length-levels_of_word n a ∙ sym (length-levels_of_word n b))
-    (λ k d h.
-    let less : k < n = omega (arith, h, length-levels_of_word n a) in
-    level_at n a k d less ∙ ap (λ bit. eqb bit 1) (same k less) ∙ sym (level_at n b k d less))
-
-next_level : (n word : ℕ) → levels_of_word (n + 1) word ≡ levels_of_word n word ++ eqb (bit_at word n) 1 ∷ []
-unfolding levels_of_word
-next_level n word = map-range_with_len_more (λ i. eqb (bit_at word i) 1) 0 n n (omega arith)
+level_at zero word i d h = absurd (omega (arith, h))
+level_at (suc n) word i d h =
+    let first = levels_of_word n (word / 2) in
+    let last = eqb (word % 2) 1 ∷ [] in
+    let size = length-levels_of_word n (word / 2) in
+    elim (cases_lt i n) [
+      | inl less ↦
+          let above : suc (n - 1 - i) ≡ suc n - 1 - i = omega (arith, less) in
+          get_or_append_left first last d i (omega (arith, size, less))
+          ∙ level_at n (word / 2) i d less
+          ∙ ap (λ bit. eqb bit 1) (sym (bit_at-suc word (n - 1 - i)))
+          ∙ ap (λ k. eqb (bit_at word k) 1) above
+      | inr is ↦
+          let behind : i - n ≡ 0 = omega (arith, is, h) in
+          let lowest : 0 ≡ suc n - 1 - i = omega (arith, is, h) in
+          get_or-append_right first last n i d size (omega (arith, is))
+          ∙ ap (λ k. get_or last k d) behind
+          ∙ ap (λ bit. eqb bit 1) (sym (bit_at_lowest word))
+          ∙ ap (λ k. eqb (bit_at word k) 1) lowest
+    ]
 
 pub no_levels : (word : ℕ) → levels_of_word 0 word ≡ []
 unfolding levels_of_word
 no_levels word = refl
 
-next_is : (n word bit : ℕ) → bit_at word n ≡ bit →
-    levels_of_word (n + 1) word ≡ levels_of_word n word ++ eqb bit 1 ∷ []
-next_is n word bit is = next_level n word ∙ ap (λ b. levels_of_word n word ++ eqb b 1 ∷ []) is
+pub from_bool_most : (level : Bool) → from_bool level ≤ 1
+from_bool_most false = omega arith
+from_bool_most true = omega arith
 
 -- a word with a level more
 
-pub with_recessive : (n word : ℕ) → n < 64 → HasOnesFrom n word →
-    levels_of_word (n + 1) word ≡ levels_of_word n word ++ true ∷ []
-with_recessive n word less h = next_is n word 1 (h.ones n (omega arith) less)
+pub next_level : (n word : ℕ) (level : Bool) →
+    levels_of_word (n + 1) (word * 2 + from_bool level) ≡ levels_of_word n word ++ level ∷ []
+unfolding levels_of_word
+next_level n word false =
+    let half : (word * 2 + 0) / 2 ≡ word = omega arith in
+    let lowest : (word * 2 + 0) % 2 ≡ 0 = omega arith in
+    ap (λ m. levels_of_word m (word * 2 + 0)) (add-one n)
+    ∙ ap₂ (λ w bit. levels_of_word n w ++ eqb bit 1 ∷ []) half lowest
+next_level n word true =
+    let half : (word * 2 + 1) / 2 ≡ word = omega arith in
+    let lowest : (word * 2 + 1) % 2 ≡ 1 = omega arith in
+    ap (λ m. levels_of_word m (word * 2 + 1)) (add-one n)
+    ∙ ap₂ (λ w bit. levels_of_word n w ++ eqb bit 1 ∷ []) half lowest
 
-pub ones_later : (n m word : ℕ) → n ≤ m → HasOnesFrom n word → HasOnesFrom m word
-ones_later n m word later h = record { ones = λ i from below. h.ones i (omega (arith, later, from)) below }
+-- a word of n levels has room for k more
+pub room_of : (n k word : ℕ) → word < 2 ^ n → n + k ≤ 64 → (word + 1) * 2 ^ k ≤ 2 ^ 64
+room_of n k word fits most =
+    let all : (word + 1) * 2 ^ k ≤ 2 ^ n * 2 ^ k = mul-le-mul_right (2 ^ k) (omega (arith, fits)) in
+    let power : 2 ^ (n + k) ≤ 2 ^ 64 = pow-le-pow_right (omega arith) most in
+    omega (arith, all, power, pow-add 2 n k)
 
--- this word with a 0 at this bit
-abbrev cleared : ℕ → ℕ → ℕ
-cleared n word = bit_and word (bit_not w64 (1 * 2 ^ n % 2 ^ 64))
+-- and they fit with them
+pub fits_with : (n k word next : ℕ) → word < 2 ^ n → next + 1 ≤ (word + 1) * 2 ^ k → next < 2 ^ (n + k)
+fits_with n k word next fits room =
+    let all : (word + 1) * 2 ^ k ≤ 2 ^ n * 2 ^ k = mul-le-mul_right (2 ^ k) (omega (arith, fits)) in
+    omega (arith, all, room, pow-add 2 n k)
 
-pub with_dominant : (n word : ℕ) → n < 64 →
-    levels_of_word (n + 1) (cleared n word) ≡ levels_of_word n word ++ false ∷ []
-with_dominant n word less =
-    next_is n (cleared n word) 0 (bit_at_clear_same w64 word n less)
-    ∙ ap (λ levels. levels ++ false ∷ []) (same_levels n (cleared n word) word (λ i below.
-    bit_at_clear_other w64 word n less i (omega (arith, below, less)) (omega (arith, below))))
+-- a level more, behind the first k of `count`
+pub one_more : (first word k : ℕ) (level : Bool) → word + 1 ≤ (first + 1) * 2 ^ k →
+    word * 2 + from_bool level + 1 ≤ (first + 1) * 2 ^ (k + 1)
+one_more first word k level room =
+    let twice : (first + 1) * 2 ^ (k + 1) ≡ (first + 1) * 2 ^ k * 2 =
+    ap (λ m. (first + 1) * 2 ^ m) (add-one k) ∙ ap (λ m. (first + 1) * m) (pow-suc 2 k)
+    ∙ sym (mul_assoc (first + 1) (2 ^ k) 2) in
+    omega (arith, twice, room, from_bool_most level)
 
-pub cleared_ones : (n word : ℕ) → n < 64 → HasOnesFrom n word → HasOnesFrom (n + 1) (cleared n word)
-cleared_ones n word less h = record {
-  ones = λ i from below. bit_at_clear_other w64 word n less i below (omega (arith, from))
-      ∙ h.ones i (omega (arith, from)) below;
-}
-
--- a word stays as it is where no bit is cleared
-all_kept : (word : ℕ) → word < 2 ^ 64 → bit_and word (2 ^ 64 - 1) ≡ word
-all_kept word fits = and_mask word 64 ∙ mod-eq_of_lt fits
-
-none_cleared : (n word : ℕ) → word < 2 ^ 64 → bit_and word (bit_not w64 (0 * 2 ^ n % 2 ^ 64)) ≡ word
-none_cleared n word fits = ap (λ k. bit_and word (bit_not w64 (k % 2 ^ 64))) (zero-mul (2 ^ n)) ∙ all_kept word fits
-
--- a word with this level at a bit
-abbrev leveled : ℕ → ℕ → Bool → ℕ
-leveled n word level = bit_and word (bit_not w64 (from_bool (not level) * 2 ^ n % 2 ^ 64))
-
-pub with_level : (n word : ℕ) (level : Bool) → n < 64 → word < 2 ^ 64 → HasOnesFrom n word →
-    levels_of_word (n + 1) (leveled n word level) ≡ levels_of_word n word ++ level ∷ []
-with_level n word false less fits h = with_dominant n word less
-with_level n word true less fits h =
-    ap (levels_of_word (n + 1)) (none_cleared n word fits) ∙ with_recessive n word less h
-
-pub level_ones : (n word : ℕ) (level : Bool) → n < 64 → word < 2 ^ 64 → HasOnesFrom n word →
-    HasOnesFrom (n + 1) (leveled n word level)
-level_ones n word false less fits h = cleared_ones n word less h
-level_ones n word true less fits h =
-    subst (HasOnesFrom (n + 1)) (sym (none_cleared n word fits)) (ones_later n (n + 1) word (omega arith) h)
-
-pub all_ones : (n : ℕ) → HasOnesFrom n (2 ^ 64 - 1)
-all_ones n = record { ones = λ i from below. bit_at_ones 64 i below }
+pub one_more_fits : (first word k count : ℕ) (level : Bool) → word + 1 ≤ (first + 1) * 2 ^ k → k < count →
+    (first + 1) * 2 ^ count ≤ 2 ^ 64 → word * 2 + from_bool level < 2 ^ 64
+one_more_fits first word k count level room less most =
+    let all : (first + 1) * 2 ^ (k + 1) ≤ (first + 1) * 2 ^ count =
+    mul-le-mul_left (first + 1) (pow-le-pow_right (omega arith) (omega (arith, less))) in
+    omega (arith, all, most, one_more first word k level room)
 
 -- recessive levels
 
 one_more_recessive : (count : ℕ) → recessive_levels count ++ true ∷ [] ≡ recessive_levels (suc count)
 one_more_recessive count = rw add-one at (replicate_more count true)
 
-pub more_recessive : (n count word : ℕ) → n + count ≤ 64 → HasOnesFrom n word →
-    levels_of_word (n + count) word ≡ levels_of_word n word ++ recessive_levels count
-more_recessive n zero word fits h =
-    ap (λ m. levels_of_word m word) (add-zero n) ∙ sym (append-nil (levels_of_word n word))
-more_recessive n (suc count) word fits h =
-    ap (λ m. levels_of_word m word) (omega arith)
-    ∙ with_recessive (n + count) word (omega (arith, fits)) (ones_later n (n + count) word (omega arith) h)
-    ∙ ap (λ levels. levels ++ true ∷ []) (more_recessive n count word (omega (arith, fits)) h)
+pub more_recessive : (n count word : ℕ) →
+    levels_of_word (n + count) (word * 2 ^ count + (2 ^ count - 1)) ≡ levels_of_word n word ++ recessive_levels count
+more_recessive n zero word =
+    ap₂ levels_of_word (add-zero n) (omega arith) ∙ sym (append-nil (levels_of_word n word))
+more_recessive n (suc count) word =
+    let shifted : word * 2 ^ suc count ≡ word * 2 ^ count * 2 =
+    ap (λ k. word * k) (pow-suc 2 count) ∙ sym (mul_assoc word (2 ^ count) 2) in
+    let twice : word * 2 ^ suc count + (2 ^ suc count - 1) ≡ (word * 2 ^ count + (2 ^ count - 1)) * 2 + 1 =
+    omega (arith, shifted, pow-suc 2 count, pow_pos count) in
+    ap₂ levels_of_word (omega arith) twice
+    ∙ next_level (n + count) (word * 2 ^ count + (2 ^ count - 1)) true
+    ∙ ap (λ levels. levels ++ true ∷ []) (more_recessive n count word)
     ∙ append_assoc (levels_of_word n word) (recessive_levels count) (true ∷ [])
     ∙ ap (λ levels. levels_of_word n word ++ levels) (one_more_recessive count)
 
-recessive_word : (n : ℕ) → n ≤ 64 → levels_of_word n (2 ^ 64 - 1) ≡ recessive_levels n
-recessive_word n fits =
-    ap (λ m. levels_of_word m (2 ^ 64 - 1)) (sym (zero-add n))
-    ∙ more_recessive 0 n (2 ^ 64 - 1) (omega (arith, fits)) (all_ones 0)
-    ∙ ap (λ levels. levels ++ recessive_levels n) (no_levels (2 ^ 64 - 1))
+recessive_word : levels_of_word 64 (2 ^ 64 - 1) ≡ recessive_levels 64
+recessive_word = more_recessive 0 64 0 ∙ ap (λ levels. levels ++ recessive_levels 64) (no_levels 0)
 
 recessive_words : (count : ℕ) →
     flat_map (levels_of_word 64) (replicate count (2 ^ 64 - 1)) ≡ recessive_levels (64 * count)
 recessive_words zero = refl
 recessive_words (suc count) =
-    ap (λ levels. levels ++ flat_map (levels_of_word 64) (replicate count (2 ^ 64 - 1)))
-    (recessive_word 64 (omega arith))
+    ap (λ levels. levels ++ flat_map (levels_of_word 64) (replicate count (2 ^ 64 - 1))) recessive_word
     ∙ ap (λ levels. recessive_levels 64 ++ levels) (recessive_words count)
     ∙ replicate-append-replicate 64 (64 * count) true
     ∙ ap recessive_levels (omega arith)
 
--- a word more
+no_more : (levels : List Bool) (last : ℕ) → levels ++ levels_of_word 0 last ≡ levels
+no_more levels last = ap (λ part. levels ++ part) (no_levels last) ∙ append-nil levels
 
-pub filled : (words : List ℕ) (word last : ℕ) →
-    levels_of_words (words ++ word ∷ []) 0 last ≡ levels_of_words words 64 word
-filled words word last =
-    ap (λ levels. flat_map (levels_of_word 64) (words ++ word ∷ []) ++ levels) (no_levels last)
-    ∙ append-nil (flat_map (levels_of_word 64) (words ++ word ∷ []))
-    ∙ flat_map-append (levels_of_word 64) words (word ∷ [])
-    ∙ ap (λ levels. flat_map (levels_of_word 64) words ++ levels) (append-nil (levels_of_word 64 word))
+-- a shift and its ones, as the code computes them
+pub shifted : (word count : ℕ) → count < 64 → (word + 1) * 2 ^ count ≤ 2 ^ 64 →
+    word * 2 ^ count % 2 ^ 64 + (1 * 2 ^ count % 2 ^ 64 - 1) ≡ word * 2 ^ count + (2 ^ count - 1)
+shifted word count less room =
+    let sum : (word + 1) * 2 ^ count ≡ word * 2 ^ count + 2 ^ count = add-mul word 1 (2 ^ count) ∙ omega arith in
+    let fits : word * 2 ^ count < 2 ^ 64 = omega (arith, sum, room, pow_pos count) in
+    ap₂ (λ a b. a + (b - 1)) (mod-eq_of_lt fits) (one_shl count 64 less)
 
 -- words, and the word behind them that has n levels, hold these levels
 pub record Hold (words : List ℕ) (n last : ℕ) (levels : List Bool) : Type 0 where
   pub below : n < 64
-  pub rest : HasOnesFrom n last
+  pub rest : last < 2 ^ n
   pub items : levels_of_words words n last ≡ levels
 
 pub held : (words : List ℕ) (last len : ℕ) (levels : List Bool) → ArePacked words last len →
@@ -166,7 +170,7 @@ pub length-held : {words : List ℕ} {n last : ℕ} {levels : List Bool} → Hol
 length-held {words = words} {n = n} {last = last} h =
     sym (ap length h.items) ∙ length-levels_of_words words n last
 
--- so many levels in all
+-- where there are `len` levels in all
 pub rest_of : {words : List ℕ} {n last : ℕ} {levels : List Bool} (len : ℕ) → Hold words n last levels →
     length levels ≡ len → len % 64 ≡ n
 rest_of {words = words} {n = n} {last = last} {levels = levels} len h size =
@@ -183,34 +187,47 @@ pub unpacked : {words : List ℕ} {n last : ℕ} {levels : List Bool} (len : ℕ
 unpacked {words = words} {last = last} len h size =
     ap (λ k. levels_of_words words k last) (rest_of len h size) ∙ h.items
 
--- levels behind those that are held
-more_held : (words : List ℕ) (n m last next : ℕ) (levels more : List Bool) → Hold words n last levels →
-    levels_of_word m next ≡ levels_of_word n last ++ more → levels_of_words words m next ≡ levels ++ more
-more_held words n m last next levels more h e =
-    ap (λ part. flat_map (levels_of_word 64) words ++ part) e
-    ∙ sym (append_assoc (flat_map (levels_of_word 64) words) (levels_of_word n last) more)
-    ∙ ap (λ part. part ++ more) h.items
+-- levels more, within the last word or up to its end
+module _ {words : List ℕ} {n last : ℕ} {levels : List Bool} (next : ℕ) (more : List Bool) (h : Hold words n last levels)
+    where
+  all_levels : (m : ℕ) → levels_of_word m next ≡ levels_of_word n last ++ more →
+      levels_of_words words m next ≡ levels ++ more
+  all_levels m e =
+      ap (λ part. flat_map (levels_of_word 64) words ++ part) e
+      ∙ sym (append_assoc (flat_map (levels_of_word 64) words) (levels_of_word n last) more)
+      ∙ ap (λ part. part ++ more) h.items
 
--- a level more, within the last word or up to its end
-module _ {words : List ℕ} {n last : ℕ} {levels : List Bool} (next : ℕ) (level : Bool) (h : Hold words n last levels)
-    (e : levels_of_word (n + 1) next ≡ levels_of_word n last ++ level ∷ []) where
-  pub level_within : HasOnesFrom (n + 1) next → n + 1 < 64 → Hold words (n + 1) next (levels ++ level ∷ [])
-  level_within ones room = record {
-    below = room;
-    rest = ones;
-    items = more_held words n (n + 1) last next levels (level ∷ []) h e;
-  }
+  pub more_held : (m : ℕ) → levels_of_word m next ≡ levels_of_word n last ++ more → m < 64 → next < 2 ^ m →
+      Hold words m next (levels ++ more)
+  more_held m e below fits = record { below = below; rest = fits; items = all_levels m e }
 
-  pub level_fills : n + 1 ≡ 64 → Hold (words ++ next ∷ []) 0 (2 ^ 64 - 1) (levels ++ level ∷ [])
-  level_fills full = record {
+  pub word_filled : levels_of_word 64 next ≡ levels_of_word n last ++ more →
+      Hold (words ++ next ∷ []) 0 0 (levels ++ more)
+  word_filled e = record {
     below = omega arith;
-    rest = all_ones 0;
-    items = filled words next (2 ^ 64 - 1)
-        ∙ more_held words n 64 last next levels (level ∷ []) h (rw (← full) e);
+    rest = omega arith;
+    items = no_more (flat_map (levels_of_word 64) (words ++ next ∷ [])) 0
+        ∙ flat_map-append (levels_of_word 64) words (next ∷ [])
+        ∙ ap (λ part. flat_map (levels_of_word 64) words ++ part) (append-nil (levels_of_word 64 next))
+        ∙ all_levels 64 e;
   }
 
--- recessive levels more, within the last word or beyond its end
-joined : (levels : List Bool) (i j k count : ℕ) → i + j + k ≡ count →
+-- recessive words behind full ones
+pub words_more : {words : List ℕ} {last : ℕ} {levels : List Bool} (count : ℕ) → Hold words 0 last levels →
+    Hold (words ++ replicate count (2 ^ 64 - 1)) 0 0 (levels ++ recessive_levels (64 * count))
+words_more {words = words} {last = last} {levels = levels} count h =
+    let full : flat_map (levels_of_word 64) words ≡ levels =
+    sym (no_more (flat_map (levels_of_word 64) words) last) ∙ h.items in
+    record {
+      below = omega arith;
+      rest = omega arith;
+      items = no_more (flat_map (levels_of_word 64) (words ++ replicate count (2 ^ 64 - 1))) 0
+          ∙ flat_map-append (levels_of_word 64) words (replicate count (2 ^ 64 - 1))
+          ∙ ap₂ (λ a b. a ++ b) full (recessive_words count);
+    }
+
+-- recessive levels in three parts
+pub joined : (levels : List Bool) (i j k count : ℕ) → i + j + k ≡ count →
     ((levels ++ recessive_levels i) ++ recessive_levels j) ++ recessive_levels k ≡ levels ++ recessive_levels count
 joined levels i j k count is =
     let all : recessive_levels i ++ (recessive_levels j ++ recessive_levels k) ≡ recessive_levels count =
@@ -218,45 +235,11 @@ joined levels i j k count is =
     ∙ replicate-append-replicate i (j + k) true ∙ ap recessive_levels (omega (arith, is)) in
     simp append_assoc (ap (λ part. levels ++ part) all)
 
-module _ {words : List ℕ} {n last : ℕ} {levels : List Bool} (count : ℕ) (h : Hold words n last levels) where
-  pub recessive_within : n + count < 64 → Hold words (n + count) last (levels ++ recessive_levels count)
-  recessive_within room = record {
-    below = room;
-    rest = ones_later n (n + count) last (omega arith) h.rest;
-    items = more_held words n (n + count) last last levels (recessive_levels count) h
-        (more_recessive n count last (omega (arith, room)) h.rest);
-  }
-
-  -- the last word, so many words, and m levels of another
-  pub recessive_beyond : (more m : ℕ) → m < 64 → n + count ≡ 64 + 64 * more + m →
-      Hold ((words ++ last ∷ []) ++ replicate more (2 ^ 64 - 1)) m (2 ^ 64 - 1) (levels ++ recessive_levels count)
-  recessive_beyond more m below is =
-      let ones : ℕ = 2 ^ 64 - 1 in
-      let less = h.below in
-      let to_end : levels_of_word 64 last ≡ levels_of_word n last ++ recessive_levels (64 - n) =
-      ap (λ k. levels_of_word k last) (omega (arith, less))
-      ∙ more_recessive n (64 - n) last (omega (arith, less)) h.rest in
-      let first : flat_map (levels_of_word 64) (words ++ last ∷ []) ≡ levels ++ recessive_levels (64 - n) =
-      flat_map-append (levels_of_word 64) words (last ∷ [])
-      ∙ ap (λ part. flat_map (levels_of_word 64) words ++ part) (append-nil (levels_of_word 64 last))
-      ∙ more_held words n 64 last last levels (recessive_levels (64 - n)) h to_end in
-      record {
-        below = below;
-        rest = all_ones m;
-        items =
-            ap (λ part. part ++ levels_of_word m ones)
-            (flat_map-append (levels_of_word 64) (words ++ last ∷ []) (replicate more ones)
-            ∙ ap₂ (λ a b. a ++ b) first (recessive_words more))
-            ∙ ap (λ part. ((levels ++ recessive_levels (64 - n)) ++ recessive_levels (64 * more)) ++ part)
-            (recessive_word m (omega (arith, below)))
-            ∙ joined levels (64 - n) (64 * more) m count (omega (arith, is, less));
-      }
-
 -- the level at this bit
 
 module _ (words : List ℕ) (n last : ℕ) where
   pub level_of_full : (q r : ℕ) (d : ℕ) (b : Bool) → q < length words → r < 64 →
-      get_or (levels_of_words words n last) (64 * q + r) b ≡ eqb (bit_at (get_or words q d) r) 1
+      get_or (levels_of_words words n last) (64 * q + r) b ≡ eqb (bit_at (get_or words q d) (63 - r)) 1
   level_of_full q r d b within below =
       let start = length-full (take q words) ∙ ap (λ k. 64 * k) (length-take-le q words (omega (arith, within))) in
       let size = length-full words in
@@ -268,7 +251,7 @@ module _ (words : List ℕ) (n last : ℕ) where
       ∙ level_at 64 (get_or words q d) r b below
 
   pub level_of_last : (r : ℕ) (b : Bool) → r < n →
-      get_or (levels_of_words words n last) (64 * length words + r) b ≡ eqb (bit_at last r) 1
+      get_or (levels_of_words words n last) (64 * length words + r) b ≡ eqb (bit_at last (n - 1 - r)) 1
   level_of_last r b below =
       get_or-append_right (flat_map (levels_of_word 64) words) (levels_of_word n last) (64 * length words)
       (64 * length words + r) b (length-full words) (omega arith)

@@ -43,7 +43,7 @@ same_list (x ∷ xs) (y ∷ ys) e h =
     ap (λ z. z ∷ ys) (h zero x y refl refl)
     ∙ ap (λ zs. x ∷ zs) (same_list xs ys (omega (arith, e)) (λ k a b p q. h (suc k) a b p q))
 
--- who is resumed stands for the same
+-- a node that is resumed has the same state
 may_resume_same : (shared_receiver : SharedReceiver) (bit : ℕ) (old new : Member) → MayResume shared_receiver bit old
     new →
     resumed shared_receiver bit new ≡ resumed shared_receiver bit old
@@ -81,7 +81,7 @@ all_resumed shared_receiver bit old new h k m e =
     let x = some_there old k (let within = slice_get_within new k m e in omega (arith, within, h.size)) in
     ap (λ y. y.is_deferred) (h.at k x.0 m x.1 e)
 
--- where none is deferred each stands for itself
+-- where none is deferred, the nodes themselves are meant
 pub none_deferred_at : (shared_receiver : SharedReceiver) (bit : ℕ) (members : List Member) → NoneDeferred members →
     map (resumed shared_receiver bit) members ≡ members
 none_deferred_at shared_receiver bit [] h = refl
@@ -107,7 +107,7 @@ pub found_deferred : (shared_receiver : SharedReceiver) (bit : ℕ) (members : L
 found_deferred shared_receiver bit members k m e is =
     map_there (resumed shared_receiver bit) members k m e ∙ ap Some (deferred_resumed shared_receiver bit m is)
 
--- The steps of the active nodes, and those that deferred nodes stand for would make, are the steps of all.
+-- The steps of the active nodes, and those of the deferred nodes once they are materialized, are the steps of all.
 lift_step : (Step : Member → Member → Type 0) (one other : SharedReceiver) (bit next : ℕ) (old new : Member) →
     (old.is_deferred ≡ true → Step (materialized_member one bit old) (materialized_member other next old)) → IfActive
     Step old new →

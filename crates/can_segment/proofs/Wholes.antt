@@ -111,7 +111,7 @@ holds_alike plan made t0 t1 c0 c1 talkers controllers kept few size talkers_show
       (from_alike (length t0) c0 c1 made.counters.items controllers controllers_shown);
 }
 
--- where none is deferred each stands for itself
+-- where none is deferred, the nodes themselves are meant
 pub holds_active : (plan : SegmentPlan) (made : Record) (deferred : Deferred) (bit : ℕ) (t c : List Member) →
     NoneDeferred t →
     NoneDeferred c → SegmentHolds plan made t c → SegmentHolds plan made (materialized deferred bit t) (materialized

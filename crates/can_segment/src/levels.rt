@@ -1,7 +1,8 @@
 //! The levels of a line, kept in a bit each.
 
-ghost use Rattle.std.specs.Prelude.{◌≡◌, ◌+◌, ◌<◌, ◌≤◌, ◌++◌, ◌∷◌, [], ◌↔◌, length, slice_get, IsTrue, OnOk, IsOk};
-ghost use Rattle.can_segment.specs.Levels.{HasOnesFrom, levels_of_word, recessive_levels};
+ghost use Rattle.std.specs.Prelude.{◌≡◌, ℕ, ◌+◌, ◌*◌, ◌^◌, ◌<◌, ◌≤◌, ◌++◌, ◌∷◌, [], ◌↔◌, length, slice_get};
+ghost use Rattle.std.specs.Prelude.{IsTrue, OnOk, IsOk};
+ghost use Rattle.can_segment.specs.Levels.{levels_of_word, recessive_levels};
 
 use std::alloc::{AllocError, Global};
 use std::marker::Model;
@@ -9,9 +10,9 @@ use std::marker::Model;
 /// The levels of a line at each bit, in order, kept in a bit each; true is recessive.
 #[derive(Drop)]
 pub struct Levels {
-    /// 64 levels each, from the lowest bit on; a bit is 1 where the level is recessive.
+    /// 64 levels each, the first in the highest bit; a bit is 1 where the level is recessive.
     words: Vec<u64>,
-    /// The levels behind those, from the lowest bit on; the bits behind the last level are 1.
+    /// The `len % 64` levels behind those, the last in the lowest bit; the bits above them are 0.
     last: u64,
     /// How many levels there are.
     len: usize,
@@ -38,7 +39,7 @@ impl Levels {
     {
         Levels {
             words: Vec::new(alloc),
-            last: u64::MAX,
+            last: 0,
             len: 0,
         }
     }
@@ -76,8 +77,11 @@ impl Levels {
         if index >= self.len {
             return None;
         }
-        let word = self.words.get(index / 64).copied().unwrap_or(self.last);
-        Some((word >> (index % 64)) & 1 == 1)
+        let (word, size) = match self.words.get(index / 64) {
+            Some(word) => (*word, 64),
+            None => (self.last, self.len % 64),
+        };
+        Some((word >> (size - 1 - index % 64)) & 1 == 1)
     }
 
     /// Makes room for this many more levels; where it allocates, the room at least doubles. Fails where memory runs out,
@@ -102,13 +106,12 @@ impl Levels {
         ensures items { self.new.items ≡ self.old.items ++ level ∷ [] }
         ensures capacity { self.old.capacity ≤ self.new.capacity }
     {
-        let bit = self.len % 64;
-        self.last = with_level(self.last, bit, level);
-        if bit == 63 {
-            self.words.push_reserved(self.last);
-            self.last = u64::MAX;
-        }
+        self.last = self.last * 2 + u64::from(level);
         self.len += 1;
+        if self.len % 64 == 0 {
+            self.words.push_reserved(self.last);
+            self.last = 0;
+        }
     }
 
     /// Appends these levels, for which there is room.
@@ -118,17 +121,16 @@ impl Levels {
         ensures capacity { self.old.capacity ≤ self.new.capacity }
     {
         let mut word = self.last;
-        let mut bit = self.len % 64;
-        for level in levels {
-            word = with_level(word, bit, *level);
-            bit += 1;
-            if bit == 64 {
-                self.words.push_reserved(word);
-                word = u64::MAX;
-                bit = 0;
-            }
+        let mut missing = 64 - self.len % 64;
+        let mut rest = levels;
+        while rest.len() >= missing {
+            let (fills, behind) = rest.split_at(missing);
+            self.words.push_reserved(with_levels(word, fills));
+            word = 0;
+            missing = 64;
+            rest = behind;
         }
-        self.last = word;
+        self.last = with_levels(word, rest);
         self.len += levels.len();
     }
 
@@ -138,26 +140,41 @@ impl Levels {
         ensures items { self.new.items ≡ self.old.items ++ recessive_levels count }
         ensures capacity { self.old.capacity ≤ self.new.capacity }
     {
-        let len = self.len + count;
-        let full = len / 64;
-        if full > self.words.len() {
-            // the bits behind the last level are 1 already
-            self.words.push_reserved(self.last);
-            let _ = self.words.resize(full, u64::MAX);
-            self.last = u64::MAX;
+        let missing = 64 - self.len % 64;
+        self.len += count;
+        if count < missing {
+            self.last = with_recessive(self.last, count);
+            return;
         }
-        self.len = len;
+        if missing < 64 {
+            self.words.push_reserved(with_recessive(self.last, missing));
+        }
+        let _ = self.words.resize(self.len / 64, u64::MAX);
+        self.last = with_recessive(0, self.len % 64);
     }
 }
 
-/// Returns this word with this level at this bit; from there on the bits of `word` are 1.
-#[inline(always)]
-fn with_level(word: u64, bit: usize, level: bool) -> u64
-    requires bit { bit < 64 }
-    requires ones { HasOnesFrom bit word }
-    ensures levels { levels_of_word (bit + 1) result ≡ levels_of_word bit word ++ level ∷ [] }
-    ensures ones { HasOnesFrom (bit + 1) result }
+/// Returns the word of the levels of `word` and of these ones behind them, for which there is room.
+#[inline]
+fn with_levels(word: u64, levels: &[bool]) -> u64
+    requires room { (word + 1) * 2 ^ length levels.now ≤ 2 ^ 64 }
+    ensures room { result + 1 ≤ (word + 1) * 2 ^ length levels.now }
+    ensures levels { (n : ℕ) → levels_of_word (n + length levels.now) result ≡ levels_of_word n word ++ levels.now }
 {
-    // no branch: levels are as good as random
-    word & !(u64::from(!level) << bit)
+    let mut word = word;
+    for level in levels {
+        word = word * 2 + u64::from(*level);
+    }
+    word
+}
+
+/// Returns the word of the levels of `word` and of this many recessive ones behind them, for which there is room.
+#[inline]
+fn with_recessive(word: u64, count: usize) -> u64
+    requires count { count < 64 }
+    requires room { (word + 1) * 2 ^ count ≤ 2 ^ 64 }
+    ensures room { result + 1 ≡ (word + 1) * 2 ^ count }
+    ensures levels { (n : ℕ) → levels_of_word (n + count) result ≡ levels_of_word n word ++ recessive_levels count }
+{
+    (word << count) + ((1 << count) - 1)
 }

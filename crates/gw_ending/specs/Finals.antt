@@ -30,7 +30,7 @@ use Rattle.gw_opening.specs.declared.place.Place.{Place}
 use Rattle.gw_ending.specs.Ends.{IsEndOf}
 use Rattle.gw_ending.specs.Ports.{Port, Site}
 
--- the port of a controller, of which this is reported over so many bits: its banks are the script's, its FIFOs were offered
+-- the port of a controller with these events over `bits` bits: its banks are the script's, its FIFOs were offered
 -- what it took, it began nothing that was over, and nothing is reported or left of a number that no route has there
 pub record IsDonePort (s : ScriptValue) (controller : ℕ) (tells : List EventKind) (bits : ℕ) (port : Port) : Type 0 where
   pub value : ControllerValue

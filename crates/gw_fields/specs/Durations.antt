@@ -19,7 +19,7 @@ in_second unit =
     else (if bytes_eq unit (codes "s") then Some 1
     else None))
 
--- how many bits so many of the unit take, at a rate in bits a second, rounded down
+-- the bits of a duration of `digits` units at `rate` bits a second, rounded down
 abbrev pub bits_of : ℕ → List ℕ → List ℕ → Option ℕ
 bits_of rate digits unit =
     option_and_then (λ number. option_map (λ parts. number * rate / parts) (in_second unit)) (number_in 10 digits)

@@ -32,7 +32,7 @@ fn in_second(unit: &[u8]) -> Option<u64>
     None
 }
 
-/// Returns how many bits so many of a unit of time take at a rate in bits a second, rounded down.
+/// Returns the bits of a duration of `digits` units at `rate` bits a second, rounded down.
 ///
 /// `None` where a digit is not a decimal one, or the unit is not `us`, `ms` or `s`.
 fn bits_of(rate: u32, digits: &[u8], unit: &[u8]) -> Option<u64>

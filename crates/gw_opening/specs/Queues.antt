@@ -9,7 +9,7 @@ use Rattle.gw_config.specs.Messages.{MessageValue}
 abbrev pub instance : MessageValue → ℕ → DueFrame
 instance m k = record { due = m.at + k * m.every; frame = m.frame }
 
--- its first instances, so many
+-- its first n instances
 abbrev pub first_instances : MessageValue → ℕ → List DueFrame
 first_instances m zero = []
 first_instances m (suc n) = first_instances m n ++ instance m n ∷ []

@@ -25,7 +25,7 @@ use Rattle.gw_route.specs.declared.turn_answer.TurnAnswer.TheVariants.{Idle, Req
 abbrev pub next_turn : ℕ → ℕ
 next_turn turns = if nat_lt turns 1000000 then turns + 1 else turns
 
--- how many are counted behind so many bits, where one is made behind each multiple of `turn` bits
+-- the turns of `bits` bits, one behind each multiple of `turn` bits, counted up to a million
 abbrev pub turns_in : ℕ → ℕ → ℕ
 turns_in turn bits = min (bits / turn) 1000000
 
@@ -141,6 +141,6 @@ pub record WaitsForFrame (h : HandValue) : Type 0 where
   pub none_due : (turns : ℕ) (abort : RouteAbort) → first_abort h ≡ Some abort →
       IsDueByCount (record h { turns = turns }) abort → ⊥
 
--- the hand behind so many turns more that were idle, counted up to a million; what the FIFO was asked is left aside
+-- the hand behind `more` idle turns, counted up to a million; what the FIFO was asked is left aside
 abbrev pub idled : ℕ → HandValue → HandValue
 idled more h = record h { turns = min (h.turns + more) 1000000 }

@@ -62,8 +62,9 @@ fn all_idle_until(sites: &[Site], last: u64) -> u64
     until
 }
 
-/// Bits of all segments, as long as each idles or is ahead, up to so many in all: how many all have made then. Behind a
-/// bit that all have made, it passes over all bits at once up to the next one at which something may happen.
+/// Passes over bits of all segments, as long as each idles or is ahead, at most until all have made `last`. Returns how
+/// many all have made then. Behind a bit that all have made, it passes over all bits at once up to the next one at which
+/// something may happen.
 fn idle_until(sites: &mut [Site], made: u64, last: u64) -> u64
     requires may { MayIdle made sites.old }
     requires far { AreFar made sites.old }

@@ -1,74 +1,105 @@
-use Rattle.std.proofs.Common.{arith, ◌≡◌, ◌+◌, ◌++◌, ◌∷◌, [], ℕ, ◌≤◌, Bool, List, false, length, length-append, ap}
-use Rattle.std.proofs.Common.{take, get_or, sym, ◌∙◌}
-use Rattle.std.proofs.lemmas.List.{append-nil, append_assoc, take_more, take_all, length-take-le}
-use Rattle.can_segment.proofs.PackedLevels.{held, length-held, level_fills, level_within, packed, unpacked}
+use Rattle.std.proofs.Common.{arith, ◌≡◌, ◌+◌, ◌-◌, ◌++◌, [], ℕ, ◌%◌, length, length-append, ap, refl, ◌∙◌}
+use Rattle.std.proofs.Common.{append-nil, append_assoc}
+use Rattle.std.proofs.lemmas.List.{take-append-drop}
+use Rattle.can_segment.proofs.PackedLevels.{Hold, fits_with, held, length-held, more_held, packed, room_of, unpacked}
+use Rattle.can_segment.proofs.PackedLevels.{word_filled}
 use Rattle.can_segment.proofs.levels.Levels.extend_from_slice.Goals as goal
-use Rattle.can_segment.proofs.levels.Levels.extend_from_slice.Goals.{Joined-bit-eq64, then-bit-eq64, else-bit-eq64}
+use Rattle.can_segment.proofs.levels.Levels.extend_from_slice.Goals.{After-with_levels-self-inside}
 
-pub loop-level-init : goal.loop-level-init
-loop-level-init c =
+pub loop-missing-init : goal.loop-missing-init
+loop-missing-init c =
     let a = c.self.inside in
     let items = c.args.self.now.items in
     let h = held a.words.items a.last a.len items c.self.invariant (ap (λ v. v.items) c.self.view_is) in
+    let begun : 64 - (64 - a.len % 64) ≡ a.len % 64 = omega arith in
     record {
-      hold = rw append-nil h;
+      some = omega arith;
+      most = omega arith;
+      done = [];
+      split = refl;
+      hold = rw (begun, append-nil) h;
       capacity = ap (λ v. v.capacity) c.self.view_is;
       len = omega (arith, length-held h, c.self.invariant.size);
     }
 
+pub with_levels-requires : goal.with_levels-requires
+with_levels-requires c =
+    let i = c.loop-missing.invariant in
+    record {
+      room = room_of (64 - c.loop-missing.missing) (length c.split_at.result.0.now) c.loop-missing.word i.hold.rest
+          (omega (arith, c.split_at.ensures.front_len, i.most, c.loop-missing-test.true));
+    }
+
 pub push_reserved-requires : goal.push_reserved-requires
 push_reserved-requires c =
-    let i = c.loop-level.invariant in
-    let before = c.loop-level.level-index in
-    let levels = c.args.levels.now in
-    let size = length-append c.args.self.now.items (take before levels) in
-    let taken = length-take-le before levels (omega arith) in
-    omega (arith, i.capacity, length-held i.hold, size, taken, c.loop-level.self-inside.words.ok.0)
+    let i = c.loop-missing.invariant in
+    omega (
+      arith,
+      i.capacity,
+      length-held i.hold,
+      length-append c.args.self.now.items i.done,
+      ap length i.split,
+      length-append i.done c.loop-missing.rest.now,
+      i.most,
+      i.some,
+      c.loop-missing-test.true,
+      c.requires.room,
+      c.loop-missing.self-inside.words.ok.0,
+    )
 
-pub loop-level-preserved : goal.loop-level-preserved
-loop-level-preserved c =
-    let i = c.loop-level.invariant in
-    let k = c.loop-level.level-index in
+pub loop-missing-preserved : goal.loop-missing-preserved
+loop-missing-preserved c =
+    let i = c.loop-missing.invariant in
     let items = c.args.self.now.items in
-    let levels = c.args.levels.now in
-    let level = get_or levels k false in
-    let next = c.with_level-word.result in
-    let e = c.with_level-word.ensures.levels in
-    let more : (items ++ take k levels) ++ level ∷ [] ≡ items ++ take (k + 1) levels =
-    append_assoc items (take k levels) (level ∷ [])
-    ∙ ap (λ part. items ++ part) (sym (take_more levels k false c.loop-level-test.true)) in
-    elim c.if-bit-eq64.branch [
-      | then-bit-eq64 w ↦ record {
-        hold = rw (w.self-inside-is, w.word-is, w.bit-is, w.push_reserved.ensures.items, ← more)
-            (level_fills next level i.hold e w.if-bit-eq64.true);
-        capacity = rw (w.self-inside-is, w.push_reserved.ensures.capacity) i.capacity;
-        len = rw w.self-inside-is i.len;
-      }
-      | else-bit-eq64 w ↦ record {
-        hold = rw (w.self-inside-is, w.word-is, w.bit-is, ← more) (level_within next level i.hold e
-            c.with_level-word.ensures.ones
-            (let less = i.hold.below in omega (arith, less, w.if-bit-eq64.false)));
-        capacity = rw w.self-inside-is i.capacity;
-        len = rw w.self-inside-is i.len;
-      }
-    ]
+    let fills = c.split_at.result.0.now in
+    let behind = c.split_at.result.1.now in
+    let full : 64 - c.loop-missing.missing + length fills ≡ 64 =
+    omega (arith, c.split_at.ensures.front_len, i.most, c.loop-missing-test.true) in
+    let e = c.with_levels.ensures.levels (64 - c.loop-missing.missing) in
+    record {
+      some = omega arith;
+      most = omega arith;
+      done = i.done ++ fills;
+      split = append_assoc i.done fills behind
+          ∙ ap (λ part. i.done ++ part) (rw (c.split_at.ensures.front, c.split_at.ensures.back)
+          (take-append-drop c.loop-missing.missing c.loop-missing.rest.now))
+          ∙ i.split;
+      hold = rw (c.push_reserved.ensures.items, ← append_assoc)
+          (word_filled c.with_levels.result fills i.hold (rw full at e));
+      capacity = rw c.push_reserved.ensures.capacity i.capacity;
+      len = i.len;
+    }
 
--- behind the loop
-size_is : (items levels : List Bool) (k len : ℕ) → length levels ≤ k → len ≡ length items →
-    length (items ++ take k levels) ≡ len + length levels
-size_is items levels k len end is =
-    omega (arith, length-append items (take k levels), ap length (take_all k levels end), is)
+pub with_levels-self-inside-requires : goal.with_levels-self-inside-requires
+with_levels-self-inside-requires c =
+    let i = c.loop-missing.invariant in
+    record {
+      room = room_of (64 - c.loop-missing.missing) (length c.loop-missing.rest.now) c.loop-missing.word i.hold.rest
+          (omega (arith, i.most, c.loop-missing-test.false));
+    }
+
+all_held : (c : After-with_levels-self-inside) →
+    Hold c.loop-missing.self-inside.words.items (64 - c.loop-missing.missing + length c.loop-missing.rest.now)
+    c.with_levels-self-inside.result (c.args.self.now.items ++ c.args.levels.now)
+all_held c =
+    let i = c.loop-missing.invariant in
+    let n : ℕ = 64 - c.loop-missing.missing in
+    let rest = c.loop-missing.rest.now in
+    let next = c.with_levels-self-inside.result in
+    let behind : (c.args.self.now.items ++ i.done) ++ rest ≡ c.args.self.now.items ++ c.args.levels.now =
+    append_assoc c.args.self.now.items i.done rest ∙ ap (λ part. c.args.self.now.items ++ part) i.split in
+    rw (← behind) (more_held next rest i.hold (n + length rest) (c.with_levels-self-inside.ensures.levels n)
+        (omega (arith, i.most, i.some, c.loop-missing-test.false))
+        (fits_with n (length rest) c.loop-missing.word next i.hold.rest c.with_levels-self-inside.ensures.room))
+
+size_is : (c : After-with_levels-self-inside) →
+    length (c.args.self.now.items ++ c.args.levels.now) ≡ c.loop-missing.self-inside.len + length c.args.levels.now
+size_is c = omega (arith, length-append c.args.self.now.items c.args.levels.now, c.loop-missing.invariant.len)
 
 pub invariant_of-self : goal.invariant_of-self
-invariant_of-self c =
-    let i = c.loop-level.invariant in
-    packed _ i.hold
-    (size_is c.args.self.now.items c.args.levels.now c.loop-level.level-index _ c.loop-level-test.false i.len)
+invariant_of-self c = let j = (goal.at.invariant_of-self c).After-with_levels-self-inside in
+    packed _ (all_held j) (size_is j)
 
 pub returns-clause-items : goal.returns-clause-items
-returns-clause-items c =
-    let i = c.loop-level.invariant in
-    let items = c.args.self.now.items in
-    let levels = c.args.levels.now in
-    unpacked _ i.hold (size_is items levels c.loop-level.level-index _ c.loop-level-test.false i.len)
-    ∙ ap (λ part. items ++ part) (take_all c.loop-level.level-index levels c.loop-level-test.false)
+returns-clause-items c = let j = (goal.at.returns-clause-items c).After-with_levels-self-inside in
+    unpacked _ (all_held j) (size_is j)
