@@ -189,28 +189,28 @@ unpacked {words = words} {last = last} len h size =
 
 -- levels more, within the last word or up to its end
 module _ {words : List ℕ} {n last : ℕ} {levels : List Bool} (next : ℕ) (more : List Bool) (h : Hold words n last levels)
-    where
-  all_levels : (m : ℕ) → levels_of_word m next ≡ levels_of_word n last ++ more →
-      levels_of_words words m next ≡ levels ++ more
-  all_levels m e =
-      ap (λ part. flat_map (levels_of_word 64) words ++ part) e
-      ∙ sym (append_assoc (flat_map (levels_of_word 64) words) (levels_of_word n last) more)
-      ∙ ap (λ part. part ++ more) h.items
+  where
+    all_levels : (m : ℕ) → levels_of_word m next ≡ levels_of_word n last ++ more →
+        levels_of_words words m next ≡ levels ++ more
+    all_levels m e =
+        ap (λ part. flat_map (levels_of_word 64) words ++ part) e
+        ∙ sym (append_assoc (flat_map (levels_of_word 64) words) (levels_of_word n last) more)
+        ∙ ap (λ part. part ++ more) h.items
 
-  pub more_held : (m : ℕ) → levels_of_word m next ≡ levels_of_word n last ++ more → m < 64 → next < 2 ^ m →
-      Hold words m next (levels ++ more)
-  more_held m e below fits = record { below = below; rest = fits; items = all_levels m e }
+    pub more_held : (m : ℕ) → levels_of_word m next ≡ levels_of_word n last ++ more → m < 64 → next < 2 ^ m →
+        Hold words m next (levels ++ more)
+    more_held m e below fits = record { below = below; rest = fits; items = all_levels m e }
 
-  pub word_filled : levels_of_word 64 next ≡ levels_of_word n last ++ more →
-      Hold (words ++ next ∷ []) 0 0 (levels ++ more)
-  word_filled e = record {
-    below = omega arith;
-    rest = omega arith;
-    items = no_more (flat_map (levels_of_word 64) (words ++ next ∷ [])) 0
-        ∙ flat_map-append (levels_of_word 64) words (next ∷ [])
-        ∙ ap (λ part. flat_map (levels_of_word 64) words ++ part) (append-nil (levels_of_word 64 next))
-        ∙ all_levels 64 e;
-  }
+    pub word_filled : levels_of_word 64 next ≡ levels_of_word n last ++ more →
+        Hold (words ++ next ∷ []) 0 0 (levels ++ more)
+    word_filled e = record {
+      below = omega arith;
+      rest = omega arith;
+      items = no_more (flat_map (levels_of_word 64) (words ++ next ∷ [])) 0
+          ∙ flat_map-append (levels_of_word 64) words (next ∷ [])
+          ∙ ap (λ part. flat_map (levels_of_word 64) words ++ part) (append-nil (levels_of_word 64 next))
+          ∙ all_levels 64 e;
+    }
 
 -- recessive words behind full ones
 pub words_more : {words : List ℕ} {last : ℕ} {levels : List Bool} (count : ℕ) → Hold words 0 last levels →

@@ -2,7 +2,7 @@
 
 ghost use Rattle.std.specs.Prelude.{◌≡◌, ◌≤◌, ◌<◌, ◌+◌, ◌++◌, true, Bool, List, length};
 ghost use Rattle.can_station.specs.DeferredNodes.{ActiveWithin};
-ghost use Rattle.can_segment.specs.DeferredState.{AreIdle, AreNoneDueBefore, AreUneventfulBits};
+ghost use Rattle.can_segment.specs.DeferredState.{AreIdle, AreNoneDueBefore, AreNotDue, AreUneventfulBits};
 ghost use Rattle.can_segment.specs.IdleUntil.{IdlesUntil};
 
 use crate::deferred::Deferred;
@@ -61,11 +61,16 @@ fn next_start(
     requires plan { length plan.now ≡ length talkers.now }
     requires talkers_within { ActiveWithin deferred.now.talkers talkers.now }
     requires controllers_within { ActiveWithin deferred.now.controllers controllers.now }
+    requires not_due { AreNotDue deferred.now plan.now talkers.now }
     ensures { 0 < result → AreIdle deferred.now result plan.now talkers.now controllers.now }
 {
     let all_deferred = deferred.talkers.is_empty() && deferred.controllers.is_empty();
     if !all_deferred || !deferred.shared_receiver.is_idle() {
         return 0;
+    }
+    // where a controller is deferred, it is 0 and says nothing of the talkers
+    if deferred.next_start > 0 {
+        return deferred.next_start;
     }
     next_due(plan, talkers)
 }
@@ -82,6 +87,7 @@ pub(crate) fn idle_until(
     requires plan { length plan.now.talkers.items ≡ length talkers.now }
     requires talkers_within { ActiveWithin deferred.now.talkers talkers.now }
     requires controllers_within { ActiveWithin deferred.now.controllers controllers.now }
+    requires not_due { AreNotDue deferred.now plan.now.talkers.items talkers.now }
     ensures { 0 < result → IdlesUntil result plan.now made.now faults.now deferred.now talkers.now controllers.now }
 {
     let start = next_start(plan.talkers.as_slice(), deferred, talkers, controllers);

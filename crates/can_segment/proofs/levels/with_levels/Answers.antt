@@ -16,16 +16,23 @@ pub overflow_mul-word : goal.overflow_mul-word
 overflow_mul-word c =
     let i = c.loop-level.invariant in
     let k = c.loop-level.level-index in
-    omega (arith, one_more_fits c.args.word c.loop-level.word k (length c.args.levels.now) false i.room
-        c.loop-level-test.true c.requires.room)
+    omega (
+      arith,
+      one_more_fits c.args.word c.loop-level.word k (length c.args.levels.now) false i.room
+          c.loop-level-test.true c.requires.room,
+    )
 
 pub overflow_add-word : goal.overflow_add-word
 overflow_add-word c =
     let i = c.loop-level.invariant in
     let k = c.loop-level.level-index in
     let level = get_or c.args.levels.now k false in
-    omega (arith, c.from.ensures, one_more_fits c.args.word c.loop-level.word k (length c.args.levels.now) level i.room
-        c.loop-level-test.true c.requires.room)
+    omega (
+      arith,
+      c.from.ensures,
+      one_more_fits c.args.word c.loop-level.word k (length c.args.levels.now) level i.room
+          c.loop-level-test.true c.requires.room,
+    )
 
 pub loop-level-preserved : goal.loop-level-preserved
 loop-level-preserved c =

@@ -89,8 +89,8 @@ all_held c =
     let behind : (c.args.self.now.items ++ i.done) ++ rest ≡ c.args.self.now.items ++ c.args.levels.now =
     append_assoc c.args.self.now.items i.done rest ∙ ap (λ part. c.args.self.now.items ++ part) i.split in
     rw (← behind) (more_held next rest i.hold (n + length rest) (c.with_levels-self-inside.ensures.levels n)
-        (omega (arith, i.most, i.some, c.loop-missing-test.false))
-        (fits_with n (length rest) c.loop-missing.word next i.hold.rest c.with_levels-self-inside.ensures.room))
+    (omega (arith, i.most, i.some, c.loop-missing-test.false))
+    (fits_with n (length rest) c.loop-missing.word next i.hold.rest c.with_levels-self-inside.ensures.room))
 
 size_is : (c : After-with_levels-self-inside) →
     length (c.args.self.now.items ++ c.args.levels.now) ≡ c.loop-missing.self-inside.len + length c.args.levels.now

@@ -155,7 +155,7 @@ beyond c f =
     let e : levels_of_word n next ≡ levels_of_word 0 0 ++ recessive_levels n =
     rw zero-add at (c.with_recessive-self-inside-2.ensures.levels 0) in
     rw (words, ← joined c.args.self.now.items f.more (64 * more) n c.args.count all)
-        (more_held next (recessive_levels n) (words_more more f.hold) n e (omega arith) (omega (arith, room)))
+    (more_held next (recessive_levels n) (words_more more f.hold) n e (omega arith) (omega (arith, room)))
 
 pub invariant_of-self-2 : goal.invariant_of-self-2
 invariant_of-self-2 c =

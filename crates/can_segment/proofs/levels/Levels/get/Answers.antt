@@ -43,8 +43,8 @@ found c =
           let behind : length words ≤ q = grind (arith, look, value, is) in
           let q_is : q ≡ length words = omega (arith, behind, c.if-index-self.false, c.self.invariant.size) in
           rw w.word-is (sym (whole ∙ ap (λ k. get_or (levels_of_words words (a.len % 64) a.last) (64 * k + r) false) q_is
-              ∙ level_of_last words (a.len % 64) a.last r false
-              (omega (arith, q_is, c.if-index-self.false, c.self.invariant.size))))
+          ∙ level_of_last words (a.len % 64) a.last r false
+          (omega (arith, q_is, c.if-index-self.false, c.self.invariant.size))))
     ]
 
 pub returns : goal.returns

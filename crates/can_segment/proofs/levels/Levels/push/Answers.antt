@@ -59,7 +59,7 @@ returns-then-self-eq0-clause-items c =
     let next : ℕ = a.last * 2 + c.from.result in
     let full : a.len % 64 + 1 ≡ 64 = omega (arith, c.if-self-eq0.true) in
     rw c.push_reserved.ensures.items
-        (unpacked _ (word_filled next (c.args.level ∷ []) (before j) (rw full at (next_is j))) (size_is j))
+    (unpacked _ (word_filled next (c.args.level ∷ []) (before j) (rw full at (next_is j))) (size_is j))
 
 pub returns-else-self-eq0-clause-items : goal.returns-else-self-eq0-clause-items
 returns-else-self-eq0-clause-items c =
