@@ -153,6 +153,8 @@ def routes(draw, controllers):
     for route in result:
         if "rewrite" in route:
             route["rewrite"] = [rewrite_entry(draw, entry) for entry in route["rewrite"]]
+        if draw.random() < 0.5:
+            route["queue"] = draw.choice([1, 2, 3, 16, 1024])
     return result
 
 

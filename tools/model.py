@@ -24,7 +24,7 @@ def plain(script):
             "segments": [{"name": segment["name"], "talkers": [plain_talker(t) for t in segment["talkers"]]}
                          for segment in script["segments"]],
             "controllers": [{"txfp": True} | controller for controller in script["controllers"]],
-            "routes": [route | {"rewrite": route.get("rewrite", []) if script["version"] == 2 else []}
+            "routes": [route | {"rewrite": route.get("rewrite", []) if script["version"] == 2 else [], "queue": None}
                        for route in script["routes"]],
             "faults": [fault | {"until": fault["bit"] + 1} for fault in script.get("faults", [])],
             "aborts": script.get("aborts", [])}
@@ -144,30 +144,45 @@ class Route:
     def __init__(self, script, place, controllers):
         route = script["routes"][place]
         self.name, self.fifo, self.rewrites = route["name"], route["fifo"], route["rewrite"]
+        self.queue = route["queue"]
         self.source, self.target = controllers[route["from"]], controllers[route["to"]]
         self.aborts = [(a["number"], a["turn"]) for a in script["aborts"] if a["route"] == self.name]
-        self.turns, self.released, self.requested, self.hand = 0, 0, 0, None
+        self.turns, self.released, self.requested, self.hand = 0, 0, 0, deque()
         self.completed, self.aborted = [], []
+
+    def take(self):
+        """Takes the next frame out of the FIFO, and numbers it."""
+        self.released += 1
+        frame = self.source.fifos[self.fifo].pop(0)
+        self.hand.append(Request(self, self.released, rewritten(self.rewrites, frame)))
+
+    def may_fill(self):
+        """Whether its queue has room for a frame that is in the FIFO."""
+        return self.queue is not None and len(self.hand) < self.queue and len(self.source.fifos[self.fifo]) > 0
+
+    def fill(self):
+        while self.may_fill():
+            self.take()
 
     def turn(self):
         self.turns += 1
         if self.aborts and self.aborts[0][1] <= self.turns and self.aborts[0][0] <= self.requested:
             self.abort(self.aborts.pop(0)[0])
             return
-        fifo = self.source.fifos[self.fifo]
-        if self.hand is None and fifo:
-            self.released += 1
-            self.hand = Request(self, self.released, rewritten(self.rewrites, fifo.pop(0)))
-        if self.hand is not None and len(self.target.requests) < 3:
-            self.requested = self.hand.number
-            self.target.put(self.hand)
-            self.hand = None
+        if self.queue is None and not self.hand and self.source.fifos[self.fifo]:
+            self.take()
+        if self.hand and len(self.target.requests) < 3:
+            request = self.hand.popleft()
+            self.requested = request.number
+            self.target.put(request)
 
     def is_idle(self):
-        """Whether its turns request no frame: it has none, or all mailboxes are full."""
-        if self.hand is None:
-            return not self.source.fifos[self.fifo]
-        return len(self.target.requests) == 3
+        """Whether it takes no frame and its turns request none: it has none, or all mailboxes are full."""
+        if self.may_fill():
+            return False
+        if self.hand:
+            return len(self.target.requests) == 3
+        return not self.source.fifos[self.fifo]
 
     def turns_to_abort(self):
         """How many turns from now it makes its next abort, if it requests nothing before; None where it makes none."""
@@ -190,7 +205,7 @@ class Route:
     def line(self):
         waiting = [request.number for request in self.waiting()]
         aborted = set(self.aborted) - set(self.completed) - set(waiting)
-        held = len(self.source.fifos[self.fifo]) + (self.hand is not None) + len(waiting)
+        held = len(self.source.fifos[self.fifo]) + len(self.hand) + len(waiting)
         return (f"route {self.name} accepted {self.source.accepted[self.fifo]} overrun {self.source.overrun[self.fifo]}"
                 f" released {self.released} completed {len(self.completed)} aborted {len(aborted)} held {held}")
 
@@ -356,13 +371,15 @@ class Run:
     def make_bit(self, bit):
         for segment in self.segments:
             segment.make_bit(bit)
+        for route in self.routes:
+            route.fill()
         if (bit + 1) % self.turn == 0:
             for route in self.routes:
                 route.turn()
 
     def idle_until(self, bit):
-        """The first bit from this one on that has to be made. Before it all segments are idle, and turns of routes
-        neither request nor abort."""
+        """The first bit from this one on that has to be made. Before it all segments are idle, no queue is filled, and
+        turns of routes neither request nor abort."""
         end = self.bits
         for route in self.routes:
             turns = route.turns_to_abort()

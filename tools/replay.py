@@ -186,7 +186,7 @@ def route_faults(script, place, senders, line):
         "released": not max(frames, default=0) <= released <= accepted - overrun,
         "overrun": overrun > max(0, accepted - 3),
         "aborted": not len(given_up) <= aborted <= len(asked) or not given_up <= asked,
-        "held": held > 7,
+        "held": held > 3 + (route["queue"] or 1) + 3,
         "frames": not could_be(frames, taken, overrun),
     }
     if target.goes_by_requests:

@@ -79,7 +79,7 @@ def plain_rewrite(entry):
 
 def plain_route(route):
     return {field: route[field] for field in ("name", "from", "fifo", "to")} | {
-        "rewrite": [plain_rewrite(entry) for entry in route.get("rewrite", [])]}
+        "rewrite": [plain_rewrite(entry) for entry in route.get("rewrite", [])], "queue": route.get("queue")}
 
 
 def plain_fault(fault, rate):

@@ -145,6 +145,7 @@ def right_scripts_3():
             ('"bank":8', '"bank":2', '"bank":27'),
             ('"banks":[{', '"comment":[{', '"banks":[],"comment":[{'),
             ('"filters":[{', '"comment":[{', '"filters":[],"comment":[{'),
+            ('"fifo":1,"to":"d"', '"fifo":1,"queue":1,"to":"d"', '"fifo":1,"to":"d","queue":1024'),
             ('"from":"0C0","to":"18FF0100"', '"to":"7ff","from":"1FFFFFFF"', '"from":"000","to":"000"'),
             ('"until":6', '"until":2', '"until":1000', '"until":"2ms"', '"comment":6',
              '"until":6,"segment":0,"level":null'),

@@ -25,7 +25,7 @@ use Rattle.gw_config.specs.BankLists.{banks_of}
 use Rattle.gw_config.specs.Rewrites.{rewrites_of}
 use Rattle.gw_config.specs.Controllers.{ControllerValue, controller_names, controllers_on, node_names, node_count}
 use Rattle.gw_config.specs.Controllers.{controller_with, controller_fields, controller_of, controllers_of}
-use Rattle.gw_config.specs.Routes.{RouteValue, route_names, takes_from, routes_into, placed, route_with}
+use Rattle.gw_config.specs.Routes.{queue_of, RouteValue, route_names, takes_from, routes_into, placed, route_with}
 use Rattle.gw_config.specs.Routes.{route_fields, route_of, routes_of}
 use Rattle.gw_config.specs.PlannedFaults.{planned_faults_of}
 use Rattle.gw_config.specs.Scripts.{ScriptValue}
@@ -208,14 +208,21 @@ route_ok version controllers front value r e =
     from_bind (whole (codes "fifo") 0 1 from) _ r e3 (λ fifo is_fifo e4.
     from_bind (place_named (codes "to") (controller_names controllers) from) _ r e4 (λ target is_target e5.
     from_bind (rewrites_of version from) _ r e5 (λ rewrites are_rewrites e6.
-    let h = placed_ok front (record { name = name; source = source; fifo = fifo; target = target; rewrites = rewrites })
-    r e6 in
+    from_bind (queue_of version from) _ r e6 (λ queue is_queue e7.
+    let h = placed_ok front (record {
+      name = name;
+      source = source;
+      fifo = fifo;
+      target = target;
+      rewrites = rewrites;
+      queue = queue;
+    }) r e7 in
     record {
       name = ap (λ (one : RouteValue). is_among one.name (route_names front)) (sym h.0)
           ∙ new_name_ok (codes "routes") (route_names front) from name is_name;
       fifo = h.1;
       room = h.2;
-    }))))))
+    })))))))
 
 pub routes_ok : (version : Version) (controllers : List ControllerValue) (from : Data) (rs : List RouteValue) →
     routes_of version controllers from ≡ Ok rs → AreNewRoutes rs

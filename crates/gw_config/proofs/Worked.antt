@@ -9,6 +9,7 @@ use Rattle.gw_config.specs.Messages.{MessageValue, once}
 use Rattle.gw_config.specs.Segments.{SegmentValue}
 use Rattle.gw_config.specs.Rewrites.{entry_of}
 use Rattle.gw_config.specs.PlannedFaults.{planned_fault_of}
+use Rattle.gw_config.specs.Routes.{queue_of}
 use Rattle.gw_config.specs.Scripts.{format_of, script_of}
 use Rattle.gw_config.proofs.OnLiterals.{read_as, on_literals}
 use Rattle.gw_config.proofs.WorkedMessages.{at_a_rate, version_two}
@@ -139,6 +140,32 @@ version_before_unknown : read_as format_of (codes "{\"version\":4,\"expect\":[]}
 unfolding on_literals
 version_before_unknown = refl
 
+-- the size of a queue
+
+longest_queue : read_as (queue_of Three) (codes "{\"queue\":1024}") ≡ Some (Ok (Some 1024))
+unfolding on_literals
+longest_queue = refl
+
+too_long_a_queue : read_as (queue_of Three) (codes "{\"queue\":1025}") ≡ Some (Err (out_of_range (codes "queue")))
+unfolding on_literals
+too_long_a_queue = refl
+
+queue_of_none : read_as (queue_of Three) (codes "{\"queue\":0}") ≡ Some (Err (out_of_range (codes "queue")))
+unfolding on_literals
+queue_of_none = refl
+
+queue_as_a_text : read_as (queue_of Three) (codes "{\"queue\":\"16\"}") ≡ Some (Err (wrong_kind (codes "queue")))
+unfolding on_literals
+queue_as_a_text = refl
+
+no_queue : read_as (queue_of Three) (codes "{\"every\":1}") ≡ Some (Ok None)
+unfolding on_literals
+no_queue = refl
+
+no_queue_in_version_two : read_as (queue_of Two) (codes "{\"queue\":0}") ≡ Some (Ok None)
+unfolding on_literals
+no_queue_in_version_two = refl
+
 -- a script
 
 abbrev two_buses : List ℕ
@@ -152,8 +179,8 @@ two_buses =
     ++ codes "\"filters\":[{\"accept\":\"0C0\",\"fifo\":0},{\"accept\":\"120:7F0\",\"fifo\":0},{"
     ++ codes "\"accept\":\"18FEF100\",\"fifo\":1}]},{\"name\":\"gw_body\",\"segment\":\"body\",\"on\":0,"
     ++ codes "\"txfp\":false}],\"routes\":[{\"name\":\"signals\",\"from\":\"gw_pt\",\"fifo\":0,"
-    ++ codes "\"to\":\"gw_body\"}],\"faults\":[{\"segment\":\"body\",\"bit\":\"5ms\",\"until\":\"6ms\","
-    ++ codes "\"level\":1}]}"
+    ++ codes "\"to\":\"gw_body\",\"queue\":16}],\"faults\":[{\"segment\":\"body\",\"bit\":\"5ms\","
+    ++ codes "\"until\":\"6ms\",\"level\":1}]}"
 
 abbrev engine_messages : List MessageValue
 engine_messages =
@@ -196,7 +223,7 @@ read_two_buses : read_as script_of two_buses ≡ Some (Ok (record {
   controllers =
       record { name = codes "gw_pt"; segment = 0; on = 0; txfp = true; banks = filter_banks }
       ∷ record { name = codes "gw_body"; segment = 1; on = 0; txfp = false; banks = replicate 28 unlisted } ∷ [];
-  routes = record { name = codes "signals"; source = 0; fifo = 0; target = 1; rewrites = [] } ∷ [];
+  routes = record { name = codes "signals"; source = 0; fifo = 0; target = 1; rewrites = []; queue = Some 16 } ∷ [];
   faults = OnLine 1 2500 3000 true ∷ [];
   aborts = [];
 }))

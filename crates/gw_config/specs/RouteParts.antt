@@ -10,4 +10,5 @@ route_view r = record {
   fifo = r.fifo;
   target = r.target;
   rewrites = r.rewrites.items;
+  queue = r.queue;
 }

@@ -1,6 +1,6 @@
 -- What holds of every script that is read: its ranges, that each place which it names is there, and that names and
 -- FIFOs are not used twice.
-use Rattle.std.specs.Prelude.{◌≡◌, ◌≢◌, ℕ, ◌+◌, ◌-◌, ◌*◌, ◌<◌, ◌≤◌, List, ◌++◌, length, AllPairs}
+use Rattle.std.specs.Prelude.{◌≡◌, ◌≢◌, ℕ, ◌+◌, ◌-◌, ◌*◌, ◌<◌, ◌≤◌, IfSome, List, ◌++◌, length, AllPairs}
 use Rattle.bx_core.specs.Lists.{Each}
 use Rattle.gw_config.specs.declared.planned_fault.PlannedFault.{PlannedFault}
 use Rattle.gw_config.specs.declared.planned_fault.PlannedFault.TheVariants.{AtNode, OnLine}
@@ -33,9 +33,10 @@ IsSegmentIn bits s = Each (IsTalkerIn bits) s.talkers
 abbrev pub IsControllerIn : ℕ → List SegmentValue → ControllerValue → Type 0
 IsControllerIn bits segments c = (c.on < bits) × (c.segment < length segments)
 
--- its controllers are there, and there are two FIFOs
+-- its controllers are there, there are two FIFOs, and a queue has room for 1 to 1,024 frames
 abbrev pub IsRouteIn : List ControllerValue → RouteValue → Type 0
 IsRouteIn controllers r = (r.source < length controllers) × (r.fifo ≤ 1) × (r.target < length controllers)
+    × IfSome r.queue (λ size. (1 ≤ size) × (size ≤ 1024))
 
 -- it begins at a bit of the run, lasts at least one bit, and ends with the run at the latest
 abbrev pub LastsIn : ℕ → ℕ → ℕ → Type 0

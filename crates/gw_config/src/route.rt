@@ -1,11 +1,11 @@
 //! A route of a script.
 
-ghost use Rattle.std.specs.Prelude.{◌≡◌, IfOk, length, ◌≤◌};
+ghost use Rattle.std.specs.Prelude.{◌≡◌, IfOk, IfSome, length, ◌≤◌};
 ghost use Rattle.std.specs.List.{list_any};
 ghost use Rattle.bx_core.specs.Lists.{Each};
 ghost use Rattle.serde_json.specs.View.{view};
-ghost use Rattle.gw_fields.specs.Faults.{ReadsUnlessMemory};
-ghost use Rattle.gw_config.specs.Routes.{takes_from, routes_into, route_with, routes_of};
+ghost use Rattle.gw_fields.specs.Faults.{Reads, ReadsUnlessMemory};
+ghost use Rattle.gw_config.specs.Routes.{takes_from, routes_into, queue_of, route_with, routes_of};
 ghost use Rattle.gw_config.specs.Rewrites.{most_rewrites};
 ghost use Rattle.gw_config.specs.SoundScripts.{IsRouteIn};
 
@@ -16,7 +16,8 @@ use crate::version::Version;
 use arrayvec::ArrayVec;
 use can_frame::Rewrite;
 use gw_fields::{
-    Named, ReadsElement, ScriptFault, list, new_name, owned, place_named, read_each, whole,
+    Named, ReadsElement, ScriptFault, list, new_name, optional_whole, owned, place_named,
+    read_each, whole,
 };
 use serde_json::Value;
 use std::alloc::Global;
@@ -26,13 +27,16 @@ use std::marker::Model;
 const MOST_ROUTES: usize = 16;
 
 /// The fields that a route of version 3 may have.
-const FIELDS: [&'static str; 5] = ["name", "from", "fifo", "to", "rewrite"];
+const FIELDS: [&'static str; 6] = ["name", "from", "fifo", "to", "rewrite", "queue"];
 
 /// The greatest number of routes into one controller.
 const MOST_INTO_ONE: usize = 8;
 
+/// The greatest size of a queue.
+const MOST_QUEUED: u64 = 1_024;
+
 /// A way from a FIFO of one controller into another controller, or into the same. Contracts see its
-/// name, the places of the two controllers, the FIFO, and the new identifiers of frames.
+/// name, the places of the two controllers, the FIFO, the new identifiers of frames, and the size of its queue.
 #[derive(Drop)]
 pub struct Route {
     name: String,
@@ -40,6 +44,7 @@ pub struct Route {
     fifo: u8,
     target: usize,
     rewrites: ArrayVec<Rewrite, MOST_REWRITES>,
+    queue: Option<u32>,
 }
 
 impl Model for Route {
@@ -89,6 +94,14 @@ impl Route {
         self.rewrites.as_slice()
     }
 
+    /// Returns how many frames it holds at most between the FIFO and the mailboxes, 1 to 1,024, which it takes out of the
+    /// FIFO behind each bit; `None` where it takes a frame in its turn and holds one. In versions 1 and 2 it is `None`.
+    pub fn queue(&self) -> Option<u32>
+        ensures { result ≡ self.now.queue }
+    {
+        self.queue
+    }
+
     fn takes_from(&self, source: usize, fifo: u8) -> bool
         ensures { result ≡ takes_from source fifo self.now }
     {
@@ -119,6 +132,22 @@ fn count_into(routes: &[Route], target: usize) -> usize
         .count()
 }
 
+/// Returns the size of a route's queue; `None` in versions 1 and 2, and where the field `queue` is absent.
+///
+/// `Kind("queue")` where the field of version 3 is not a whole number, `Range("queue")` where it is not 1 to 1,024.
+fn queue_of(from: &Value, version: Version) -> Result<Option<u32>, ScriptFault>
+    ensures value { Reads (λ queue. queue) result (queue_of version (view from.now)) }
+    ensures range { IfOk result (λ queue. IfSome queue (λ size. (1 ≤ size) × (size ≤ 1024))) }
+{
+    match version {
+        Version::One | Version::Two => Ok(None),
+        Version::Three => match optional_whole(from, "queue", 1, MOST_QUEUED) {
+            Ok(size) => Ok(size.map(|size| size as u32)),
+            Err(fault) => Err(fault),
+        },
+    }
+}
+
 /// The fields of a route behind its name.
 #[tactic(auto, unfolding(crate::specs::Routes::route_with))]
 fn route_with(
@@ -140,6 +169,10 @@ fn route_with(
         Ok(rewrites) => rewrites,
         Err(fault) => return Err(fault),
     };
+    let queue = match queue_of(from, version) {
+        Ok(queue) => queue,
+        Err(fault) => return Err(fault),
+    };
     if is_taken(front, source, fifo) {
         return Err(ScriptFault::FifoTwice(front.len()));
     }
@@ -151,6 +184,7 @@ fn route_with(
             fifo,
             target,
             rewrites,
+            queue,
         })
     } else {
         Err(ScriptFault::TooMany("routes"))

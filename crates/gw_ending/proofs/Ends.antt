@@ -14,7 +14,7 @@ use Rattle.bx_rx.specs.declared.rx_frame.RxFrame.{RxFrame}
 use Rattle.bx_controller.specs.Intakes.{LeavesOut, IntakeStands}
 use Rattle.bx_controller.specs.declared.intake.Intake.{Intake}
 use Rattle.bx_controller.proofs.Intakes.{left-length}
-use Rattle.gw_route.specs.RouteHand.{HandValue, LogMatches, LogsReleased, frames_of, numbered}
+use Rattle.gw_route.specs.RouteHand.{HandValue, LogMatches, LogsReleased, frames_of, numbered, room_in}
 use Rattle.gw_script.specs.declared.route_report.RouteReport.{RouteReport}
 use Rattle.gw_ending.specs.Ends.{IsEndOf}
 use Rattle.gw_ending.specs.Links.{settled, RouteLinked}
@@ -44,7 +44,7 @@ links : (r : RouteReport) (intake : Intake) (h : HandValue) (waiting : List Entr
     Parts r intake h (numbers waiting) left →
     (room : ℕ) (txfp : _) (number : ℕ) (did : BusPast) (past : RoutePast) → length waiting ≤ room →
     RouteTied txfp number did past waiting → LogMatches h past →
-    r.completed.items ≡ entries_of number did.done → RouteLinked room txfp h.rewrites r (entries_of number did.started)
+    r.completed.items ≡ entries_of number did.done → RouteLinked room (room_in h.queue) txfp h.rewrites r (entries_of number did.started)
 links r intake h waiting left p room txfp number did past few tied matches completed =
     record {
       lists = tied.lists;
@@ -56,7 +56,7 @@ links r intake h waiting left p room txfp number did past few tied matches compl
       left = frames_of left;
       log = ap (λ es. es ++ h.in_hand) tied.requested_is ∙ matches.log
           ∙ ap (λ fs. numbered 1 (map (rewritten h.rewrites) fs)) (sym p.released_is);
-      one_hand = matches.one_hand;
+      few_in_hand = matches.few_held;
       law = tied.law;
       completed_is = completed ∙ sym tied.done_is;
       ended = λ n has. elim (tied.ended n has) [ inl now ↦ matches.ended n now | inr later ↦ matches.asked n later ];

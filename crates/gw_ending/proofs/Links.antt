@@ -159,8 +159,8 @@ none_of : (xs : List ℕ) (n : ℕ) → ¬ (Has xs n) → times n xs ≡ 0
 none_of xs n out = elim (times_cases (times n xs)) [ inl e ↦ e | inr h ↦ absurd (out (times_has xs n h)) ]
 
 -- the core law, with what was sent as the report tells it
-lawful : {room : ℕ} (txfp : Bool) (rewrites : List Rewrite) (r : RouteReport) (started : List Entry)
-    (l : RouteLinked room txfp rewrites r started) →
+lawful : {room hand : ℕ} (txfp : Bool) (rewrites : List Rewrite) (r : RouteReport) (started : List Entry)
+    (l : RouteLinked room hand txfp rewrites r started) →
     IsRouteLawful txfp (record {
       requested = l.lists.requested;
       done = r.completed.items;
@@ -174,8 +174,8 @@ lawful txfp rewrites r started l =
     (sym l.completed_is) l.law
 
 -- how often a number stands among the report's aborted ones
-aborted_times : {room : ℕ} (txfp : Bool) (rewrites : List Rewrite) (r : RouteReport) (started : List Entry)
-    (l : RouteLinked room txfp rewrites r started) (n : ℕ) → times n r.aborted.items ≡ times n l.lists.aborted
+aborted_times : {room hand : ℕ} (txfp : Bool) (rewrites : List Rewrite) (r : RouteReport) (started : List Entry)
+    (l : RouteLinked room hand txfp rewrites r started) (n : ℕ) → times n r.aborted.items ≡ times n l.lists.aborted
     + times n l.lists.reaped
 aborted_times txfp rewrites r started l n =
     let ended : List ℕ = numbers r.completed.items ++ l.waiting in
@@ -209,8 +209,8 @@ aborted_times txfp rewrites r started l n =
     ])
 
 -- what was sent was requested and is not among the aborted ones
-sent_kept : {room : ℕ} (txfp : Bool) (rewrites : List Rewrite) (r : RouteReport) (started : List Entry)
-    (l : RouteLinked room txfp rewrites r started) (x : Entry) → Has r.completed.items x → Has l.lists.requested x
+sent_kept : {room hand : ℕ} (txfp : Bool) (rewrites : List Rewrite) (r : RouteReport) (started : List Entry)
+    (l : RouteLinked room hand txfp rewrites r started) (x : Entry) → Has r.completed.items x → Has l.lists.requested x
     × (is_among r.aborted.items x.number ≡ false)
 sent_kept txfp rewrites r started l x h =
     let law = lawful txfp rewrites r started l in
@@ -230,8 +230,8 @@ sent_kept txfp rewrites r started l x h =
     )
 
 -- each aborted number is one of the released
-pub aborted_released : {room : ℕ} (txfp : Bool) (rewrites : List Rewrite) (r : RouteReport) (started : List Entry) →
-    RouteLinked room txfp rewrites r started → Each (Has (numbers (released rewrites r))) r.aborted.items
+pub aborted_released : {room hand : ℕ} (txfp : Bool) (rewrites : List Rewrite) (r : RouteReport) (started : List Entry) →
+    RouteLinked room hand txfp rewrites r started → Each (Has (numbers (released rewrites r))) r.aborted.items
 aborted_released txfp rewrites r started l =
     let P : List ℕ → Type 0 = λ ns. Each (Has (numbers (released rewrites r))) ns in
     subst P (sym l.aborted_is) (each_more (Has l.logged) (Has (numbers (released rewrites r)))
@@ -242,14 +242,14 @@ aborted_released txfp rewrites r started l =
     (settled_logged (numbers r.completed.items ++ l.waiting) l.logged))
 
 -- what was reaped is among the aborted
-pub reaped_aborted : {room : ℕ} (txfp : Bool) (rewrites : List Rewrite) (r : RouteReport) (started : List Entry) →
-    (l : RouteLinked room txfp rewrites r started) → Each (Has r.aborted.items) l.lists.reaped
+pub reaped_aborted : {room hand : ℕ} (txfp : Bool) (rewrites : List Rewrite) (r : RouteReport) (started : List Entry) →
+    (l : RouteLinked room hand txfp rewrites r started) → Each (Has r.aborted.items) l.lists.reaped
 reaped_aborted txfp rewrites r started l = each_from (Has r.aborted.items) l.lists.reaped (λ n has.
     let some : 0 < times n l.lists.reaped = has_times l.lists.reaped n has in
     times_has r.aborted.items n (omega (arith, some, aborted_times txfp rewrites r started l n)))
 
-pub in_order : {room : ℕ} (txfp : Bool) (rewrites : List Rewrite) (r : RouteReport) (started : List Entry) →
-    txfp ≡ true → RouteLinked room txfp rewrites r started → InOrder rewrites r
+pub in_order : {room hand : ℕ} (txfp : Bool) (rewrites : List Rewrite) (r : RouteReport) (started : List Entry) →
+    txfp ≡ true → RouteLinked room hand txfp rewrites r started → InOrder rewrites r
 in_order txfp rewrites r started by_requests l =
     let law = lawful txfp rewrites r started l in
     let ds : List Entry = r.completed.items in
@@ -292,8 +292,8 @@ has-filter keep (y ∷ ys) x kept_x h = elim (bool_cases (keep y)) [
 ]
 
 -- by any priority, each once
-pub each_once : {room : ℕ} (txfp : Bool) (rewrites : List Rewrite) (r : RouteReport) (started : List Entry) →
-    RouteLinked room txfp rewrites r started → EachOnce rewrites r
+pub each_once : {room hand : ℕ} (txfp : Bool) (rewrites : List Rewrite) (r : RouteReport) (started : List Entry) →
+    RouteLinked room hand txfp rewrites r started → EachOnce rewrites r
 each_once txfp rewrites r started l =
     let law = lawful txfp rewrites r started l in
     let keep : Entry → Bool = λ (e : Entry). not (is_among r.aborted.items e.number) in
@@ -306,20 +306,20 @@ each_once txfp rewrites r started l =
           (has-left l.lists.requested l.in_hand x k.0)));
     }
 
-pub ordered_by : {room : ℕ} (txfp : Bool) (rewrites : List Rewrite) (r : RouteReport) (started : List Entry) →
-    RouteLinked room txfp rewrites r started → OrderBy txfp rewrites r
+pub ordered_by : {room hand : ℕ} (txfp : Bool) (rewrites : List Rewrite) (r : RouteReport) (started : List Entry) →
+    RouteLinked room hand txfp rewrites r started → OrderBy txfp rewrites r
 ordered_by true rewrites r started l = in_order true rewrites r started refl l
 ordered_by false rewrites r started l = each_once false rewrites r started l
 
-pub not_refilled : {room : ℕ} (txfp : Bool) (rewrites : List Rewrite) (r : RouteReport) (started : List Entry) →
-    RouteLinked room txfp rewrites r started → NotRefilled rewrites r started
+pub not_refilled : {room hand : ℕ} (txfp : Bool) (rewrites : List Rewrite) (r : RouteReport) (started : List Entry) →
+    RouteLinked room hand txfp rewrites r started → NotRefilled rewrites r started
 not_refilled txfp rewrites r started l =
     let P : List Entry → Type 0 = λ v. Each (Has v) started in
     subst P l.log (each_from_has (Has (l.lists.requested ++ l.in_hand)) started
     (λ x h. has-left l.lists.requested l.in_hand x (l.starts x h)))
 
-pub balances : {room : ℕ} (txfp : Bool) (rewrites : List Rewrite) (r : RouteReport) (started : List Entry) →
-    RouteLinked room txfp rewrites r started → Balances r
+pub balances : {room hand : ℕ} (txfp : Bool) (rewrites : List Rewrite) (r : RouteReport) (started : List Entry) →
+    RouteLinked room hand txfp rewrites r started → Balances r
 balances txfp rewrites r started l =
     let law = lawful txfp rewrites r started l in
     let ds : List Entry = r.completed.items in
@@ -349,11 +349,11 @@ balances txfp rewrites r started l =
       l.held_is,
     )
 
-pub linked : {room : ℕ} (txfp : Bool) (rewrites : List Rewrite) (r : RouteReport) (started : List Entry) →
-    RouteLinked room txfp rewrites r started → Headline room txfp rewrites r started
+pub linked : {room hand : ℕ} (txfp : Bool) (rewrites : List Rewrite) (r : RouteReport) (started : List Entry) →
+    RouteLinked room hand txfp rewrites r started → Headline room hand txfp rewrites r started
 linked txfp rewrites r started l = record {
   order = ordered_by txfp rewrites r started l;
   no_refill = not_refilled txfp rewrites r started l;
   sum = balances txfp rewrites r started l;
-  few_held = omega (arith, l.held_is, l.one_hand, l.few_left, l.few_waiting);
+  few_held = omega (arith, l.held_is, l.few_in_hand, l.few_left, l.few_waiting);
 }

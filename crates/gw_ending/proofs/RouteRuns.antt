@@ -13,7 +13,7 @@ use Rattle.can_frame.specs.Frames.{FrameValue}
 use Rattle.can_segment.specs.Brought.{kinds_of, all_in, start_in, taken_in, grown}
 use Rattle.can_station.proofs.Places.{same_some}
 use Rattle.can_segment.proofs.Shown.{map_there}
-use Rattle.gw_route.specs.RouteHand.{HandValue, hand_value}
+use Rattle.gw_route.specs.RouteHand.{HandValue, hand_value, room_in}
 use Rattle.gw_route.specs.declared.route_abort.RouteAbort.{RouteAbort}
 use Rattle.gw_script.specs.declared.route_report.RouteReport.{RouteReport}
 use Rattle.gw_config.specs.Controllers.{ControllerValue}
@@ -173,9 +173,9 @@ route_run room s sites k route lane r sound done e l closes few ends =
     let completed = ends.completed_is closes.to closes.to_is in
     let room_left : length waiting ≤ room = (let all = few lane.target closes.to closes.to_is in
     omega (arith, all, left-length lane.number closes.to.mail.left.items)) in
-    let links : RouteLinked room (priority_of to.port_done.value) lane.hand.rewrites.items r
+    let links : RouteLinked room (room_in lane.hand.queue) (priority_of to.port_done.value) lane.hand.rewrites.items r
     (entries_of lane.number (all_in start_in tells)) =
-    subst (λ v. RouteLinked room (priority_of v) lane.hand.rewrites.items r
+    subst (λ v. RouteLinked room (room_in lane.hand.queue) (priority_of v) lane.hand.rewrites.items r
     (entries_of lane.number (all_in start_in tells))) value
     (end.linked room (priority_of closes.value) lane.number (grown no_bus_past tells) closes.past room_left closes.tied
     closes.matches completed) in
@@ -193,10 +193,12 @@ route_run room s sites k route lane r sound done e l closes few ends =
           l.fifo_is stands.goes);
       fifo = end.fifo stands.offered stands.stands;
       completed_is = completed;
-      claims = subst (λ rewrites. Headline room (priority_of to.port_done.value) rewrites r
+      claims = subst (λ queue. Headline room (room_in queue) (priority_of to.port_done.value) route.rewrites r
+          (entries_of lane.number (all_in start_in tells))) l.queue_is
+          (subst (λ rewrites. Headline room (room_in lane.hand.queue) (priority_of to.port_done.value) rewrites r
           (entries_of lane.number (all_in start_in tells))) l.rewrites_is
           (linked (priority_of to.port_done.value) lane.hand.rewrites.items r
-          (entries_of lane.number (all_in start_in tells)) links);
+          (entries_of lane.number (all_in start_in tells)) links));
       apart = subst (AllPairs (λ number later. number ≢ later)) (sym end.aborted_is) (settled_apart ended logged);
       named = subst (λ ns. IsSublist ns (aborted_in s k)) (sym end.aborted_is)
           (sublist_on (settled ended logged) logged (aborted_in s k) (settled_sublist ended logged)

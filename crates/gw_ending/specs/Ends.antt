@@ -11,7 +11,7 @@ use Rattle.bx_core.specs.TxBus.{BusPast}
 use Rattle.bx_rx.specs.declared.rx_frame.RxFrame.{RxFrame}
 use Rattle.bx_controller.specs.Intakes.{LeavesOut, IntakeStands}
 use Rattle.bx_controller.specs.declared.intake.Intake.{Intake}
-use Rattle.gw_route.specs.RouteHand.{HandValue, LogMatches}
+use Rattle.gw_route.specs.RouteHand.{HandValue, LogMatches, room_in}
 use Rattle.gw_script.specs.declared.route_report.RouteReport.{RouteReport}
 use Rattle.gw_ending.specs.Links.{RouteLinked, settled}
 
@@ -31,7 +31,7 @@ pub record IsEndOf (r : RouteReport) (intake : Intake) (h : HandValue) (waiting 
   pub linked : (room : ℕ) (txfp : Bool) (number : ℕ) (did : BusPast) (past : RoutePast) → length waiting ≤ room →
       RouteTied txfp number did past waiting →
       LogMatches h past → r.completed.items ≡ entries_of number did.done →
-      RouteLinked room txfp h.rewrites r (entries_of number did.started)
+      RouteLinked room (room_in h.queue) txfp h.rewrites r (entries_of number did.started)
   -- and each request that was reaped counts as aborted
   pub reaped_too : (txfp : Bool) (number : ℕ) (did : BusPast) (past : RoutePast) →
       RouteTied txfp number did past waiting →

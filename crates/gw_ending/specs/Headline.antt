@@ -47,10 +47,10 @@ abbrev pub Balances : RouteReport → Type 0
 Balances r = r.accepted ≡ length r.completed.items + length r.aborted.items + r.overrun + r.held
 
 -- all of it, for a route with these new identifiers into a controller of this priority; and no more is held than the
--- FIFO, the hand and the mailboxes, which have room for so many, can hold
-pub record Headline (room : ℕ) (txfp : Bool) (rewrites : List Rewrite) (r : RouteReport)
+-- FIFO, which has room for three frames, the hand and the mailboxes can hold
+pub record Headline (room hand : ℕ) (txfp : Bool) (rewrites : List Rewrite) (r : RouteReport)
     (started : List Entry) : Type 0 where
   pub order : OrderBy txfp rewrites r
   pub no_refill : NotRefilled rewrites r started
   pub sum : Balances r
-  pub few_held : r.held ≤ room + 4
+  pub few_held : r.held ≤ 3 + hand + room

@@ -17,14 +17,14 @@ settle ended so_far n = if is_among ended n then so_far else if is_among so_far 
 abbrev pub settled : List ℕ → List ℕ → List ℕ
 settled ended logged = fold (settle ended) [] logged
 
--- under the room of the mailboxes that it leads into, their priority and the route's new identifiers: a route's report,
--- the starts of its frames, and the links between FIFO, hand and mailboxes
-pub record RouteLinked (room : ℕ) (txfp : Bool) (rewrites : List Rewrite) (r : RouteReport)
+-- under the room of the mailboxes that it leads into, the room of its hand, the mailboxes' priority and the route's new
+-- identifiers: a route's report, the starts of its frames, and the links between FIFO, hand and mailboxes
+pub record RouteLinked (room hand : ℕ) (txfp : Bool) (rewrites : List Rewrite) (r : RouteReport)
     (started : List Entry) : Type 0 where
   -- what the mailboxes keep of the route: its lists, and the numbers that wait
   pub lists : RouteLists
   pub waiting : List ℕ
-  -- the frame in the hand, or none
+  -- the frames in the hand
   pub in_hand : List Entry
   -- the numbers whose abort was asked, and those in the hand's log
   pub asked : List ℕ
@@ -32,9 +32,9 @@ pub record RouteLinked (room : ℕ) (txfp : Bool) (rewrites : List Rewrite) (r :
   -- the frames that the FIFO stored, and those left in it
   pub stored : List FrameValue
   pub left : List FrameValue
-  -- what was released was requested, but for the frame in the hand
+  -- what was released was requested, but for the frames in the hand
   pub log : lists.requested ++ in_hand ≡ released rewrites r
-  pub one_hand : length in_hand ≤ 1
+  pub few_in_hand : length in_hand ≤ hand
   -- the mailboxes keep the core law, and what is completed is what they sent
   pub law : IsRouteLawful txfp lists waiting
   pub completed_is : r.completed.items ≡ lists.done

@@ -26,6 +26,7 @@ use Rattle.gw_ending.specs.Ends.{TellsFifo}
 use Rattle.gw_ending.specs.Headline.{OrderBy, Headline, released}
 use Rattle.bx_controller.specs.Intakes.{GoTo}
 use Rattle.gw_route.specs.Plans.{numbers_in}
+use Rattle.gw_route.specs.RouteHand.{room_in}
 use Rattle.gw_opening.specs.Openings.{priority_of}
 use Rattle.gw_site.specs.Pairs.{Pairs}
 use Rattle.gw_opening.specs.Plans.{IsPlanOf, aborts_of}
@@ -81,7 +82,7 @@ abbrev pub aborted_in : ScriptValue → ℕ → List ℕ
 aborted_in s route = numbers_in (aborts_of s route)
 
 -- What became of the frames of a route, by what the lines of the segments tell of its two controllers, whose mailboxes
--- have room for so many requests.
+-- have room for `room` requests.
 pub record IsRouteRun (room : ℕ) (s : ScriptValue) (lines : List (List Event)) (place : ℕ) (route : RouteValue)
     (r : RouteReport) : Type 0 where
   -- what is reported of the controller that it takes from, and of the one that it leads into
@@ -99,7 +100,8 @@ pub record IsRouteRun (room : ℕ) (s : ScriptValue) (lines : List (List Event))
   -- it completed what its target completed of its requests
   pub completed_is : r.completed.items ≡ entries_of number (all_in sent_in to)
   -- the claims, given what its target started of its requests
-  pub claims : Headline room (priority_of to_is.value) route.rewrites r (entries_of number (all_in start_in to))
+  pub claims : Headline room (room_in route.queue) (priority_of to_is.value) route.rewrites r
+      (entries_of number (all_in start_in to))
   -- the aborted numbers differ; aborts of the script name them, in this order; each is one of the released frames; and
   -- each request that a line calls reaped is among them
   pub apart : AllPairs (λ number later. number ≢ later) r.aborted.items

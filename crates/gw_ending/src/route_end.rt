@@ -1,6 +1,6 @@
 //! What came of a route, once its run is over.
 
-ghost use Rattle.std.specs.Prelude.{◌≡◌, ◌≤◌, IfOk, List, length, option_to_list};
+ghost use Rattle.std.specs.Prelude.{◌≡◌, ◌≤◌, IfOk, List, length};
 ghost use Rattle.can_frame.specs.Frames.{FrameValue};
 ghost use Rattle.bx_core.specs.declared.entry.Entry.{Entry};
 ghost use Rattle.bx_core.specs.States.{numbers};
@@ -17,16 +17,6 @@ use gw_route::{Log, RouteHand};
 use gw_script::RouteReport;
 use std::alloc::Global;
 use std::sync::Wait;
-
-/// How many frames are in a hand.
-fn count(hand: Option<Entry>) -> usize
-    ensures { result ≡ length (option_to_list hand) }
-{
-    match hand {
-        Some(_) => 1,
-        None => 0,
-    }
-}
 
 /// The report of a route, given its hand, where frames came into its FIFO, what was sent of it, and which of its
 /// numbers wait in the mailboxes that it led into.
@@ -47,9 +37,12 @@ pub(crate) fn report_of<R: Wait>(
     ensures ends { IfOk result (λ r. (left : List Entry) → numbers left ≡ waiting.now
         → IsEndOf r intake (hand_value hand) left) }
 {
+    let in_hand = hand.held();
     let RouteHand {
         out,
-        hand: in_hand,
+        hand: _,
+        queued: _,
+        queue: _,
         tickets: _,
         turns,
         aborts: _,
@@ -67,7 +60,7 @@ pub(crate) fn report_of<R: Wait>(
     } = intake;
     let aborted = settled(alloc, logged.as_slice(), completed.as_slice(), waiting)?;
     let left = RxFifo::close(rt, rxin, out);
-    let held = left.len() + count(in_hand) + waiting.len();
+    let held = left.len() + in_hand + waiting.len();
     Ok(RouteReport {
         accepted,
         overrun,

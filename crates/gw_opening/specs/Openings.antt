@@ -59,6 +59,7 @@ pub record IsLaneOf (s : ScriptValue) (k : ℕ) (route : RouteValue) (lane : Lan
   pub target_is : IsPlaceOf s route.target lane.target
   pub number_is : route_at s route.target lane.number ≡ Some k
   pub rewrites_is : lane.hand.rewrites.items ≡ route.rewrites
+  pub queue_is : lane.hand.queue ≡ route.queue
   pub plan : FromPlan (aborts_of s k) (hand_value lane.hand)
 
 -- one that made no turn

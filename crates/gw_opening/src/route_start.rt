@@ -82,7 +82,7 @@ fn lane_of(alloc: Global, script: &Script, route: usize, out: RxOut) -> Result<L
     let target = Place::of(script, said.target());
     let number = number_of(script, route, said.target());
     Ok(Lane {
-        hand: RouteHand::new(alloc, out, aborts, rewrites_of(said)),
+        hand: RouteHand::with_queue(alloc, out, said.queue(), aborts, rewrites_of(said)),
         source,
         fifo: said.fifo(),
         target,

@@ -8,7 +8,7 @@ use Rattle.gw_pool.specs.Couriers.{CourierHolds, CourierMoves}
 pub moves-self : {S : Type 0} (after : S → RoutePast → Type 0) (stays : S → S → Type 0) (hand : RouteHand) (side : S) →
     ((x : S) → stays x x) → CourierHolds after hand side → CourierMoves after stays hand hand side side
 moves-self after stays hand side self h =
-    record { holds = h; stays_on = self side; queue_is = refl; rewrites_are = refl; plan = λ planned p. p }
+    record { holds = h; stays_on = self side; queue_is = refl; size_is = refl; rewrites_are = refl; plan = λ planned p. p }
 
 -- over these turns and those
 pub moves-on : {S : Type 0} (after : S → RoutePast → Type 0) (stays : S → S → Type 0) (a b c : RouteHand) (x y z : S) →
@@ -18,6 +18,7 @@ moves-on after stays a b c x y z on p q = record {
   holds = q.holds;
   stays_on = on x y z p.stays_on q.stays_on;
   queue_is = q.queue_is ∙ p.queue_is;
+  size_is = q.size_is ∙ p.size_is;
   rewrites_are = q.rewrites_are ∙ p.rewrites_are;
   plan = λ planned h. q.plan planned (p.plan planned h);
 }

@@ -15,13 +15,14 @@ pub record CourierHolds {S : Type 0} (after : S → RoutePast → Type 0) (hand 
 abbrev pub IsReadyCourier : {S G : Type 0} (after : S → RoutePast → Type 0) → Courier S G → Type 0
 IsReadyCourier after courier = CourierHolds after courier.hand courier.side
 
--- It still does, after turns; and these leave its FIFO, its new identifiers, the plan of its aborts, and which side it
--- is.
+-- It still does, after turns; and these leave its FIFO, its queue's size, its new identifiers, the plan of its aborts,
+-- and which side it is.
 pub record CourierMoves {S : Type 0} (after : S → RoutePast → Type 0) (stays : S → S → Type 0) (old new : RouteHand)
     (from to : S) : Type 0 where
   pub holds : CourierHolds after new to
   pub stays_on : stays from to
   pub queue_is : new.out.queue ≡ old.out.queue
+  pub size_is : new.queue ≡ old.queue
   pub rewrites_are : new.rewrites ≡ old.rewrites
   pub plan : (planned : List RouteAbort) → FromPlan planned (hand_value old) → FromPlan planned (hand_value new)
 

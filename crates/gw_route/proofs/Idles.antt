@@ -1,16 +1,19 @@
 -- Idle turns change nothing of a hand but the count of turns.
-use Rattle.std.proofs.Common.{◌≡◌, ◌+◌, min, ℕ, List, Result, Ok, Err, refl}
+use Rattle.std.proofs.Common.{◌≡◌, ◌⊎◌, ◌+◌, ◌≤◌, min, ℕ, inl, inr, List, Some, Result, Ok, Err, length}
+use Rattle.std.proofs.Common.{ap, arith, refl, subst, sym, ◌∙◌}
 use Rattle.bx_core.specs.RouteTx.{RoutePast}
 use Rattle.bx_core.specs.declared.answer.AbortAnswer.{AbortAnswer}
 use Rattle.bx_core.specs.declared.answer.AbortAnswer.TheVariants.{Ended, Asked, Gone, NotNow as Later}
 use Rattle.bx_core.specs.declared.answer.NumberTooLarge.{NumberTooLarge}
 use Rattle.bx_core.specs.declared.answer.Sent.{Sent}
 use Rattle.bx_core.specs.declared.answer.Sent.TheVariants.{Yes, NotNow}
-use Rattle.bx_rx.specs.RxOut.{none_given}
+use Rattle.bx_rx.specs.RxOut.{Outlet, none_given}
 use Rattle.gw_route.proofs.Matches.{matches-counted, matches-turns}
 use Rattle.gw_route.specs.Plans.{FromPlan}
-use Rattle.gw_route.specs.RouteHand.{HandValue, IsLinked}
-use Rattle.gw_route.specs.Turn.{TurnMade, Turned, aborted_answer, counted, idled, requested_answer}
+use Rattle.gw_route.specs.RouteHand.{HandValue, IsLinked, room_in}
+use Rattle.gw_route.specs.Turn.{Filled, HasNone, TurnMade, Turned, aborted_answer, counted, idled}
+use Rattle.gw_route.specs.Turn.{requested_answer, taken_out}
+use Rattle.gw_route.specs.Turn.Filled.{emptied, full, one, unqueued}
 use Rattle.gw_route.specs.Turn.Turned.{by_abort, by_request, idle}
 use Rattle.gw_route.specs.declared.turn_answer.TurnAnswer.{TurnAnswer}
 use Rattle.gw_route.specs.declared.turn_answer.TurnAnswer.TheVariants.{Idle}
@@ -26,17 +29,17 @@ pub planned_idled : (planned : List RouteAbort) (more : ℕ) (h : HandValue) →
     FromPlan planned (idled more h)
 planned_idled planned more h p = record { done = p.done; all = p.all; logged = p.logged }
 
--- behind an idle turn the FIFO gave nothing when it was asked last
-gave_none : (old new : HandValue) (past next : RoutePast) (answer : TurnAnswer) → Turned old new past next answer →
-    answer ≡ Idle → new.out ≡ none_given old.out
-gave_none old new past next answer (idle none held empty) is = refl
-gave_none old new past next answer (by_request entry sent none filled fits) is = absurd (not_idle sent is)
+-- an idle turn is one of a hand that has no frame to request
+has_none : (old new : HandValue) (past later : RoutePast) (answer : TurnAnswer) → Turned old new past later answer →
+    answer ≡ Idle → HasNone old new
+has_none old new past later answer (idle none has) is = has
+has_none old new past later answer (by_request entry behind sent none has fits) is = absurd (not_idle sent is)
   where
     not_idle : (sent : Result Sent NumberTooLarge) → requested_answer sent ≡ Idle → ⊥
     not_idle (Ok Yes) e = cc e
     not_idle (Ok NotNow) e = cc e
     not_idle (Err fault) e = cc e
-gave_none old new past next answer (by_abort abort ended asks first due) is = absurd (not_idle ended is)
+has_none old new past later answer (by_abort abort ended asks first due) is = absurd (not_idle ended is)
   where
     not_idle : (ended : AbortAnswer) → aborted_answer ended ≡ Idle → ⊥
     not_idle Ended e = cc e
@@ -44,8 +47,31 @@ gave_none old new past next answer (by_abort abort ended asks first due) is = ab
     not_idle Gone e = cc e
     not_idle Later e = cc e
 
+-- A hand's queue is full, or the FIFO gave nothing when it was asked last. It is so once the hand is filled,
+pub IsFull : HandValue → Type 0
+IsFull h = (size : ℕ) → h.queue ≡ Some size → (size ≤ length h.in_hand) ⊎ ((out : Outlet) × (h.out ≡ none_given out))
+
+pub full_if_filled : (h filled : HandValue) → Filled h filled → IsFull filled
+unfolding IsFull
+full_if_filled h filled (unqueued none) size is = absurd (cc (none, is))
+full_if_filled h filled (full most some held) size is =
+    let same : most ≡ size = (let both = sym some ∙ is in cc both) in inl (omega (arith, same, held))
+full_if_filled h filled (emptied most some less empty) size is = inr (h.out, refl)
+full_if_filled h filled (one most x some less then) size is = full_if_filled (taken_out h x) filled then size is
+
+-- and behind an idle turn the FIFO gave nothing when it was asked last.
 pub asked_in_vain : (after before : RoutePast → Type 0) (old new : HandValue) → IsLinked before old →
-    TurnMade before after old new Idle → new.out ≡ none_given old.out
-asked_in_vain after before old new l made =
+    TurnMade before after old new Idle → IsFull old → (out : Outlet) × (new.out ≡ none_given out)
+unfolding IsFull
+asked_in_vain after before old new l made filled =
     let acted = made l.0 l.1 (matches-counted old l.0 l.2) in
-    gave_none (counted old) new l.0 acted.0 Idle acted.2 refl
+    let none = has_none (counted old) new l.0 acted.0 Idle acted.2 refl in
+    elim none.1 [
+      | inl no_queue ↦ (old.out, ap (λ (v : HandValue). v.out) no_queue.2)
+      | inr queued ↦ elim (filled queued.0 queued.1) [
+        | inl held ↦ absurd
+            (let some : 1 ≤ queued.0 = subst (λ q. 1 ≤ room_in q) queued.1 l.2.room.0 in
+            omega (arith, some, held, ap length none.0))
+        | inr asked ↦ (asked.0, ap (λ (v : HandValue). v.out) queued.2 ∙ asked.1)
+      ]
+    ]

@@ -4,4 +4,5 @@ pub mod Matches
 pub mod Turns
 pub mod Sublists
 pub mod Plans
+pub mod Fills
 pub mod Idles

@@ -1,6 +1,6 @@
--- A hand that matches what its route's side did, before a turn, once it is filled, and after its call.
+-- A hand that matches what its route's side did, before a turn, once it has a frame to request, and after its call.
 use Rattle.std.proofs.Common.{◌≡◌, ℕ, ◌+◌, ◌<◌, ◌≤◌, ◌↔◌, inl, inr, Bool, true, false, List, [], ◌∷◌, ◌++◌, length}
-use Rattle.std.proofs.Common.{refl, sym, ◌∙◌, ap, subst, arith, Result, Ok, Err}
+use Rattle.std.proofs.Common.{add-one, append_assoc, drop, refl, sym, ◌∙◌, ap, subst, arith, Result, Ok, Err}
 use Rattle.std.specs.Prelude.{IsErr}
 use Rattle.std.proofs.lemmas.List.{append-nil, length-append, length-map, map-append}
 use Rattle.can_frame.specs.Frames.{FrameValue}
@@ -17,19 +17,19 @@ use Rattle.bx_core.specs.Steps.{last_number, greatest_number}
 use Rattle.bx_core.specs.RouteTx.{RoutePast, if_asked, after_request, after_abort}
 use Rattle.bx_core.proofs.Words.{has-right, has-left}
 use Rattle.bx_rx.specs.declared.rx_frame.RxFrame.{RxFrame}
-use Rattle.gw_route.specs.RouteHand.{HandValue, LogMatches, numbered, as_requested}
-use Rattle.gw_route.specs.Turn.{counted, taken, given, none_given, Filled, IsDue, IsDueByCount, if_requested}
+use Rattle.gw_route.specs.RouteHand.{HandValue, LogMatches, as_requested, entry_of, numbered, room_in}
+use Rattle.gw_route.specs.Turn.{counted, none_given, taken_out, HasNext, HasNone, IsDue, IsDueByCount, if_requested}
 use Rattle.gw_route.specs.Turn.{if_aborted, next_turn}
 use Rattle.gw_route.specs.declared.route_abort.RouteAbort.{RouteAbort}
 use Rattle.gw_route.proofs.Lists.{has-either}
-use Rattle.gw_route.proofs.Numbered.{length-numbered, numbered-append, last_of-numbered, last-numbered, has-numbered}
+use Rattle.gw_route.proofs.Numbered.{length-numbered, numbered-append, last_of-numbered, number-behind, has-numbered}
 use Rattle.gw_route.proofs.Numbered.{numbered-bounds}
 
 -- as many are requested as released
 length-as-requested : (h : HandValue) → length (as_requested h) ≡ length h.released
 length-as-requested h = length-map h.released (rewritten h.rewrites)
 
--- all numbers that were given out are requested, but the one in the hand
+-- all numbers that were given out are requested, but those in the hand
 pub tickets-requested : (h : HandValue) (past : RoutePast) → LogMatches h past →
     length past.requested + length h.in_hand ≡ h.tickets
 tickets-requested h past l = omega (
@@ -66,7 +66,8 @@ pub matches-turns : (turns : ℕ) (h : HandValue) (past : RoutePast) → LogMatc
     LogMatches (record h { turns = turns }) past
 matches-turns turns h past l = record {
   log = l.log;
-  one_hand = l.one_hand;
+  few_held = l.few_held;
+  room = l.room;
   tickets_is = l.tickets_is;
   limit = l.limit;
   ended = l.ended;
@@ -81,7 +82,8 @@ matches-counted h past l = matches-turns (next_turn h.turns) h past l
 pub matches-asked : (h : HandValue) (past : RoutePast) → LogMatches h past → LogMatches (none_given h) past
 matches-asked h past l = record {
   log = l.log;
-  one_hand = l.one_hand;
+  few_held = l.few_held;
+  room = l.room;
   tickets_is = l.tickets_is;
   limit = l.limit;
   ended = l.ended;
@@ -89,19 +91,21 @@ matches-asked h past l = record {
   known = l.known;
 }
 
-matches-taken : (h : HandValue) (past : RoutePast) (x : RxFrame) → h.in_hand ≡ [] → LogMatches h past →
-    LogMatches (taken (given h x) x.frame) past
-matches-taken h past x empty l =
+-- a frame more comes into the hand, for which there is room
+pub matches-taken : (h : HandValue) (past : RoutePast) (x : RxFrame) → length h.in_hand < room_in h.queue →
+    LogMatches h past → LogMatches (taken_out h x) past
+matches-taken h past x less l =
     let new : FrameValue = rewritten h.rewrites x.frame in
+    let entry : Entry = entry_of h x.frame in
     let next : h.tickets + 1 ≡ 1 + length (as_requested h) = omega (arith, l.tickets_is, length-as-requested h) in
-    let front : past.requested ≡ numbered 1 (as_requested h) =
-    sym (append-nil past.requested) ∙ ap (λ (v : List Entry). past.requested ++ v) (sym empty) ∙ l.log in
     record {
-      log = ap (λ (v : List Entry). v ++ record { number = h.tickets + 1; frame = new } ∷ []) front
+      log = sym (append_assoc past.requested h.in_hand (entry ∷ []))
+          ∙ ap (λ (v : List Entry). v ++ entry ∷ []) l.log
           ∙ ap (λ k. numbered 1 (as_requested h) ++ numbered k (new ∷ [])) next
           ∙ sym (numbered-append 1 (as_requested h) (new ∷ []))
           ∙ ap (numbered 1) (sym (map-append (rewritten h.rewrites) h.released (x.frame ∷ [])));
-      one_hand = omega arith;
+      few_held = omega (arith, less, length-append h.in_hand (entry ∷ []));
+      room = l.room;
       tickets_is = omega (arith, l.tickets_is, length-append h.released (x.frame ∷ []));
       limit = l.limit;
       ended = l.ended;
@@ -109,20 +113,28 @@ matches-taken h past x empty l =
       known = l.known;
     }
 
-pub matches-filled : (h filled : HandValue) (past : RoutePast) (e : Entry) → Filled h filled e → LogMatches h past →
-    LogMatches filled past
-matches-filled h filled past e f l = elim (f.1) [
+pub matches-next : (h next : HandValue) (past : RoutePast) (e : Entry) (behind : List Entry) →
+    HasNext h next e behind → LogMatches h past → LogMatches next past
+matches-next h next past e behind has l = elim has.1 [
   | inl same ↦ subst (λ (v : HandValue). LogMatches v past) (sym same) l
-  | inr new ↦ subst (λ (v : HandValue). LogMatches v past) (sym new.2) (matches-taken h past new.0 new.1 l)
+  | inr new ↦ subst (λ (v : HandValue). LogMatches v past) (sym new.3)
+      (matches-taken h past new.0 (omega (arith, ap length new.1, l.room.0)) l)
 ]
 
--- the frame in the hand has the next number
-pub number-filled : (h : HandValue) (past : RoutePast) (e : Entry) → h.in_hand ≡ e ∷ [] → LogMatches h past →
-    e.number ≡ length past.requested + 1
-number-filled h past e held l =
-    let joined : past.requested ++ e ∷ [] ≡ numbered 1 (as_requested h) =
+pub matches-none : (h next : HandValue) (past : RoutePast) → HasNone h next → LogMatches h past → LogMatches next past
+matches-none h next past has l = elim has.1 [
+  | inl unqueued ↦ subst (λ (v : HandValue). LogMatches v past) (sym unqueued.2) (matches-asked h past l)
+  | inr queued ↦ subst (λ (v : HandValue). LogMatches v past) (sym queued.2) l
+]
+
+-- the first frame in the hand has the next number
+pub number-next : (h : HandValue) (past : RoutePast) (e : Entry) (behind : List Entry) → h.in_hand ≡ e ∷ behind →
+    LogMatches h past → e.number ≡ length past.requested + 1
+number-next h past e behind held l =
+    let joined : past.requested ++ e ∷ behind ≡ numbered 1 (as_requested h) =
     ap (λ (v : List Entry). past.requested ++ v) (sym held) ∙ l.log in
-    let high : e.number ≡ 0 + length past.requested + 1 = last-numbered 0 (as_requested h) past.requested e joined in
+    let high : e.number ≡ 0 + length past.requested + 1 =
+    number-behind 0 (as_requested h) past.requested e behind joined in
     omega (arith, high)
 
 -- a past that requested nothing more
@@ -133,7 +145,8 @@ matches-refused h past next req ab ask l =
     let same : next.requested ≡ past.requested = req ∙ append-nil past.requested in
     record {
       log = ap (λ (v : List Entry). v ++ h.in_hand) same ∙ l.log;
-      one_hand = l.one_hand;
+      few_held = l.few_held;
+      room = l.room;
       tickets_is = l.tickets_is;
       limit = omega (arith, l.limit, ap length same);
       ended = λ n k. l.ended n (subst (λ (v : List ℕ). Has v n) ab k);
@@ -141,29 +154,35 @@ matches-refused h past next req ab ask l =
       known = λ n k. subst (λ (v : List Entry). Has (numbers v) n) (sym same) (l.known n k);
     }
 
-pub matches-requested : (h : HandValue) (past : RoutePast) (e : Entry) (answer : Result Sent NumberTooLarge) →
-    h.in_hand ≡ e ∷ [] →
+pub matches-requested : (h : HandValue) (past : RoutePast) (e : Entry) (behind : List Entry)
+    (answer : Result Sent NumberTooLarge) →
+    h.in_hand ≡ e ∷ behind →
     IsErr answer ↔ (greatest_number < e.number) → LogMatches h past →
     LogMatches (if_requested answer h) (after_request past e.number e.frame answer)
-matches-requested h past e (Ok Yes) held limit l =
+matches-requested h past e behind (Ok Yes) held limit l =
     let low : e.number ≤ greatest_number =
     (let refused : (greatest_number < e.number) → ⊥ = λ k. (let never : false ≡ true = limit.1 k in cc) in
     omega (arith, refused)) in
     let size : length (past.requested ++ e ∷ []) ≡ length past.requested + 1 = length-append past.requested (e ∷ []) in
+    let left : drop 1 h.in_hand ≡ behind = ap (drop 1) held in
+    let fewer : length h.in_hand ≡ length behind + 1 = ap length held ∙ sym (add-one (length behind)) in
     record {
-      log = append-nil (past.requested ++ e ∷ []) ∙ ap (λ (v : List Entry). past.requested ++ v) (sym held) ∙ l.log;
-      one_hand = omega arith;
+      log = ap (λ (v : List Entry). (past.requested ++ e ∷ []) ++ v) left
+          ∙ append_assoc past.requested (e ∷ []) behind
+          ∙ ap (λ (v : List Entry). past.requested ++ v) (sym held) ∙ l.log;
+      few_held = omega (arith, fewer, ap length left, l.few_held);
+      room = l.room;
       tickets_is = l.tickets_is;
-      limit = omega (arith, size, low, number-filled h past e held l);
+      limit = omega (arith, size, low, number-next h past e behind held l);
       ended = l.ended;
       asked = l.asked;
       known = λ n k. subst (λ (v : List ℕ). Has v n)
           (sym (map-append (λ (x : Entry). x.number) past.requested (e ∷ [])))
           (has-left (numbers past.requested) (e.number ∷ []) n (l.known n k));
     }
-matches-requested h past e (Ok NotNow) held limit l =
+matches-requested h past e behind (Ok NotNow) held limit l =
     matches-refused h past (after_request past e.number e.frame (Ok NotNow)) refl refl refl l
-matches-requested h past e (Err why) held limit l =
+matches-requested h past e behind (Err why) held limit l =
     matches-refused h past (after_request past e.number e.frame (Err why)) refl refl refl l
 
 -- a list that is reported one number more, or none
@@ -201,7 +220,8 @@ pub matches-aborted : (h : HandValue) (past : RoutePast) (number : ℕ) (answer 
     LogMatches h past → LogMatches (if_aborted answer number h) (after_abort past number answer asks)
 matches-aborted h past number Ended asks known l = record {
   log = l.log;
-  one_hand = l.one_hand;
+  few_held = l.few_held;
+  room = l.room;
   tickets_is = l.tickets_is;
   limit = l.limit;
   ended = grows past.aborted (number ∷ []) (past.aborted ++ number ∷ []) h.aborted number refl (just number) l.ended;
@@ -210,7 +230,8 @@ matches-aborted h past number Ended asks known l = record {
 }
 matches-aborted h past number Asked asks known l = record {
   log = l.log;
-  one_hand = l.one_hand;
+  few_held = l.few_held;
+  room = l.room;
   tickets_is = l.tickets_is;
   limit = l.limit;
   ended = grows past.aborted [] (past.aborted ++ []) h.aborted number refl (none_of number) l.ended;
@@ -220,7 +241,8 @@ matches-aborted h past number Asked asks known l = record {
 }
 matches-aborted h past number Gone asks known l = record {
   log = l.log;
-  one_hand = l.one_hand;
+  few_held = l.few_held;
+  room = l.room;
   tickets_is = l.tickets_is;
   limit = l.limit;
   ended = λ n k. l.ended n (subst (λ (v : List ℕ). Has v n) (append-nil past.aborted) k);
@@ -229,7 +251,8 @@ matches-aborted h past number Gone asks known l = record {
 }
 matches-aborted h past number Later asks known l = record {
   log = l.log;
-  one_hand = l.one_hand;
+  few_held = l.few_held;
+  room = l.room;
   tickets_is = l.tickets_is;
   limit = l.limit;
   ended = λ n k. l.ended n (subst (λ (v : List ℕ). Has v n) (append-nil past.aborted) k);

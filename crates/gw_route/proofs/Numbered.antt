@@ -37,15 +37,15 @@ last_of-numbered n (f ∷ fs) (x ∷ xs) ys e =
     let more : n + 1 + length xs ≡ n + suc (length xs) = omega arith in
     ap (λ k. last_of k xs) a ∙ last_of-numbered (n + 1) fs xs ys r ∙ more
 
--- the number of the last one
-pub last-numbered : (n : ℕ) (fs : List FrameValue) (xs : List Entry) (x : Entry) → xs ++ x ∷ [] ≡ numbered (n + 1) fs →
-    x.number ≡ n + length xs + 1
-last-numbered n [] [] x e = absurd (cc)
-last-numbered n [] (y ∷ xs) x e = absurd (cc)
-last-numbered n (f ∷ fs) [] x e = omega (arith, first_number (n + 1) f fs x [] [] e)
-last-numbered n (f ∷ fs) (y ∷ xs) x e =
-    let r : xs ++ x ∷ [] ≡ numbered (n + 1 + 1) fs = cc in
-    omega (arith, last-numbered (n + 1) fs xs x r)
+-- the number of the one behind those at the front
+pub number-behind : (n : ℕ) (fs : List FrameValue) (xs : List Entry) (x : Entry) (ys : List Entry) → xs
+    ++ x ∷ ys ≡ numbered (n + 1) fs → x.number ≡ n + length xs + 1
+number-behind n [] [] x ys e = absurd (cc)
+number-behind n [] (y ∷ xs) x ys e = absurd (cc)
+number-behind n (f ∷ fs) [] x ys e = omega (arith, first_number (n + 1) f fs x [] ys e)
+number-behind n (f ∷ fs) (y ∷ xs) x ys e =
+    let r : xs ++ x ∷ ys ≡ numbered (n + 1 + 1) fs = cc in
+    omega (arith, number-behind (n + 1) fs xs x ys r)
 
 -- each number up to the last at the front stands there
 pub has-numbered : (n k : ℕ) (fs : List FrameValue) (xs ys : List Entry) → xs ++ ys ≡ numbered (n + 1) fs → n < k →

@@ -9,13 +9,14 @@ use Rattle.bx_core.specs.declared.answer.AbortAnswer.TheVariants.{Ended, Asked, 
 use Rattle.bx_core.specs.declared.answer.NumberTooLarge.{NumberTooLarge}
 use Rattle.bx_core.specs.declared.entry.Entry.{Entry}
 use Rattle.bx_core.specs.RouteTx.{RoutePast}
-use Rattle.gw_route.specs.RouteHand.{HandValue, IsLinked, LogMatches}
-use Rattle.gw_route.specs.Turn.{next_turn, counted, first_abort, Filled, if_requested, if_aborted, Turned, TurnMade}
+use Rattle.gw_route.specs.RouteHand.{HandValue, IsLinked}
+use Rattle.gw_route.specs.Turn.{next_turn, counted, first_abort, HasNext, HasNone, if_requested, if_aborted, Turned, TurnMade}
 use Rattle.gw_route.specs.Turn.Turned.{idle, by_request, by_abort}
 use Rattle.gw_route.specs.declared.route_abort.RouteAbort.{RouteAbort}
 use Rattle.gw_route.specs.declared.turn_answer.TurnAnswer.{TurnAnswer}
 use Rattle.gw_route.specs.Plans.{numbers_in, FromPlan}
 use Rattle.gw_route.specs.Sublists.{IsSublist}
+use Rattle.gw_route.proofs.Matches.{matches-counted}
 use Rattle.gw_route.proofs.Sublists.{sublist_more, sublist_push}
 
 -- the first of them, and the others
@@ -23,11 +24,19 @@ first_and_rest : (xs : List RouteAbort) (a : RouteAbort) → slice_get xs 0 ≡ 
 first_and_rest [] a e = absurd (cc e)
 first_and_rest (x ∷ xs) a e = (let same : x ≡ a = cc e in ap (λ y. y ∷ xs) same)
 
-filled_keeps : (planned : List RouteAbort) (h filled : HandValue) (entry : Entry) → Filled h filled entry →
-    FromPlan planned h → FromPlan planned filled
-filled_keeps planned h filled entry f p = elim f.1 [
+next_keeps : (planned : List RouteAbort) (h next : HandValue) (entry : Entry) (behind : List Entry) →
+    HasNext h next entry behind → FromPlan planned h → FromPlan planned next
+next_keeps planned h next entry behind has p = elim has.1 [
   | inl same ↦ subst (FromPlan planned) (sym same) p
-  | inr more ↦ subst (FromPlan planned) (sym more.2) (record { done = p.done; all = p.all; logged = p.logged })
+  | inr more ↦ subst (FromPlan planned) (sym more.3) (record { done = p.done; all = p.all; logged = p.logged })
+]
+
+none_keeps : (planned : List RouteAbort) (h next : HandValue) → HasNone h next → FromPlan planned h →
+    FromPlan planned next
+none_keeps planned h next has p = elim has.1 [
+  | inl unqueued ↦ subst (FromPlan planned) (sym unqueued.2)
+      (record { done = p.done; all = p.all; logged = p.logged })
+  | inr queued ↦ subst (FromPlan planned) (sym queued.2) p
 ]
 
 asked_keeps : (planned : List RouteAbort) (h : HandValue) (answer : Result Sent NumberTooLarge) → FromPlan planned h →
@@ -72,10 +81,9 @@ aborted_keeps planned h abort Later first p = p
 
 turned_keeps : (planned : List RouteAbort) (old new : HandValue) (past next : RoutePast) (answer : TurnAnswer) →
     Turned old new past next answer → FromPlan planned old → FromPlan planned new
-turned_keeps planned old new past next answer (idle none_due empty is) p =
-    record { done = p.done; all = p.all; logged = p.logged }
-turned_keeps planned old new past next answer (by_request {filled = filled} entry sent none_due f limit) p =
-    asked_keeps planned filled sent (filled_keeps planned old filled entry f p)
+turned_keeps planned old new past later answer (idle none_due has) p = none_keeps planned old new has p
+turned_keeps planned old new past later answer (by_request {next = next} entry behind sent none_due has limit) p =
+    asked_keeps planned next sent (next_keeps planned old next entry behind has p)
 turned_keeps planned old new past next answer (by_abort abort given asks first due) p =
     aborted_keeps planned old abort given first p
 
@@ -83,24 +91,21 @@ pub turn_keeps : (planned : List RouteAbort) (after after' : RoutePast → Type 
     (answer : TurnAnswer) → IsLinked after old → TurnMade after after' old new answer →
     FromPlan planned old → FromPlan planned new
 turn_keeps planned after after' old new answer linked made p =
-    let counted_matches : LogMatches (counted old) linked.0 =
-    record {
-      log = linked.2.log;
-      one_hand = linked.2.one_hand;
-      tickets_is = linked.2.tickets_is;
-      limit = linked.2.limit;
-      ended = linked.2.ended;
-      asked = linked.2.asked;
-      known = linked.2.known;
-    } in
-    let t = made linked.0 linked.1 counted_matches in
+    let t = made linked.0 linked.1 (matches-counted old linked.0 linked.2) in
     turned_keeps planned (counted old) new linked.0 t.0 answer t.2
     (record { done = p.done; all = p.all; logged = p.logged })
 
-filled_counts : (h filled : HandValue) (entry : Entry) → Filled h filled entry → filled.turns ≡ h.turns
-filled_counts h filled entry f = elim f.1 [
+next_counts : (h next : HandValue) (entry : Entry) (behind : List Entry) → HasNext h next entry behind →
+    next.turns ≡ h.turns
+next_counts h next entry behind has = elim has.1 [
   | inl same ↦ ap (λ (v : HandValue). v.turns) same
-  | inr more ↦ ap (λ (v : HandValue). v.turns) more.2
+  | inr more ↦ ap (λ (v : HandValue). v.turns) more.3
+]
+
+none_counts : (h next : HandValue) → HasNone h next → next.turns ≡ h.turns
+none_counts h next has = elim has.1 [
+  | inl unqueued ↦ ap (λ (v : HandValue). v.turns) unqueued.2
+  | inr queued ↦ ap (λ (v : HandValue). v.turns) queued.2
 ]
 
 asked_counts : (h : HandValue) (answer : Result Sent NumberTooLarge) → (if_requested answer h).turns ≡ h.turns
@@ -116,24 +121,14 @@ aborted_counts h Later n = refl
 
 turned_counts : (old new : HandValue) (past next : RoutePast) (answer : TurnAnswer) → Turned old new past next answer →
     new.turns ≡ old.turns
-turned_counts old new past next answer (idle none_due empty is) = refl
-turned_counts old new past next answer (by_request {filled = filled} entry sent none_due f limit) =
-    asked_counts filled sent ∙ filled_counts old filled entry f
+turned_counts old new past later answer (idle none_due has) = none_counts old new has
+turned_counts old new past later answer (by_request {next = next} entry behind sent none_due has limit) =
+    asked_counts next sent ∙ next_counts old next entry behind has
 turned_counts old new past next answer (by_abort abort given asks first due) = aborted_counts old given abort.number
 
 -- a turn counts
 pub turn_counts : (after after' : RoutePast → Type 0) (old new : HandValue) (answer : TurnAnswer) → IsLinked after old →
     TurnMade after after' old new answer → new.turns ≡ next_turn old.turns
 turn_counts after after' old new answer linked made =
-    let counted_matches : LogMatches (counted old) linked.0 =
-    record {
-      log = linked.2.log;
-      one_hand = linked.2.one_hand;
-      tickets_is = linked.2.tickets_is;
-      limit = linked.2.limit;
-      ended = linked.2.ended;
-      asked = linked.2.asked;
-      known = linked.2.known;
-    } in
-    let t = made linked.0 linked.1 counted_matches in
+    let t = made linked.0 linked.1 (matches-counted old linked.0 linked.2) in
     turned_counts (counted old) new linked.0 t.0 answer t.2

@@ -1,6 +1,6 @@
 -- A route's hand, between a receive FIFO and the transmit mailboxes of two controllers (RM0008, bxCAN,
 -- "Reception handling" and "Transmission handling").
-use Rattle.std.specs.Prelude.{◌≡◌, ℕ, ◌+◌, ◌≤◌, List, [], ◌∷◌, ◌++◌, length, map, option_to_list}
+use Rattle.std.specs.Prelude.{◌≡◌, ℕ, ◌+◌, ◌≤◌, List, [], ◌∷◌, ◌++◌, length, map, Option, Some, None, option_to_list}
 use Rattle.can_frame.specs.Frames.{FrameValue}
 use Rattle.can_frame.specs.Rewrites.{rewritten}
 use Rattle.can_frame.specs.declared.rewrite.Rewrite.{Rewrite}
@@ -18,8 +18,10 @@ use Rattle.gw_route.specs.declared.route_hand.RouteHand.{RouteHand}
 pub record HandValue : Type 0 where
   -- the FIFO, and what it released
   pub out : Outlet
-  -- the frame in the hand, or none
+  -- the frames in the hand, which were released and numbered, the next one to be requested first
   pub in_hand : List Entry
+  -- the size of its queue: how many frames it takes out of the FIFO before turns are made; none where a turn takes one
+  pub queue : Option ℕ
   -- the number that was given out last
   pub tickets : ℕ
   pub turns : ℕ
@@ -34,7 +36,8 @@ pub record HandValue : Type 0 where
 abbrev pub hand_value : RouteHand → HandValue
 hand_value h = record {
   out = h.out;
-  in_hand = option_to_list h.hand;
+  in_hand = option_to_list h.hand ++ h.queued.items;
+  queue = h.queue;
   tickets = h.tickets;
   turns = h.turns;
   aborts = h.aborts.items;
@@ -44,19 +47,27 @@ hand_value h = record {
 }
 
 -- a hand that made no turn
-abbrev pub new_hand : Outlet → List RouteAbort → List Rewrite → HandValue
-new_hand out aborts rewrites =
-    record {
-      out = out;
-      in_hand = [];
-      tickets = 0;
-      turns = 0;
-      aborts = aborts;
-      released = [];
-      aborted = [];
-      rewrites =
-          rewrites;
-    }
+abbrev pub new_hand : Outlet → Option ℕ → List RouteAbort → List Rewrite → HandValue
+new_hand out queue aborts rewrites = record {
+  out = out;
+  in_hand = [];
+  queue = queue;
+  tickets = 0;
+  turns = 0;
+  aborts = aborts;
+  released = [];
+  aborted = [];
+  rewrites = rewrites;
+}
+
+-- how many frames it may hold: as many as its queue's size, and one without a queue
+abbrev pub room_in : Option ℕ → ℕ
+room_in None = 1
+room_in (Some size) = size
+
+-- a queue has room for 1 to 1,024 frames
+abbrev pub IsQueueSize : ℕ → Type 0
+IsQueueSize size = (1 ≤ size) × (size ≤ 1024)
 
 -- the frames among what a FIFO released
 abbrev pub frames_of : List RxFrame → List FrameValue
@@ -70,6 +81,10 @@ LogsReleased h = h.released ≡ frames_of h.out.released
 abbrev pub as_requested : HandValue → List FrameValue
 as_requested h = map (rewritten h.rewrites) h.released
 
+-- the next frame, with its number and its new identifier
+abbrev pub entry_of : HandValue → FrameValue → Entry
+entry_of h frame = record { number = h.tickets + 1; frame = rewritten h.rewrites frame }
+
 -- frames with their numbers, which go up by one from the first
 abbrev pub numbered : ℕ → List FrameValue → List Entry
 numbered number [] = []
@@ -77,9 +92,10 @@ numbered number (f ∷ fs) = record { number = number; frame = f } ∷ numbered 
 
 -- The link between a hand and what its route's side of the mailboxes did.
 pub record LogMatches (h : HandValue) (past : RoutePast) : Type 0 where
-  -- requested is the log's frames, under their new identifiers and with their numbers, but for the frame in the hand
+  -- requested is the log's frames, under their new identifiers and with their numbers, but for the frames in the hand
   pub log : past.requested ++ h.in_hand ≡ numbered 1 (as_requested h)
-  pub one_hand : length h.in_hand ≤ 1
+  pub few_held : length h.in_hand ≤ room_in h.queue
+  pub room : IsQueueSize (room_in h.queue)
   pub tickets_is : h.tickets ≡ length h.released
   pub limit : length past.requested ≤ greatest_number
   -- the log's aborted numbers hold those answered Ended and Asked, and all of them were requested
@@ -90,3 +106,11 @@ pub record LogMatches (h : HandValue) (past : RoutePast) : Type 0 where
 -- the route's side may have done something that the hand matches
 abbrev pub IsLinked : (RoutePast → Type 0) → HandValue → Type 0
 IsLinked after h = (past : RoutePast) × (after past) × LogMatches h past
+
+-- it matches something that the route's side may have done
+abbrev pub HasPast : HandValue → Type 0
+HasPast h = (past : RoutePast) × LogMatches h past
+
+-- it takes from the same FIFO, and its queue's size and its new identifiers are the same
+abbrev pub IsTied : RouteHand → RouteHand → Type 0
+IsTied old new = (new.out.queue ≡ old.out.queue) × (new.queue ≡ old.queue) × (new.rewrites ≡ old.rewrites)

@@ -1,8 +1,8 @@
--- One turn of a route: an abort that is due, or else a request of the frame in the hand.
-use Rattle.std.specs.Prelude.{◌≡◌, ℕ, ◌+◌, ◌/◌, ◌<◌, ◌≤◌, ◌↔◌, ◌⊎◌, min, nat_lt, if◌then◌else◌, Bool, List, []}
-use Rattle.std.specs.Prelude.{◌∷◌, ◌++◌, length, remove, slice_get, Option, Some, Result, Ok, Err, IsErr}
+-- One turn of a route: an abort that is due, or else a request of the first frame in the hand. And how a hand with a
+-- queue is filled before that.
+use Rattle.std.specs.Prelude.{◌≡◌, ℕ, ◌+◌, ◌/◌, ◌<◌, ◌≤◌, ◌↔◌, ◌⊎◌, min, nat_lt, if◌then◌else◌, Bool, true, false, List, []}
+use Rattle.std.specs.Prelude.{◌∷◌, ◌++◌, drop, length, remove, slice_get, Option, Some, None, Result, Ok, Err, IsErr}
 use Rattle.can_frame.specs.Frames.{FrameValue}
-use Rattle.can_frame.specs.Rewrites.{rewritten}
 use Rattle.bx_core.specs.declared.entry.Entry.{Entry}
 use Rattle.bx_core.specs.declared.answer.Sent.{Sent}
 use Rattle.bx_core.specs.declared.answer.Sent.TheVariants.{Yes, NotNow}
@@ -16,7 +16,7 @@ use Rattle.bx_core.specs.RouteTx.{RoutePast, after_request, after_abort}
 use Rattle.bx_rx.specs.RxOut as outlet
 use Rattle.bx_rx.specs.RxOut.{WasEmpty}
 use Rattle.bx_rx.specs.declared.rx_frame.RxFrame.{RxFrame}
-use Rattle.gw_route.specs.RouteHand.{HandValue, LogMatches}
+use Rattle.gw_route.specs.RouteHand.{HandValue, LogMatches, LogsReleased, entry_of}
 use Rattle.gw_route.specs.declared.route_abort.RouteAbort.{RouteAbort}
 use Rattle.gw_route.specs.declared.turn_answer.TurnAnswer.{TurnAnswer}
 use Rattle.gw_route.specs.declared.turn_answer.TurnAnswer.TheVariants.{Idle, Requested, AbortDone, Waiting}
@@ -42,7 +42,7 @@ pub record IsDue (turns : ℕ) (requested : List Entry) (abort : RouteAbort) : T
   pub reached : abort.turn ≤ turns
   pub known : Has (numbers requested) abort.number
 
--- the same as the hand alone tells it: all numbers that were given out are requested, but the one in the hand
+-- the same as the hand alone tells it: all numbers that were given out are requested, but those in the hand
 pub record IsDueByCount (h : HandValue) (abort : RouteAbort) : Type 0 where
   pub reached : abort.turn ≤ h.turns
   pub positive : 0 < abort.number
@@ -52,13 +52,13 @@ pub record IsDueByCount (h : HandValue) (abort : RouteAbort) : Type 0 where
 abbrev pub NoneIsDue : HandValue → RoutePast → Type 0
 NoneIsDue h past = (abort : RouteAbort) → first_abort h ≡ Some abort → IsDue h.turns past.requested abort → ⊥
 
--- a frame comes into the hand under the next number and its new identifier, and into the log as it was
+-- a frame is noted in the log as it was, and the next number is given out for it
+abbrev pub noted : HandValue → FrameValue → HandValue
+noted h frame = record h { tickets = h.tickets + 1; released = h.released ++ frame ∷ [] }
+
+-- and it comes into the hand, behind the frames there
 abbrev pub taken : HandValue → FrameValue → HandValue
-taken h frame = record h {
-  in_hand = record { number = h.tickets + 1; frame = rewritten h.rewrites frame } ∷ [];
-  tickets = h.tickets + 1;
-  released = h.released ++ frame ∷ [];
-}
+taken h frame = record (noted h frame) { in_hand = h.in_hand ++ entry_of h frame ∷ [] }
 
 -- the FIFO was asked, and released this, or nothing
 abbrev pub given : HandValue → RxFrame → HandValue
@@ -67,14 +67,39 @@ given h x = record h { out = outlet.given h.out x }
 abbrev pub none_given : HandValue → HandValue
 none_given h = record h { out = outlet.none_given h.out }
 
--- what is in the hand once it is filled: what was there, or else a frame that the FIFO released
-abbrev pub Filled : HandValue → HandValue → Entry → Type 0
-Filled h filled entry = (filled.in_hand ≡ entry ∷ [])
-    × ((filled ≡ h) ⊎ ((x : RxFrame) × (h.in_hand ≡ []) × (filled ≡ taken (given h x) x.frame)))
+-- the FIFO is asked, and what it releases comes into the hand
+abbrev pub taken_out : HandValue → RxFrame → HandValue
+taken_out h x = taken (given h x) x.frame
 
--- the hand after a request of its frame: it is empty where the answer is Yes, and else as before
+-- the FIFO is asked, and a frame that it releases comes into the hand
+abbrev pub TakesOne : Bool → HandValue → HandValue → Type 0
+TakesOne true h new = (x : RxFrame) × (new ≡ taken_out h x)
+TakesOne false h new = (new ≡ none_given h) × WasEmpty h.out
+
+-- The hand fills its queue out of the FIFO, until there is no room for more or the FIFO is empty. Without a queue it
+-- takes nothing.
+pub data Filled : HandValue → HandValue → Type 0 where
+  unqueued : {h : HandValue} → h.queue ≡ None → Filled h h
+  full : {h : HandValue} (size : ℕ) → h.queue ≡ Some size → size ≤ length h.in_hand → Filled h h
+  emptied : {h : HandValue} (size : ℕ) → h.queue ≡ Some size → length h.in_hand < size → WasEmpty h.out →
+      Filled h (none_given h)
+  one : {h filled : HandValue} (size : ℕ) (x : RxFrame) → h.queue ≡ Some size → length h.in_hand < size →
+      Filled (taken_out h x) filled → Filled h filled
+
+-- in its turn a hand has a frame to request: the first one in it, or, where it is empty and has no queue, the next one
+-- of the FIFO
+abbrev pub HasNext : HandValue → HandValue → Entry → List Entry → Type 0
+HasNext h next entry behind = (next.in_hand ≡ entry ∷ behind)
+    × ((next ≡ h) ⊎ ((x : RxFrame) × (h.in_hand ≡ []) × (h.queue ≡ None) × (next ≡ taken_out h x)))
+
+-- in its turn a hand has no frame to request: with a queue it doesn't ask the FIFO
+abbrev pub HasNone : HandValue → HandValue → Type 0
+HasNone h next = (h.in_hand ≡ [])
+    × (((h.queue ≡ None) × WasEmpty h.out × (next ≡ none_given h)) ⊎ ((size : ℕ) × (h.queue ≡ Some size) × (next ≡ h)))
+
+-- the hand after a request of its first frame, which leaves it where the answer is Yes
 abbrev pub if_requested : Result Sent NumberTooLarge → HandValue → HandValue
-if_requested (Ok Yes) h = record h { in_hand = [] }
+if_requested (Ok Yes) h = record h { in_hand = drop 1 h.in_hand }
 if_requested (Ok NotNow) h = h
 if_requested (Err e) h = h
 
@@ -104,15 +129,16 @@ aborted_answer Asked = AbortDone
 aborted_answer Gone = AbortDone
 aborted_answer Later = Waiting
 
--- What a turn does to the hand and on the route's side, by its answer: one call at most. It is idle only where the FIFO
--- was asked and gave nothing. A request is of the frame in the hand, unchanged and under its number.
+-- What a turn does to the hand and on the route's side, by its answer: one call at most. It is idle only where nothing is
+-- in the hand, and, without a queue, the FIFO was asked and gave nothing. A request is of the first frame in the hand,
+-- unchanged and under its number.
 pub data Turned : HandValue → HandValue → RoutePast → RoutePast → TurnAnswer → Type 0 where
-  idle : {h : HandValue} {past : RoutePast} → NoneIsDue h past → h.in_hand ≡ [] → WasEmpty h.out →
-      Turned h (none_given h) past past Idle
-  by_request : {h filled : HandValue} {past : RoutePast} (entry : Entry) (answer : Result Sent NumberTooLarge) →
+  idle : {h next : HandValue} {past : RoutePast} → NoneIsDue h past → HasNone h next → Turned h next past past Idle
+  by_request : {h next : HandValue} {past : RoutePast} (entry : Entry) (behind : List Entry)
+      (answer : Result Sent NumberTooLarge) →
       NoneIsDue h past →
-      Filled h filled entry → IsErr answer ↔ (greatest_number < entry.number) →
-      Turned h (if_requested answer filled) past (after_request past entry.number entry.frame answer)
+      HasNext h next entry behind → IsErr answer ↔ (greatest_number < entry.number) →
+      Turned h (if_requested answer next) past (after_request past entry.number entry.frame answer)
       (requested_answer answer)
   by_abort : {h : HandValue} {past : RoutePast} (abort : RouteAbort) (answer : AbortAnswer) (asks : Bool) →
       first_abort h ≡ Some abort →
@@ -128,6 +154,16 @@ Acted after after' old new answer = (past : RoutePast) → after past → LogMat
 -- a turn, which is counted first
 abbrev pub TurnMade : (RoutePast → Type 0) → (RoutePast → Type 0) → HandValue → HandValue → TurnAnswer → Type 0
 TurnMade after after' old new answer = Acted after after' (counted old) new answer
+
+-- filling keeps what the hand matches and its log, and changes no count, no abort and no identifier
+pub record FillKeeps (old new : HandValue) : Type 0 where
+  pub matches : (past : RoutePast) → LogMatches old past → LogMatches new past
+  pub log : LogsReleased old → LogsReleased new
+  pub queue_is : new.queue ≡ old.queue
+  pub turns_is : new.turns ≡ old.turns
+  pub aborts_is : new.aborts ≡ old.aborts
+  pub aborted_is : new.aborted ≡ old.aborted
+  pub rewrites_is : new.rewrites ≡ old.rewrites
 
 -- after a turn the hand matches what the route's side did, where it did before
 abbrev pub TurnKeeps : HandValue → HandValue → TurnAnswer → Type 0

@@ -1,7 +1,7 @@
 //! A route's hand.
 ghost use Rattle.std.specs.Prelude.{◌≡◌, ℕ, ◌+◌, ◌<◌, ◌≤◌, ◌↔◌, Bool, List, [], ◌∷◌, ◌++◌, Option, Some, None};
 ghost use Rattle.std.specs.Prelude.{Result, IfOk, OnOk, OnErr, IfSome, IfNone, IsErr, IsTrue, MatchOption, vec_len};
-ghost use Rattle.std.specs.Prelude.{vec_capacity, slice_get, true, false};
+ghost use Rattle.std.specs.Prelude.{length, vec_capacity, slice_get, true, false};
 ghost use Rattle.bx_core.specs.declared.answer.Sent.{Sent};
 ghost use Rattle.bx_core.specs.declared.answer.AbortAnswer.{AbortAnswer};
 ghost use Rattle.bx_core.specs.declared.answer.NumberTooLarge.{NumberTooLarge};
@@ -11,10 +11,12 @@ ghost use Rattle.bx_rx.specs.RxOut.{IsReleased};
 ghost use Rattle.gw_route.specs.Heard.{HearsTurn};
 ghost use Rattle.gw_route.specs.Plans.{FromPlan};
 ghost use Rattle.gw_route.specs.declared.route_abort.RouteAbort.{RouteAbort};
-ghost use Rattle.gw_route.specs.RouteHand.{hand_value, new_hand, LogMatches, LogsReleased, IsLinked};
-ghost use Rattle.gw_route.specs.Turn.{counted, next_turn, IsDueByCount, first_abort, taken, none_given, Filled};
+ghost use Rattle.gw_route.specs.RouteHand.{hand_value, new_hand, IsQueueSize, LogMatches, LogsReleased, IsLinked};
+ghost use Rattle.gw_route.specs.RouteHand.{HasPast, IsTied, entry_of};
+ghost use Rattle.gw_route.specs.Turn.{counted, next_turn, IsDueByCount, first_abort, noted, HasNext, HasNone, Filled};
+ghost use Rattle.gw_route.specs.Turn.{TakesOne};
 ghost use Rattle.gw_route.specs.Turn.{if_requested, requested_answer, logged, if_aborted, aborted_answer, Acted};
-ghost use Rattle.gw_route.specs.Turn.{TurnMade, TurnKeeps, WaitsForFrame, idled};
+ghost use Rattle.gw_route.specs.Turn.{FillKeeps, TurnMade, TurnKeeps, WaitsForFrame, idled};
 
 use crate::log::Log;
 use crate::route_abort::RouteAbort;
@@ -24,6 +26,7 @@ use bx_core::{AbortAnswer, Entry, Gate, NumberTooLarge, RouteTx, Sent};
 use bx_rx::{Memory, RxOut};
 use can_frame::{Frame, Rewrite, rewritten};
 use std::alloc::Global;
+use std::collections::VecDeque;
 use std::sync::Wait;
 
 /// The hand of a route: it takes frames out of a receive FIFO and requests their transmission.
@@ -31,8 +34,13 @@ use std::sync::Wait;
 pub struct RouteHand {
     /// Where the FIFO's frames come out.
     pub out: RxOut,
-    /// The frame in the hand, which was released and not requested yet.
+    /// The frame to be requested next, which was released and numbered; `None` also where it is still in `queued`.
     pub hand: Option<Entry>,
+    /// The frames to be requested behind it, in order, which were released and numbered.
+    pub queued: VecDeque<Entry>,
+    /// How many frames `fill` takes out of the FIFO at most, 1 to 1,024, those in the hand included; `None` where
+    /// each turn takes the next one itself.
+    pub queue: Option<u32>,
     /// The number that was given out last, or 0.
     pub tickets: u32,
     /// How many turns were made. It stays at 1,000,000.
@@ -46,19 +54,36 @@ pub struct RouteHand {
 }
 
 impl RouteHand {
-    /// A hand that made no turn. Takes no memory.
+    /// Returns a hand without a queue that made no turn. Takes no memory.
     pub fn new(
         alloc: Global,
         out: RxOut,
         aborts: Vec<RouteAbort>,
         rewrites: ArrayVec<Rewrite, 32>,
     ) -> RouteHand
-        ensures made { hand_value result ≡ new_hand out aborts.items rewrites.items }
+        ensures made { hand_value result ≡ new_hand out None aborts.items rewrites.items }
+        ensures linked { LogMatches (hand_value result) no_route_past }
+    {
+        RouteHand::with_queue(alloc, out, None, aborts, rewrites)
+    }
+
+    /// Returns a hand that made no turn, with a queue of this size, 1 to 1,024, or without one. Takes no memory.
+    pub fn with_queue(
+        alloc: Global,
+        out: RxOut,
+        queue: Option<u32>,
+        aborts: Vec<RouteAbort>,
+        rewrites: ArrayVec<Rewrite, 32>,
+    ) -> RouteHand
+        requires { IfSome queue IsQueueSize }
+        ensures made { hand_value result ≡ new_hand out queue aborts.items rewrites.items }
         ensures linked { LogMatches (hand_value result) no_route_past }
     {
         RouteHand {
             out,
             hand: None,
+            queued: VecDeque::new(alloc),
+            queue,
             tickets: 0,
             turns: 0,
             aborts,
@@ -70,10 +95,45 @@ impl RouteHand {
         }
     }
 
+    /// Takes frames out of the FIFO, numbers them and puts them behind those in the hand, until as many are there as the
+    /// queue's size, or the FIFO is empty: under their new identifiers where the hand has some for them. The log has
+    /// them as they left the FIFO. Without a queue it takes none. May wait while the other side of the FIFO is in the
+    /// middle of an offer.
+    ///
+    /// `Memory` comes where the log or the queue couldn't grow, before the FIFO is asked for that frame.
+    #[inline]
+    pub fn fill<R: Wait>(&mut self, rt: &R) -> Result<(), Memory>
+        requires linked { HasPast (hand_value self.old) }
+        ensures filled { OnOk result (Filled (hand_value self.old) (hand_value self.new)) }
+        ensures keeps { FillKeeps (hand_value self.old) (hand_value self.new) }
+        ensures tied { IsTied self.old self.new }
+    {
+        match self.queue {
+            Some(size) => self.fill_up(rt, size),
+            None => Ok(()),
+        }
+    }
+
+    // The same with a queue of this size.
+    fn fill_up<R: Wait>(&mut self, rt: &R, size: u32) -> Result<(), Memory>
+        requires linked { HasPast (hand_value self.old) }
+        requires size { self.old.queue ≡ Some size }
+        ensures filled { OnOk result (Filled (hand_value self.old) (hand_value self.new)) }
+        ensures keeps { FillKeeps (hand_value self.old) (hand_value self.new) }
+        ensures tied { IsTied self.old self.new }
+    {
+        while self.held() < size as usize {
+            if !self.take_one(rt)? {
+                return Ok(());
+            }
+        }
+        Ok(())
+    }
+
     /// One turn, which makes one call on `tx` at most. The first abort is made where it is due: the
     /// count of turns, this one included, has reached its `turn`, and its number was requested. Else
-    /// the frame in the hand is requested, or, where the hand is empty, the next one of the FIFO, under
-    /// its new identifier where the hand has one for it: the log has it as it left the FIFO. May
+    /// the first frame in the hand is requested, or, where the hand is empty and has no queue, the next one of the
+    /// FIFO, under its new identifier where the hand has one for it: the log has it as it left the FIFO. May
     /// wait while the other side of the FIFO is in the middle of an offer, or where a call on `tx` may.
     ///
     /// `Memory` comes before the FIFO or the mailboxes are touched, where the log couldn't grow: then
@@ -94,6 +154,7 @@ impl RouteHand {
         ensures linked { IsLinked (T.route_after tx.new) (hand_value self.new) }
         ensures log { LogsReleased (hand_value self.old) → LogsReleased (hand_value self.new) }
         ensures queue { self.new.out.queue ≡ self.old.out.queue }
+        ensures size { self.new.queue ≡ self.old.queue }
         ensures rewrites { self.new.rewrites ≡ self.old.rewrites }
         ensures memory { OnErr result (hand_value self.new ≡ hand_value self.old) }
         ensures untouched { OnErr result (tx.new ≡ tx.old) }
@@ -112,12 +173,13 @@ impl RouteHand {
     }
 
     /// Whether nothing is in the hand, and no abort comes due whatever the count of turns is: the next one, if there is
-    /// one, is of a number that wasn't given out. So each turn is idle as long as the FIFO is empty.
+    /// one, is of a number that wasn't given out. So `fill` does nothing and each turn is idle, as long as the FIFO is
+    /// empty.
     pub fn waits_for_frame(&self) -> bool
         ensures yes { result ≡ true → WaitsForFrame (hand_value self.now) }
         ensures no { result ≡ false → WaitsForFrame (hand_value self.now) → ⊥ }
     {
-        if self.hand.is_some() {
+        if self.held() > 0 {
             return false;
         }
         match self.aborts.as_slice().first() {
@@ -132,6 +194,7 @@ impl RouteHand {
         requires waits { WaitsForFrame (hand_value self.old) }
         ensures value { hand_value self.new ≡ idled more (hand_value self.old) }
         ensures queue { self.new.out.queue ≡ self.old.out.queue }
+        ensures size { self.new.queue ≡ self.old.queue }
         ensures rewrites { self.new.rewrites ≡ self.old.rewrites }
     {
         self.turns = u64::from(self.turns).saturating_add(more).min(1_000_000) as u32;
@@ -140,6 +203,7 @@ impl RouteHand {
     fn count(&mut self)
         ensures value { hand_value self.new ≡ counted (hand_value self.old) }
         ensures log { self.new.log ≡ self.old.log }
+        ensures tied { IsTied self.old self.new }
     {
         if self.turns < 1_000_000 {
             self.turns += 1;
@@ -158,12 +222,13 @@ impl RouteHand {
         requires linked { IsLinked (T.route_after tx.old) (hand_value self.old) }
         ensures turned { Acted (T.route_after tx.old) (T.route_after tx.new) (hand_value self.old)
             (hand_value self.new) result }
+        ensures tied { IsTied self.old self.new }
         ensures heard { HearsTurn G.may_have_heard result gate.old gate.new }
         ensures stays { T.stays tx.old tx.new }
     {
         match self.due() {
             Some(abort) => self.abort_first(rt, tx, abort.number, gate),
-            None => match self.fill(rt) {
+            None => match self.next(rt) {
                 Some(entry) => self.ask(rt, tx, entry, gate),
                 None => TurnAnswer::Idle,
             },
@@ -198,48 +263,77 @@ impl RouteHand {
         if abort.number == 0 {
             return false;
         }
-        if self.hand.is_some() {
-            return abort.number < self.tickets;
-        }
-        abort.number <= self.tickets
+        u64::from(abort.number) + self.held() as u64 <= u64::from(self.tickets)
     }
 
-    // The frame in the hand, or else the next one of the FIFO under the next number.
-    fn fill<R: Wait>(&mut self, rt: &R) -> Option<Entry>
-        requires tickets { self.old.tickets < u32.MAX }
-        requires room { vec_len self.old.log.released < vec_capacity self.old.log.released }
-        ensures { MatchOption result
-            ((hand_value self.new ≡ none_given (hand_value self.old)) × (self.old.hand ≡ None)
-            × IsReleased self.old.out None self.new.out)
-            (λ entry. (self.new.hand ≡ Some entry) × Filled (hand_value self.old) (hand_value self.new) entry) }
+    /// Returns how many frames are in the hand.
+    pub fn held(&self) -> usize
+        ensures { result ≡ length (hand_value self.now).in_hand }
     {
-        if let Some(entry) = self.hand {
-            return Some(entry);
-        }
-        match self.out.release(rt) {
-            Some(received) => {
-                self.take(received.frame);
-                self.hand
-            }
-            None => None,
-        }
+        usize::from(self.hand.is_some()) + self.queued.len()
     }
 
-    // A frame that was released comes into the hand, under its new identifier.
-    fn take(&mut self, frame: Frame)
+    // The frame to request in this turn, if there is one. It is moved into `hand`.
+    fn next<R: Wait>(&mut self, rt: &R) -> Option<Entry>
         requires tickets { self.old.tickets < u32.MAX }
         requires room { vec_len self.old.log.released < vec_capacity self.old.log.released }
-        ensures { hand_value self.new ≡ taken (hand_value self.old) frame }
+        ensures next { MatchOption result (HasNone (hand_value self.old) (hand_value self.new))
+            (λ entry. HasNext (hand_value self.old) (hand_value self.new) entry self.new.queued.items) }
+        ensures hand { self.new.hand ≡ result }
+        ensures tied { IsTied self.old self.new }
+    {
+        if self.hand.is_none() {
+            self.hand = self.queued.pop_front();
+        }
+        if self.hand.is_none() && self.queue.is_none() {
+            self.hand = match self.out.release(rt) {
+                Some(received) => Some(self.number(received.frame)),
+                None => None,
+            };
+        }
+        self.hand
+    }
+
+    // Takes the next frame out of the FIFO, behind those in the hand. Returns whether there was one.
+    fn take_one<R: Wait>(&mut self, rt: &R) -> Result<bool, Memory>
+        requires tickets { self.old.tickets < u32.MAX }
+        ensures taken { IfOk result (λ taken. TakesOne taken (hand_value self.old) (hand_value self.new)) }
+        ensures memory { OnErr result (hand_value self.new ≡ hand_value self.old) }
+        ensures tied { IsTied self.old self.new }
+    {
+        if self.log.released.reserve(1).is_err() {
+            return Err(Memory);
+        }
+        if self.queued.reserve(1).is_err() {
+            return Err(Memory);
+        }
+        let Some(received) = self.out.release(rt) else {
+            return Ok(false);
+        };
+        let entry = self.number(received.frame);
+        self.queued.push_back_reserved(entry);
+        Ok(true)
+    }
+
+    // Gives a frame that was released the next number and its new identifier, and notes it in the log as it was.
+    fn number(&mut self, frame: Frame) -> Entry
+        requires tickets { self.old.tickets < u32.MAX }
+        requires room { vec_len self.old.log.released < vec_capacity self.old.log.released }
+        ensures value { hand_value self.new ≡ noted (hand_value self.old) frame }
+        ensures entry { result ≡ entry_of (hand_value self.old) frame }
+        ensures hand { self.new.hand ≡ self.old.hand }
+        ensures queued { self.new.queued ≡ self.old.queued }
+        ensures tied { IsTied self.old self.new }
     {
         self.tickets += 1;
         let _ = self.log.released.push(frame);
-        self.hand = Some(Entry {
+        Entry {
             number: self.tickets,
             frame: rewritten(self.rewrites.as_slice(), &frame),
-        });
+        }
     }
 
-    // Requests the frame in the hand.
+    // Requests the first frame in the hand.
     fn ask<R: Wait, T: RouteTx<R>, G: Gate>(
         &mut self,
         rt: &R,
@@ -254,6 +348,7 @@ impl RouteHand {
             × (IsErr sent ↔ (greatest_number < entry.number))
             × ((past : RoutePast) → T.route_after tx.old past
             → T.route_after tx.new (after_request past entry.number entry.frame sent)) }
+        ensures tied { IsTied self.old self.new }
         ensures heard { HearsTurn G.may_have_heard result gate.old gate.new }
         ensures stays { T.stays tx.old tx.new }
     {
@@ -283,6 +378,7 @@ impl RouteHand {
             × (hand_value self.new ≡ if_aborted answer number (hand_value self.old))
             × ((past : RoutePast) → T.route_after tx.old past
             → (asks : Bool) × T.route_after tx.new (after_abort past number answer asks)) }
+        ensures tied { IsTied self.old self.new }
         ensures heard { HearsTurn G.may_have_heard result gate.old gate.new }
         ensures stays { T.stays tx.old tx.new }
     {
@@ -307,7 +403,8 @@ impl RouteHand {
     fn note(&mut self, number: u32)
         requires some { 0 < vec_len self.old.aborts }
         requires room { vec_len self.old.log.aborted < vec_capacity self.old.log.aborted }
-        ensures { hand_value self.new ≡ logged (hand_value self.old) number }
+        ensures value { hand_value self.new ≡ logged (hand_value self.old) number }
+        ensures tied { IsTied self.old self.new }
     {
         let _ = self.log.aborted.push(number);
         let _ = self.aborts.remove(0);

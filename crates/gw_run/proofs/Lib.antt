@@ -6,6 +6,7 @@ pub mod WorldTurns
 pub mod Passes
 pub mod Counted
 pub mod Keeps
+pub mod Fills
 pub mod Finals
 pub mod Closes
 pub mod Stretches

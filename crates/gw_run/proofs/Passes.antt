@@ -77,6 +77,7 @@ keeps_self lane = record {
   target_is = refl;
   number_is = refl;
   queue_is = refl;
+  size_is = refl;
   rewrites_is = refl;
   plan = λ planned h. h;
 }
@@ -88,6 +89,7 @@ keeps_on a b c p q = record {
   target_is = q.target_is ∙ p.target_is;
   number_is = q.number_is ∙ p.number_is;
   queue_is = q.queue_is ∙ p.queue_is;
+  size_is = q.size_is ∙ p.size_is;
   rewrites_is = q.rewrites_is ∙ p.rewrites_is;
   plan = λ planned h. q.plan planned (p.plan planned h);
 }

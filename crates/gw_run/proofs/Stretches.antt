@@ -136,6 +136,7 @@ idles_keeps more old new h = record {
   target_is = h.target_is;
   number_is = h.number_is;
   queue_is = h.queue_is;
+  size_is = h.size_is;
   rewrites_is = h.rewrites_is;
   plan = λ planned p.
       subst (FromPlan planned) (sym h.hand_is) (planned_idled planned more (hand_value old.hand) p);

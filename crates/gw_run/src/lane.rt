@@ -15,8 +15,8 @@ use can_frame::Memory;
 use gw_route::{RouteHand, TurnAnswer};
 use std::sync::Wait;
 
-/// One turn of a route into the mailboxes of this controller: whether it had nothing to do. `Memory` where it was
-/// refused to the hand, or to the mailboxes at any time before.
+/// Fills the queue of a route, if it has one, and makes a turn of it into the mailboxes of this controller. Returns
+/// whether it had nothing to do. `Memory` where it was refused to the hand, or to the mailboxes at any time before.
 pub(crate) fn turn_on<R: Wait>(
     rt: &R,
     hand: &mut RouteHand,
@@ -28,6 +28,7 @@ pub(crate) fn turn_on<R: Wait>(
     ensures linked { IsLinked (RouteStands (core_of port.new.mail) number) (hand_value hand.new) }
     ensures log { LogsReleased (hand_value hand.old) → LogsReleased (hand_value hand.new) }
     ensures queue { hand.new.out.queue ≡ hand.old.out.queue }
+    ensures size { hand.new.queue ≡ hand.old.queue }
     ensures rewrites { hand.new.rewrites ≡ hand.old.rewrites }
     ensures counted { OnOk result (hand.new.turns ≡ next_turn hand.old.turns) }
     ensures short { OnOk result (short_of port.new.mail ≡ false) }
@@ -36,6 +37,7 @@ pub(crate) fn turn_on<R: Wait>(
     ensures port { TurnLeaves number port.old port.new }
     ensures idle { IfOk result (λ idle. idle ≡ true → AskedInVain hand.new) }
 {
+    hand.fill(rt)?;
     let mut side = PlainRoute {
         mail: &mut port.mail,
         route: number,

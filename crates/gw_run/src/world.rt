@@ -7,7 +7,8 @@ ghost use Rattle.gw_opening.specs.declared.lane.Lane.{Lane};
 ghost use Rattle.gw_run.specs.Ports.{Site};
 ghost use Rattle.gw_run.specs.Sites.{SiteHolds, SiteMoves};
 ghost use Rattle.gw_run.specs.Lanes.{AskedInVain};
-ghost use Rattle.gw_run.specs.Worlds.{AllAskedInVain, AreFar, Leads, LaneTurns, LanesKeep, SitesKeep, WorldHolds};
+ghost use Rattle.gw_run.specs.Worlds.{AllAskedInVain, AllHavePast, AreFar, Leads, LaneFills, LaneTurns};
+ghost use Rattle.gw_run.specs.Worlds.{LanesKeep, SitesKeep, WorldHolds};
 ghost use Rattle.gw_run.specs.Worlds.{SameSegments, HaveMade, HaveMadeUpTo, CountsTurn, HaveTurned, NoneShort};
 
 use crate::lane::turn_on;
@@ -41,7 +42,7 @@ pub(crate) fn make_bits<R: Wait>(
     Ok(())
 }
 
-/// One turn of a route: whether it had nothing to do. `Memory` where it was refused to the hand, or to the mailboxes at
+/// Fills the queue of a route and makes a turn of it: whether it had nothing to do. `Memory` where it was refused to the hand, or to the mailboxes at
 /// any time before.
 fn turn_of<R: Wait>(rt: &R, sites: &mut [Site], lane: &mut Lane) -> Result<bool, Memory>
     requires { Leads sites.old lane.old }
@@ -59,7 +60,19 @@ fn turn_of<R: Wait>(rt: &R, sites: &mut [Site], lane: &mut Lane) -> Result<bool,
     )
 }
 
-/// One turn of each route, in their order: whether none of them had anything to do.
+/// Fills the queues of the routes, in their order, out of their FIFOs. `Memory` where it was refused to a hand.
+fn fill_all<R: Wait>(rt: &R, lanes: &mut [Lane]) -> Result<(), Memory>
+    requires { AllHavePast lanes.old }
+    ensures { OnOk result (AtPlaces (λ k. LaneFills) lanes.old lanes.new) }
+{
+    for place in 0..lanes.len() {
+        lanes[place].hand.fill(rt)?;
+    }
+    Ok(())
+}
+
+/// Fills the queue of each route and makes a turn of it, in their order: whether none of them had anything to do. That one
+/// route makes its turn before the queue of another is filled changes nothing: neither knows of the other.
 pub(crate) fn make_turns<R: Wait>(
     rt: &R,
     sites: &mut [Site],
@@ -90,8 +103,8 @@ fn is_multiple(made: u64, turn: u64) -> bool
     turn == 1 || made % turn == 0
 }
 
-/// This bit of each segment, and a turn of each route where the bits made are a multiple of this. Whether turns were
-/// made, and none of them had anything to do.
+/// This bit of each segment; then the queues of the routes are filled; then each route makes a turn where the bits made
+/// are a multiple of `turn`. Returns whether turns were made, and none of them had anything to do.
 fn step<R: Wait>(
     rt: &R,
     sites: &mut [Site],
@@ -109,6 +122,7 @@ fn step<R: Wait>(
     ensures world { OnOk result (WorldHolds sites.new lanes.new) }
     ensures made { OnOk result (HaveMade bits (bit + 1) sites.new) }
     ensures turned { OnOk result (HaveTurned turn (bit + 1) lanes.new) }
+    ensures filled { OnOk result ((bit + 1) % turn ≢ 0 → AtPlaces (λ k. LaneFills) lanes.old lanes.new) }
     ensures idle { IfOk result (λ idle. idle ≡ true → AllAskedInVain lanes.new) }
     ensures short { OnOk result (NoneShort sites.old → NoneShort sites.new) }
     ensures lanes { OnOk result (LanesKeep lanes.old lanes.new) }
@@ -116,6 +130,7 @@ fn step<R: Wait>(
 {
     make_bits(rt, sites, bit + 1, bits)?;
     if !is_multiple(bit + 1, turn) {
+        fill_all(rt, lanes)?;
         return Ok(false);
     }
     let idle = make_turns(rt, sites, lanes)?;

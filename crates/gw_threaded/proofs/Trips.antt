@@ -60,14 +60,15 @@ takes_on stays old new lane after l fifo queue t =
 
 -- a route is that of the script still
 lane_on : (s : ScriptValue) (k : ℕ) (route : RouteValue) (old new : Lane) → lead_of new ≡ lead_of old →
-    new.hand.rewrites ≡ old.hand.rewrites → FromPlan (aborts_of s k) (hand_value new.hand) → IsLaneOf s k route old →
-    IsLaneOf s k route new
-lane_on s k route old new lead rewrites plan p = record {
+    new.hand.rewrites ≡ old.hand.rewrites → new.hand.queue ≡ old.hand.queue →
+    FromPlan (aborts_of s k) (hand_value new.hand) → IsLaneOf s k route old → IsLaneOf s k route new
+lane_on s k route old new lead rewrites size plan p = record {
   source_is = subst (IsPlaceOf s route.source) (sym (ap (λ (x : Lead). x.source) lead)) p.source_is;
   fifo_is = ap (λ (x : Lead). x.fifo) lead ∙ p.fifo_is;
   target_is = subst (IsPlaceOf s route.target) (sym (ap (λ (x : Lead). x.target) lead)) p.target_is;
   number_is = ap (route_at s route.target) (ap (λ (x : Lead). x.number) lead) ∙ p.number_is;
   rewrites_is = ap (λ v. v.items) rewrites ∙ p.rewrites_is;
+  queue_is = size ∙ p.queue_is;
   plan = plan;
 }
 
@@ -275,10 +276,12 @@ module _ {B S : Type 0} (bus_after : B → BusPast → Type 0) (asked : B → Li
         ∙ back.runs.queue_is ∙ ap (λ (x : RouteHand). x.out.queue) back.hand_was in
         let rewrites : new.hand.rewrites ≡ old.hand.rewrites = ap (λ (x : RouteHand). x.rewrites) back.hand_is
         ∙ back.runs.rewrites_are ∙ ap (λ (x : RouteHand). x.rewrites) back.hand_was in
+        let size : new.hand.queue ≡ old.hand.queue = ap (λ (x : RouteHand). x.queue) back.hand_is
+        ∙ back.runs.size_is ∙ ap (λ (x : RouteHand). x.queue) back.hand_was in
         let plan = back.runs.plan (aborts_of s k)
         (subst (λ hand. FromPlan (aborts_of s k) (hand_value hand)) (sym back.hand_was) n.lane_is.plan) in
         record {
-          lane_is = lane_on s k route old new back.lead_is rewrites
+          lane_is = lane_on s k route old new back.lead_is rewrites size
               (subst (λ hand. FromPlan (aborts_of s k) (hand_value hand)) (sym back.hand_is) plan) n.lane_is;
           takes = record {
             from = port.late;

@@ -39,6 +39,15 @@ fn turns<R: Wait>(rt: &R, hand: &mut RouteHand, mail: &mut PlainMail) -> Result<
     hand.turn(rt, &mut side, &mut NoGate)
 }
 
+/// Fills the queue of a hand into route 0 of a mail.
+fn fill<R: Wait>(rt: &R, hand: &mut RouteHand, mail: &PlainMail) -> Result<(), Memory>
+    requires linked { IsLinked (RouteStands (core_of mail.now) 0) (hand_value hand.old) }
+    ensures linked { IsLinked (RouteStands (core_of mail.now) 0) (hand_value hand.new) }
+{
+    let _ = mail;
+    hand.fill(rt)
+}
+
 /// So many idle turns of a hand that waits for a frame and made none yet.
 fn idle(hand: &mut RouteHand, mail: &PlainMail, more: u64)
     requires linked { IsLinked (RouteStands (core_of mail.now) 0) (hand_value hand.old) }
@@ -136,6 +145,59 @@ fn a_frame_is_requested_under_its_new_identifier(rt: HostRuntime) -> Result<(), 
     assert!(rt; mail.ready(&rt));
     assert!(rt; mail.start(&rt) == Some((0, 1, sent)));
     assert!(rt; hand.log.released.as_slice() == [frame].as_slice());
+    Ok(())
+}
+
+/// A queue of two is filled up to two frames, which are numbered as they come, and turns request the older one.
+#[test]
+fn a_queue_is_filled_and_requested_in_order(rt: HostRuntime) -> Result<(), Fail> {
+    let (mut rxin, rxout) = RxFifo::pair(rt.alloc())?;
+    let mut mail = PlainMail::new(rt.alloc(), 1);
+    let aborts = Vec::new(rt.alloc());
+    let mut hand = RouteHand::with_queue(rt.alloc(), rxout, Some(2), aborts, ArrayVec::new());
+    let frames = [data(5)?, data(6)?, data(7)?];
+    for frame in frames {
+        rxin.offer(&rt, received(frame));
+    }
+    // a turn takes nothing out of the FIFO
+    assert_eq!(rt; turns(&rt, &mut hand, &mut mail), Ok(TurnAnswer::Idle));
+    assert_eq!(rt; (hand.held(), hand.tickets), (0, 0));
+    fill(&rt, &mut hand, &mail)?;
+    assert_eq!(rt; (hand.held(), hand.tickets), (2, 2));
+    fill(&rt, &mut hand, &mail)?;
+    assert_eq!(rt; (hand.held(), hand.tickets), (2, 2));
+    assert_eq!(rt; turns(&rt, &mut hand, &mut mail), Ok(TurnAnswer::Requested));
+    assert_eq!(rt; hand.held(), 1);
+    fill(&rt, &mut hand, &mail)?;
+    assert_eq!(rt; (hand.held(), hand.tickets), (2, 3));
+    assert!(rt; !hand.waits_for_frame());
+    assert_eq!(rt; turns(&rt, &mut hand, &mut mail), Ok(TurnAnswer::Requested));
+    assert_eq!(rt; turns(&rt, &mut hand, &mut mail), Ok(TurnAnswer::Requested));
+    fill(&rt, &mut hand, &mail)?;
+    assert_eq!(rt; turns(&rt, &mut hand, &mut mail), Ok(TurnAnswer::Idle));
+    assert!(rt; hand.waits_for_frame());
+    assert!(rt; hand.log.released.as_slice() == frames.as_slice());
+    let waiting: [(u32, Frame); 3] = [(1, frames[0]), (2, frames[1]), (3, frames[2])];
+    for (number, frame) in waiting {
+        assert!(rt; mail.ready(&rt));
+        assert!(rt; mail.start(&rt) == Some((0, number, frame)));
+        if mail.is_transmitting() {
+            mail.complete(&rt);
+        }
+    }
+    Ok(())
+}
+
+/// Without a queue nothing is filled.
+#[test]
+fn a_hand_without_a_queue_is_not_filled(rt: HostRuntime) -> Result<(), Fail> {
+    let (mut rxin, rxout) = RxFifo::pair(rt.alloc())?;
+    let mut mail = PlainMail::new(rt.alloc(), 1);
+    let mut hand = RouteHand::new(rt.alloc(), rxout, Vec::new(rt.alloc()), ArrayVec::new());
+    rxin.offer(&rt, received(data(5)?));
+    fill(&rt, &mut hand, &mail)?;
+    assert_eq!(rt; (hand.held(), hand.tickets), (0, 0));
+    assert_eq!(rt; turns(&rt, &mut hand, &mut mail), Ok(TurnAnswer::Requested));
     Ok(())
 }
 

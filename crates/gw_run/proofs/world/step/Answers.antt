@@ -1,8 +1,22 @@
 use Rattle.std.proofs.Common.{◌+◌, arith}
 use Rattle.gw_run.proofs.Passes.{made_turns}
 use Rattle.gw_run.proofs.Counted.{turned_not, turned_once, short_bits}
+use Rattle.gw_run.proofs.Fills.{all_have_past, lanes_filled, turned_filled, world_filled}
 use Rattle.gw_run.proofs.Keeps.{sites-on}
 use Rattle.gw_run.proofs.world.step.Goals as goal
+
+pub fill_all-requires : goal.fill_all-requires
+fill_all-requires g c = all_have_past c.make_bits.new.sites c.args.lanes.now
+    (c.in_ok-make_bits.ensures.world c.args.lanes.now c.requires.world)
+
+pub returns-then-not-is_multiple-clause-world : goal.returns-then-not-is_multiple-clause-world
+returns-then-not-is_multiple-clause-world g c =
+    world_filled c.args.lanes.now c.fill_all.new.lanes c.in_ok-fill_all.ensures c.make_bits.new.sites
+    (c.in_ok-make_bits.ensures.world c.args.lanes.now c.requires.world)
+
+pub returns-then-not-is_multiple-clause-lanes : goal.returns-then-not-is_multiple-clause-lanes
+returns-then-not-is_multiple-clause-lanes g c =
+    lanes_filled c.args.lanes.now c.fill_all.new.lanes c.in_ok-fill_all.ensures
 
 pub returns-then-not-is_multiple-clause-made : goal.returns-then-not-is_multiple-clause-made
 returns-then-not-is_multiple-clause-made g c = c.in_ok-make_bits.ensures.made
@@ -23,8 +37,9 @@ returns-clause-keeps g c =
 
 pub returns-then-not-is_multiple-clause-turned : goal.returns-then-not-is_multiple-clause-turned
 returns-then-not-is_multiple-clause-turned g c =
-    turned_not c.args.turn c.args.bit c.args.lanes.now c.requires.turn
-    (λ due. absurd (omega (arith, due, c.is_multiple.ensures.no c.if-not-is_multiple.true))) c.requires.turned
+    turned_filled c.args.lanes.now c.fill_all.new.lanes c.in_ok-fill_all.ensures c.args.turn (c.args.bit + 1)
+    (turned_not c.args.turn c.args.bit c.args.lanes.now c.requires.turn
+    (λ due. absurd (omega (arith, due, c.is_multiple.ensures.no c.if-not-is_multiple.true))) c.requires.turned)
 
 pub returns-then-not-is_multiple-clause-short : goal.returns-then-not-is_multiple-clause-short
 returns-then-not-is_multiple-clause-short g c =

@@ -45,6 +45,7 @@ returns-clause-turns g c =
         target_is = refl;
         number_is = refl;
         queue_is = c.turn_on.ensures.queue;
+        size_is = c.turn_on.ensures.size;
         rewrites_is = c.turn_on.ensures.rewrites;
         plan = c.turn_on.ensures.plan;
       };

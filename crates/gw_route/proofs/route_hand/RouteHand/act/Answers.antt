@@ -1,5 +1,4 @@
-use Rattle.std.proofs.Common.{arith, ap}
-use Rattle.std.specs.Prelude.{option_to_list}
+use Rattle.std.proofs.Common.{arith}
 use Rattle.gw_route.specs.RouteHand.{hand_value}
 use Rattle.gw_route.proofs.Matches.{tickets-requested, last-requested}
 use Rattle.gw_route.proofs.Turns.{acted-idle, acted-request, acted-abort, above-last}
@@ -12,10 +11,10 @@ abort_first-requires-clause-known g c =
     let h = hand_value c.args.self.now in
     omega (arith, last, last-requested h t.0 t.2, tickets-requested h t.0 t.2, c.in-Some.ensures.some.1.below)
 
-pub fill-requires-clause-tickets : goal.fill-requires-clause-tickets
-fill-requires-clause-tickets g c =
+pub next-requires-clause-tickets : goal.next-requires-clause-tickets
+next-requires-clause-tickets g c =
     let t = c.requires.linked in
-    omega (arith, tickets-requested (hand_value c.args.self.now) t.0 t.2, t.2.limit, t.2.one_hand)
+    omega (arith, tickets-requested (hand_value c.args.self.now) t.0 t.2, t.2.limit, t.2.few_held, t.2.room.1)
 
 pub ask-requires-clause-above : goal.ask-requires-clause-above
 ask-requires-clause-above g c =
@@ -24,8 +23,8 @@ ask-requires-clause-above g c =
     omega (
       arith,
       last,
-      above-last (hand_value c.args.self.now) (hand_value c.fill.new.self) t.0 c.in-Some-fill.entry
-          c.in-Some-fill.ensures.1 t.2,
+      above-last (hand_value c.args.self.now) (hand_value c.next.new.self) t.0 c.in-Some-next.entry
+          c.next.new.self.queued.items c.in-Some-next.ensures.next t.2,
     )
 
 pub returns-in-Some-clause-turned : goal.returns-in-Some-clause-turned
@@ -35,15 +34,14 @@ returns-in-Some-clause-turned g c =
     acted-abort _ _ (hand_value c.args.self.now) (hand_value c.abort_first.new.self) c.in-Some.abort e.0
     c.abort_first.result d.0 d.1 e.1 e.2 e.3
 
-pub returns-in-Some-fill-clause-turned : goal.returns-in-Some-fill-clause-turned
-returns-in-Some-fill-clause-turned g c =
+pub returns-in-Some-next-clause-turned : goal.returns-in-Some-next-clause-turned
+returns-in-Some-next-clause-turned g c =
     let e = c.ask.ensures.asked in
-    acted-request _ _ (hand_value c.args.self.now) (hand_value c.fill.new.self)
-    (hand_value c.ask.new.self) c.in-Some-fill.entry e.0 c.ask.result
-    c.in-None.ensures.none c.in-Some-fill.ensures.1 e.3 e.1 e.2 e.4
+    acted-request _ _ (hand_value c.args.self.now) (hand_value c.next.new.self)
+    (hand_value c.ask.new.self) c.in-Some-next.entry c.next.new.self.queued.items e.0 c.ask.result
+    c.in-None.ensures.none c.in-Some-next.ensures.next e.3 e.1 e.2 e.4
 
-pub returns-in-None-fill-clause-turned : goal.returns-in-None-fill-clause-turned
-returns-in-None-fill-clause-turned g c =
-    let f = c.in-None-fill.ensures in
-    acted-idle _ (hand_value c.args.self.now) (hand_value c.fill.new.self) c.in-None.ensures.none f.0
-    (ap option_to_list f.1) f.2.1
+pub returns-in-None-next-clause-turned : goal.returns-in-None-next-clause-turned
+returns-in-None-next-clause-turned g c =
+    acted-idle _ (hand_value c.args.self.now) (hand_value c.next.new.self) c.in-None.ensures.none
+    c.in-None-next.ensures.next
