@@ -20,7 +20,7 @@ use arrayvec::ArrayVec;
 use can_station::{Member, PlaceSet, all_stay_out, go_on_by};
 
 /// How many bits are simulated at once, at most.
-const BURST: usize = 256;
+const BURST: usize = 120;
 
 /// Returns this many recessive levels, at most `BURST`.
 fn recessive<'a>(most: usize) -> &'a [bool]

@@ -130,14 +130,13 @@ impl RouteHand {
         Ok(())
     }
 
-    /// One turn, which makes one call on `tx` at most. The first abort is made where it is due: the
-    /// count of turns, this one included, has reached its `turn`, and its number was requested. Else
-    /// the first frame in the hand is requested, or, where the hand is empty and has no queue, the next one of the
-    /// FIFO, under its new identifier where the hand has one for it: the log has it as it left the FIFO. May
-    /// wait while the other side of the FIFO is in the middle of an offer, or where a call on `tx` may.
+    /// One turn, which makes one call on `tx` at most. The first abort is made where it is due: the count of turns, this
+    /// one included, has reached its `turn`, and its number was requested. Else the first frame in the hand is requested,
+    /// or, where the hand is empty and has no queue, the next one of the FIFO, under its new identifier where the hand
+    /// has one for it: the log has it as it left the FIFO. May wait while the other side of the FIFO is in the middle of
+    /// an offer, or where a call on `tx` may.
     ///
-    /// `Memory` comes before the FIFO or the mailboxes are touched, where the log couldn't grow: then
-    /// no turn was made.
+    /// `Memory` comes before the FIFO or the mailboxes are touched, where the log couldn't grow: then no turn was made.
     pub fn turn<R: Wait, T: RouteTx<R>, G: Gate>(
         &mut self,
         rt: &R,
@@ -153,9 +152,7 @@ impl RouteHand {
             → FromPlan planned (hand_value self.new) }
         ensures linked { IsLinked (T.route_after tx.new) (hand_value self.new) }
         ensures log { LogsReleased (hand_value self.old) → LogsReleased (hand_value self.new) }
-        ensures queue { self.new.out.queue ≡ self.old.out.queue }
-        ensures size { self.new.queue ≡ self.old.queue }
-        ensures rewrites { self.new.rewrites ≡ self.old.rewrites }
+        ensures tied { IsTied self.old self.new }
         ensures memory { OnErr result (hand_value self.new ≡ hand_value self.old) }
         ensures untouched { OnErr result (tx.new ≡ tx.old) }
         ensures unheard { OnErr result (gate.new ≡ gate.old) }
@@ -193,9 +190,7 @@ impl RouteHand {
     pub fn idle(&mut self, more: u64)
         requires waits { WaitsForFrame (hand_value self.old) }
         ensures value { hand_value self.new ≡ idled more (hand_value self.old) }
-        ensures queue { self.new.out.queue ≡ self.old.out.queue }
-        ensures size { self.new.queue ≡ self.old.queue }
-        ensures rewrites { self.new.rewrites ≡ self.old.rewrites }
+        ensures tied { IsTied self.old self.new }
     {
         self.turns = u64::from(self.turns).saturating_add(more).min(1_000_000) as u32;
     }
@@ -301,10 +296,7 @@ impl RouteHand {
         ensures memory { OnErr result (hand_value self.new ≡ hand_value self.old) }
         ensures tied { IsTied self.old self.new }
     {
-        if self.log.released.reserve(1).is_err() {
-            return Err(Memory);
-        }
-        if self.queued.reserve(1).is_err() {
+        if self.log.released.reserve(1).is_err() || self.queued.reserve(1).is_err() {
             return Err(Memory);
         }
         let Some(received) = self.out.release(rt) else {
@@ -357,8 +349,7 @@ impl RouteHand {
                 self.hand = None;
                 TurnAnswer::Requested
             }
-            Ok(Sent::NotNow) => TurnAnswer::Waiting,
-            Err(NumberTooLarge) => TurnAnswer::Waiting,
+            Ok(Sent::NotNow) | Err(NumberTooLarge) => TurnAnswer::Waiting,
         }
     }
 
@@ -383,11 +374,7 @@ impl RouteHand {
         ensures stays { T.stays tx.old tx.new }
     {
         match tx.abort(rt, number, gate) {
-            AbortAnswer::Ended => {
-                self.note(number);
-                TurnAnswer::AbortDone
-            }
-            AbortAnswer::Asked => {
+            AbortAnswer::Ended | AbortAnswer::Asked => {
                 self.note(number);
                 TurnAnswer::AbortDone
             }
