@@ -24,6 +24,7 @@ use Rattle.gw_config.specs.Filters.{filter_of, listed_filters}
 use Rattle.gw_config.specs.BankLists.{scale_of, mode_of, settings_of, number_of, listed_bank, banks_of}
 use Rattle.gw_config.specs.Controllers.{controller_with, controller_of, controllers_of}
 use Rattle.gw_config.specs.Rewrites.{number_rewrite, identifier_in, text_rewrite, listed_rewrites}
+use Rattle.gw_config.specs.Paces.{pace_with}
 use Rattle.gw_config.specs.Routes.{route_with, route_of, routes_of}
 use Rattle.gw_config.specs.PlannedFaults.{listed_until, node_fault, line_fault, planned_fault_of, planned_faults_of}
 use Rattle.gw_config.specs.PlannedAborts.{planned_abort_of, planned_aborts_of}
@@ -58,7 +59,7 @@ unfolding filter_of listed_filters scale_of mode_of settings_of number_of listed
 banks_on_literals = tt
 
 unfoldable routes_on_literals : ⊤
-unfolding number_rewrite identifier_in text_rewrite listed_rewrites route_with route_of routes_of
+unfolding number_rewrite identifier_in text_rewrite listed_rewrites pace_with route_with route_of routes_of
 routes_on_literals = tt
 
 unfoldable plans_on_literals : ⊤

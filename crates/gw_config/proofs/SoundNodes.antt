@@ -25,6 +25,7 @@ use Rattle.gw_config.specs.BankLists.{banks_of}
 use Rattle.gw_config.specs.Rewrites.{rewrites_of}
 use Rattle.gw_config.specs.Controllers.{ControllerValue, controller_names, controllers_on, node_names, node_count}
 use Rattle.gw_config.specs.Controllers.{controller_with, controller_fields, controller_of, controllers_of}
+use Rattle.gw_config.specs.Paces.{pace_of}
 use Rattle.gw_config.specs.Routes.{queue_of, RouteValue, route_names, takes_from, routes_into, placed, route_with}
 use Rattle.gw_config.specs.Routes.{route_fields, route_of, routes_of}
 use Rattle.gw_config.specs.PlannedFaults.{planned_faults_of}
@@ -198,39 +199,41 @@ placed_ok front read r e =
           subst P h.0 (ltb-true (routes_into read.target front) 8 h.2),
     )
 
-route_ok : (version : Version) (controllers : List ControllerValue) (front : List RouteValue) (value : Data)
-    (r : RouteValue) → route_of version controllers front value ≡ Ok r → IsNewRoute front r
+route_ok : (format : Format) (controllers : List ControllerValue) (front : List RouteValue) (value : Data)
+    (r : RouteValue) → route_of format controllers front value ≡ Ok r → IsNewRoute front r
 unfolding route_of route_with
-route_ok version controllers front value r e =
-    from_bind (element_of version (codes "routes") route_fields value) _ r e (λ from is_object e1.
+route_ok format controllers front value r e =
+    from_bind (element_of format.version (codes "routes") route_fields value) _ r e (λ from is_object e1.
     from_bind (new_name (codes "routes") (route_names front) from) _ r e1 (λ name is_name e2.
     from_bind (place_named (codes "from") (controller_names controllers) from) _ r e2 (λ source is_source e3.
     from_bind (whole (codes "fifo") 0 1 from) _ r e3 (λ fifo is_fifo e4.
     from_bind (place_named (codes "to") (controller_names controllers) from) _ r e4 (λ target is_target e5.
-    from_bind (rewrites_of version from) _ r e5 (λ rewrites are_rewrites e6.
-    from_bind (queue_of version from) _ r e6 (λ queue is_queue e7.
+    from_bind (rewrites_of format.version from) _ r e5 (λ rewrites are_rewrites e6.
+    from_bind (pace_of format.version format.rate from) _ r e6 (λ pace is_pace e7.
+    from_bind (queue_of format.version from) _ r e7 (λ queue is_queue e8.
     let h = placed_ok front (record {
       name = name;
       source = source;
       fifo = fifo;
       target = target;
       rewrites = rewrites;
+      pace = pace;
       queue = queue;
-    }) r e7 in
+    }) r e8 in
     record {
       name = ap (λ (one : RouteValue). is_among one.name (route_names front)) (sym h.0)
           ∙ new_name_ok (codes "routes") (route_names front) from name is_name;
       fifo = h.1;
       room = h.2;
-    })))))))
+    }))))))))
 
-pub routes_ok : (version : Version) (controllers : List ControllerValue) (from : Data) (rs : List RouteValue) →
-    routes_of version controllers from ≡ Ok rs → AreNewRoutes rs
+pub routes_ok : (format : Format) (controllers : List ControllerValue) (from : Data) (rs : List RouteValue) →
+    routes_of format controllers from ≡ Ok rs → AreNewRoutes rs
 unfolding routes_of
-routes_ok version controllers from rs e =
+routes_ok format controllers from rs e =
     from_bind (list (codes "routes") 16 from) _ rs e (λ items is_list e1.
-    each_after_keeps (route_of version controllers) AreNewRoutes
-    (λ front d r before is. routes_more front r before (route_ok version controllers front d r is)) [] rs items
+    each_after_keeps (route_of format controllers) AreNewRoutes
+    (λ front d r before is. routes_more front r before (route_ok format controllers front d r is)) [] rs items
     (record {
       names = λ i j d below within. absurd (omega arith);
       fifos = λ i j d below within. absurd (omega arith);
@@ -277,12 +280,12 @@ at_node s (OnLine segment bit until level) at = tt
 
 -- a script whose lists are read is orderly
 pub script_orderly : (format : Format) (s : ScriptValue) (from : Data) → segments_of format from ≡ Ok s.segments →
-    controllers_of format s.segments from ≡ Ok s.controllers → routes_of format.version s.controllers from
-    ≡ Ok s.routes → planned_faults_of format s.segments s.controllers from ≡ Ok s.faults → IsOrderly s
+    controllers_of format s.segments from ≡ Ok s.controllers → routes_of format s.controllers from ≡ Ok s.routes →
+    planned_faults_of format s.segments s.controllers from ≡ Ok s.faults → IsOrderly s
 script_orderly format s from segments controllers routes faults =
     let a = segments_ok format from s.segments segments in
     let b = controllers_ok format s.segments from s.controllers a.talkers a.few controllers in
-    let d = routes_ok format.version s.controllers from s.routes routes in
+    let d = routes_ok format s.controllers from s.routes routes in
     record {
       few_nodes = λ segment lt. let h = within s.segments segment lt in few_on s segment h.0 h.1 b.few;
       few_into = d.few;

@@ -1,14 +1,18 @@
 -- Worked values of scripts, by computing.
 use Rattle.std.proofs.Common.{◌≡◌, refl, ℕ, List, [], ◌∷◌, ◌++◌, codes, Some, None, Ok, Err, true, false, replicate}
+use Rattle.std.proofs.Common.{Result}
+use Rattle.serde_json.specs.Data.{Data}
 use Rattle.can_frame.specs.Frames.{standard, extended, data_bytes}
 use Rattle.bx_rx.specs.Bank.{BankValue, unlisted}
-use Rattle.gw_fields.specs.Faults.{wrong_kind, out_of_range, unknown_field, wrong_version}
+use Rattle.gw_fields.specs.Faults.{Fault, wrong_kind, out_of_range, unknown_field, wrong_version}
 use Rattle.gw_config.specs.declared.version.Version.TheVariants.{Two, Three}
+use Rattle.gw_config.specs.declared.pace.Pace.{Pace}
 use Rattle.gw_config.specs.declared.planned_fault.PlannedFault.TheVariants.{AtNode, OnLine}
 use Rattle.gw_config.specs.Messages.{MessageValue, once}
 use Rattle.gw_config.specs.Segments.{SegmentValue}
 use Rattle.gw_config.specs.Rewrites.{entry_of}
 use Rattle.gw_config.specs.PlannedFaults.{planned_fault_of}
+use Rattle.gw_config.specs.Paces.{pace_of, pace_of_the_run}
 use Rattle.gw_config.specs.Routes.{queue_of}
 use Rattle.gw_config.specs.Scripts.{format_of, script_of}
 use Rattle.gw_config.proofs.OnLiterals.{read_as, on_literals}
@@ -140,6 +144,52 @@ version_before_unknown : read_as format_of (codes "{\"version\":4,\"expect\":[]}
 unfolding on_literals
 version_before_unknown = refl
 
+-- when a route makes its turns
+
+abbrev pub at_half_a_megabit : Data → Result Pace Fault
+at_half_a_megabit = pace_of Three (Some 500000)
+
+eight_each_millisecond : read_as at_half_a_megabit (codes "{\"burst\":8,\"every\":\"1ms\"}")
+    ≡ Some (Ok (record { every = Some 500; burst = 8 }))
+unfolding on_literals
+eight_each_millisecond = refl
+
+no_pace : read_as at_half_a_megabit (codes "{\"queue\":16}") ≡ Some (Ok pace_of_the_run)
+unfolding on_literals
+no_pace = refl
+
+slowest_pace : read_as at_half_a_megabit (codes "{\"every\":\"2s\",\"burst\":1000}")
+    ≡ Some (Ok (record { every = Some 1000000; burst = 1000 }))
+unfolding on_literals
+slowest_pace = refl
+
+too_slow_a_pace : read_as at_half_a_megabit (codes "{\"every\":1000001,\"burst\":0}")
+    ≡ Some (Err (out_of_range (codes "every")))
+unfolding on_literals
+too_slow_a_pace = refl
+
+less_than_a_tick : read_as at_half_a_megabit (codes "{\"every\":\"1us\"}")
+    ≡ Some (Err (out_of_range (codes "every")))
+unfolding on_literals
+less_than_a_tick = refl
+
+pace_without_a_rate : read_as (pace_of Three None) (codes "{\"every\":\"1ms\"}")
+    ≡ Some (Err (wrong_kind (codes "every")))
+unfolding on_literals
+pace_without_a_rate = refl
+
+burst_of_no_turn : read_as (pace_of Three None) (codes "{\"burst\":0}") ≡ Some (Err (out_of_range (codes "burst")))
+unfolding on_literals
+burst_of_no_turn = refl
+
+burst_of_1001 : read_as (pace_of Three None) (codes "{\"burst\":1001}") ≡ Some (Err (out_of_range (codes "burst")))
+unfolding on_literals
+burst_of_1001 = refl
+
+no_pace_in_version_two : read_as (pace_of Two None) (codes "{\"every\":0,\"burst\":0}") ≡ Some (Ok pace_of_the_run)
+unfolding on_literals
+no_pace_in_version_two = refl
+
 -- the size of a queue
 
 longest_queue : read_as (queue_of Three) (codes "{\"queue\":1024}") ≡ Some (Ok (Some 1024))
@@ -179,8 +229,8 @@ two_buses =
     ++ codes "\"filters\":[{\"accept\":\"0C0\",\"fifo\":0},{\"accept\":\"120:7F0\",\"fifo\":0},{"
     ++ codes "\"accept\":\"18FEF100\",\"fifo\":1}]},{\"name\":\"gw_body\",\"segment\":\"body\",\"on\":0,"
     ++ codes "\"txfp\":false}],\"routes\":[{\"name\":\"signals\",\"from\":\"gw_pt\",\"fifo\":0,"
-    ++ codes "\"to\":\"gw_body\",\"queue\":16}],\"faults\":[{\"segment\":\"body\",\"bit\":\"5ms\","
-    ++ codes "\"until\":\"6ms\",\"level\":1}]}"
+    ++ codes "\"to\":\"gw_body\",\"every\":\"1ms\",\"burst\":8,\"queue\":16}],\"faults\":[{"
+    ++ codes "\"segment\":\"body\",\"bit\":\"5ms\",\"until\":\"6ms\",\"level\":1}]}"
 
 abbrev engine_messages : List MessageValue
 engine_messages =
@@ -223,7 +273,15 @@ read_two_buses : read_as script_of two_buses ≡ Some (Ok (record {
   controllers =
       record { name = codes "gw_pt"; segment = 0; on = 0; txfp = true; banks = filter_banks }
       ∷ record { name = codes "gw_body"; segment = 1; on = 0; txfp = false; banks = replicate 28 unlisted } ∷ [];
-  routes = record { name = codes "signals"; source = 0; fifo = 0; target = 1; rewrites = []; queue = Some 16 } ∷ [];
+  routes = record {
+    name = codes "signals";
+    source = 0;
+    fifo = 0;
+    target = 1;
+    rewrites = [];
+    pace = record { every = Some 500; burst = 8 };
+    queue = Some 16;
+  } ∷ [];
   faults = OnLine 1 2500 3000 true ∷ [];
   aborts = [];
 }))

@@ -12,6 +12,7 @@ pub mod Filters
 pub mod BankLists
 pub mod Controllers
 pub mod ControllerParts
+pub mod Paces
 pub mod Routes
 pub mod RouteParts
 pub mod PlannedFaults

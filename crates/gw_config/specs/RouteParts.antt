@@ -10,5 +10,6 @@ route_view r = record {
   fifo = r.fifo;
   target = r.target;
   rewrites = r.rewrites.items;
+  pace = r.pace;
   queue = r.queue;
 }

@@ -33,7 +33,7 @@ unfoldable pub lists_of : Format → Data → Result ScriptValue Fault
 lists_of format from = do
   segments ← segments_of format from
   controllers ← controllers_of format segments from
-  routes ← routes_of format.version controllers from
+  routes ← routes_of format controllers from
   faults ← planned_faults_of format segments controllers from
   aborts ← planned_aborts_of format.version routes from
   Ok (record {

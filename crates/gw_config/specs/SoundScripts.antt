@@ -4,6 +4,7 @@ use Rattle.std.specs.Prelude.{◌≡◌, ◌≢◌, ℕ, ◌+◌, ◌-◌, ◌*�
 use Rattle.bx_core.specs.Lists.{Each}
 use Rattle.gw_config.specs.declared.planned_fault.PlannedFault.{PlannedFault}
 use Rattle.gw_config.specs.declared.planned_fault.PlannedFault.TheVariants.{AtNode, OnLine}
+use Rattle.gw_config.specs.declared.pace.Pace.{Pace}
 use Rattle.gw_config.specs.declared.planned_abort.PlannedAbort.{PlannedAbort}
 use Rattle.gw_config.specs.Messages.{MessageValue, instances_of}
 use Rattle.gw_config.specs.Talkers.{TalkerValue}
@@ -33,10 +34,14 @@ IsSegmentIn bits s = Each (IsTalkerIn bits) s.talkers
 abbrev pub IsControllerIn : ℕ → List SegmentValue → ControllerValue → Type 0
 IsControllerIn bits segments c = (c.on < bits) × (c.segment < length segments)
 
+-- turns are made behind every tick to behind every millionth one, 1 to 1,000 of them
+abbrev pub IsPaceIn : Pace → Type 0
+IsPaceIn p = IfSome p.every (λ ticks. (1 ≤ ticks) × (ticks ≤ 1000000)) × (1 ≤ p.burst) × (p.burst ≤ 1000)
+
 -- its controllers are there, there are two FIFOs, and a queue has room for 1 to 1,024 frames
 abbrev pub IsRouteIn : List ControllerValue → RouteValue → Type 0
 IsRouteIn controllers r = (r.source < length controllers) × (r.fifo ≤ 1) × (r.target < length controllers)
-    × IfSome r.queue (λ size. (1 ≤ size) × (size ≤ 1024))
+    × IsPaceIn r.pace × IfSome r.queue (λ size. (1 ≤ size) × (size ≤ 1024))
 
 -- it begins at a bit of the run, lasts at least one bit, and ends with the run at the latest
 abbrev pub LastsIn : ℕ → ℕ → ℕ → Type 0

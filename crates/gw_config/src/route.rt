@@ -10,7 +10,9 @@ ghost use Rattle.gw_config.specs.Rewrites.{most_rewrites};
 ghost use Rattle.gw_config.specs.SoundScripts.{IsRouteIn};
 
 use crate::controller::Controller;
+use crate::format::Format;
 use crate::object::element_of;
+use crate::pace::{Pace, pace_of};
 use crate::rewrites::{MOST_REWRITES, rewrites_of};
 use crate::version::Version;
 use arrayvec::ArrayVec;
@@ -27,7 +29,9 @@ use std::marker::Model;
 const MOST_ROUTES: usize = 16;
 
 /// The fields that a route of version 3 may have.
-const FIELDS: [&'static str; 6] = ["name", "from", "fifo", "to", "rewrite", "queue"];
+const FIELDS: [&'static str; 8] = [
+    "name", "from", "fifo", "to", "rewrite", "every", "burst", "queue",
+];
 
 /// The greatest number of routes into one controller.
 const MOST_INTO_ONE: usize = 8;
@@ -36,7 +40,8 @@ const MOST_INTO_ONE: usize = 8;
 const MOST_QUEUED: u64 = 1_024;
 
 /// A way from a FIFO of one controller into another controller, or into the same. Contracts see its
-/// name, the places of the two controllers, the FIFO, the new identifiers of frames, and the size of its queue.
+/// name, the places of the two controllers, the FIFO, the new identifiers of frames, its pace, and the size of its
+/// queue.
 #[derive(Drop)]
 pub struct Route {
     name: String,
@@ -44,6 +49,7 @@ pub struct Route {
     fifo: u8,
     target: usize,
     rewrites: ArrayVec<Rewrite, MOST_REWRITES>,
+    pace: Pace,
     queue: Option<u32>,
 }
 
@@ -92,6 +98,13 @@ impl Route {
         ensures few { length result.now ≤ most_rewrites }
     {
         self.rewrites.as_slice()
+    }
+
+    /// Returns when it makes its turns in a run in one thread. In versions 1 and 2 the run says it.
+    pub fn pace(&self) -> Pace
+        ensures { result ≡ self.now.pace }
+    {
+        self.pace
     }
 
     /// Returns how many frames it holds at most between the FIFO and the mailboxes, 1 to 1,024, which it takes out of the
@@ -153,23 +166,27 @@ fn queue_of(from: &Value, version: Version) -> Result<Option<u32>, ScriptFault>
 fn route_with(
     alloc: Global,
     from: &Value,
-    version: Version,
+    format: Format,
     controllers: &[Controller],
     front: &[Route],
     name: &str,
 ) -> Result<Route, ScriptFault>
     ensures value { ReadsUnlessMemory (λ r. r) result
-        (route_with version controllers.now front.now name.now (view from.now)) }
+        (route_with format controllers.now front.now name.now (view from.now)) }
     ensures range { IfOk result (IsRouteIn controllers.now) }
 {
     let source = place_named(from, "from", controllers)?;
     let fifo = whole(from, "fifo", 0, 1)? as u8;
     let target = place_named(from, "to", controllers)?;
-    let rewrites = match rewrites_of(from, version) {
+    let rewrites = match rewrites_of(from, format.version) {
         Ok(rewrites) => rewrites,
         Err(fault) => return Err(fault),
     };
-    let queue = match queue_of(from, version) {
+    let pace = match pace_of(from, format) {
+        Ok(pace) => pace,
+        Err(fault) => return Err(fault),
+    };
+    let queue = match queue_of(from, format.version) {
         Ok(queue) => queue,
         Err(fault) => return Err(fault),
     };
@@ -184,6 +201,7 @@ fn route_with(
             fifo,
             target,
             rewrites,
+            pace,
             queue,
         })
     } else {
@@ -194,7 +212,7 @@ fn route_with(
 /// Reads the routes between these controllers.
 #[derive(Drop)]
 struct RouteReader<'a> {
-    version: Version,
+    format: Format,
     controllers: &'a [Controller],
 }
 
@@ -204,16 +222,16 @@ impl<'a> ReadsElement for RouteReader<'a> {
 
     type Element = Route;
 
-    ghost reading = { λ s. route_of s.version s.controllers.now };
+    ghost reading = { λ s. route_of s.format s.controllers.now };
 
     ghost keeps = { λ s. IsRouteIn s.controllers.now };
 
     /// Returns the route that an element describes, behind those in front of it.
     #[tactic(auto, unfolding(crate::specs::Routes::route_of))]
     fn read(&self, alloc: Global, value: &Value, front: &[Route]) -> Result<Route, ScriptFault> {
-        let from = element_of(self.version, "routes", &FIELDS, value)?;
+        let from = element_of(self.format.version, "routes", &FIELDS, value)?;
         let name = new_name(from, "routes", front)?;
-        route_with(alloc, from, self.version, self.controllers, front, name)
+        route_with(alloc, from, self.format, self.controllers, front, name)
     }
 }
 
@@ -222,16 +240,16 @@ impl<'a> ReadsElement for RouteReader<'a> {
 pub fn routes_of(
     alloc: Global,
     from: &Value,
-    version: Version,
+    format: Format,
     controllers: &[Controller],
 ) -> Result<Vec<Route>, ScriptFault>
-    ensures value { ReadsUnlessMemory (λ v. v.items) result (routes_of version controllers.now (view from.now)) }
+    ensures value { ReadsUnlessMemory (λ v. v.items) result (routes_of format controllers.now (view from.now)) }
     ensures range { IfOk result (λ v. Each (IsRouteIn controllers.now) v.items) }
     ensures few { IfOk result (λ v. length v.items ≤ 16) }
 {
     let items = list(from, "routes", MOST_ROUTES)?;
     let reader = RouteReader {
-        version,
+        format,
         controllers,
     };
     read_each(alloc, items, &reader)

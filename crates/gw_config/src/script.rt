@@ -190,7 +190,7 @@ fn lists_of(alloc: Global, from: &Value, format: Format) -> Result<Script, Scrip
 {
     let segments = segments_of(alloc, from, format)?;
     let controllers = controllers_of(alloc, from, format, segments.as_slice())?;
-    let routes = routes_of(alloc, from, format.version, controllers.as_slice())?;
+    let routes = routes_of(alloc, from, format, controllers.as_slice())?;
     let faults = planned_faults_of(
         alloc,
         from,

@@ -6,3 +6,4 @@ pub mod Sublists
 pub mod Plans
 pub mod Fills
 pub mod Idles
+pub mod Counts

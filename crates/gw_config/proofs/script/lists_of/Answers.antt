@@ -26,7 +26,7 @@ returns-clause-sound c =
     let format = c.args.format in
     let orderly = script_orderly format s from c.in_ok-segments.ensures.value
     (ap (λ ss. controllers_of format ss from) (sym c.as_slice.ensures.value) ∙ c.in_ok-controllers.ensures.value)
-    (ap (λ cs. routes_of format.version cs from) (sym c.as_slice-2.ensures.value) ∙ c.in_ok-routes.ensures.value)
+    (ap (λ cs. routes_of format cs from) (sym c.as_slice-2.ensures.value) ∙ c.in_ok-routes.ensures.value)
     (ap (λ ss. planned_faults_of format ss s.controllers from) (sym c.as_slice-3.ensures.value)
     ∙ ap (λ cs. planned_faults_of format c.as_slice-3.result.now cs from) (sym c.as_slice-4.ensures.value)
     ∙ c.in_ok-faults.ensures.value) in
