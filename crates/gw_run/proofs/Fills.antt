@@ -1,5 +1,5 @@
 -- Filling the queues of routes keeps what joins segments and routes.
-use Rattle.std.proofs.Common.{◌≡◌, ◌≢◌, ℕ, ◌+◌, ◌<◌, Some, List, length, slice_get, sym, ap, subst, arith, ◌∙◌}
+use Rattle.std.proofs.Common.{◌≡◌, ◌≢◌, ℕ, ◌+◌, ◌<◌, Some, List, length, slice_get, sym, ap, subst, arith, ◌∙◌, ◌++◌}
 use Rattle.std.proofs.lemmas.Option.{slice_get_within}
 use Rattle.bx_core.specs.PlainMail.{core_of}
 use Rattle.bx_core.specs.Stands.{RouteStands}

@@ -135,9 +135,9 @@ idles_keeps more old new h = record {
   fifo_is = h.fifo_is;
   target_is = h.target_is;
   number_is = h.number_is;
-  queue_is = h.queue_is;
-  size_is = h.size_is;
-  rewrites_is = h.rewrites_is;
+  queue_is = h.tied.0;
+  size_is = h.tied.1;
+  rewrites_is = h.tied.2;
   plan = λ planned p.
       subst (FromPlan planned) (sym h.hand_is) (planned_idled planned more (hand_value old.hand) p);
 }
@@ -162,7 +162,7 @@ leads_idled more sites old new h l = record {
   takes = record {
     intake = l.takes.intake;
     slot_is = ap (slot_of l.from) h.fifo_is ∙ l.takes.slot_is;
-    queue_is = l.takes.queue_is ∙ sym h.queue_is;
+    queue_is = l.takes.queue_is ∙ sym h.tied.0;
   };
   log = subst LogsReleased (sym h.hand_is) l.log;
 }
