@@ -1,5 +1,5 @@
 -- When the routes of a run in one thread make their turns.
-use Rattle.std.specs.Prelude.{◌≡◌, ℕ, ◌+◌, ◌*◌, ◌/◌, ◌<◌, ◌≤◌, min, Some, unwrap_or, List, slice_get}
+use Rattle.std.specs.Prelude.{◌≡◌, ℕ, ◌+◌, ◌-◌, ◌*◌, ◌/◌, ◌<◌, ◌≤◌, min, Option, Some, None, unwrap_or, List, slice_get}
 use Rattle.gw_config.specs.Routes.{RouteValue}
 use Rattle.gw_config.specs.Scripts.{ScriptValue}
 use Rattle.gw_script.specs.declared.report.Report.{Report}
@@ -27,6 +27,11 @@ next_due s ticks = (ticks / s.every + 1) * s.every
 pub record HasTurned (s : Schedule) (ticks turns : ℕ) : Type 0 where
   pub at_least : min (ticks / s.every) 1000000 ≤ turns
   pub at_most : turns ≤ min (ticks / s.every * s.burst) 1000000
+
+-- how often turns are made behind the ticks from so many until so many
+abbrev pub idle_bursts : Option Schedule → ℕ → ℕ → ℕ
+idle_bursts None made next = 0
+idle_bursts (Some s) made next = next / s.every - made / s.every
 
 -- so did each route of a report
 abbrev pub EachTurned : ℕ → ScriptValue → Report → Type 0

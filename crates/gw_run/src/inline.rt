@@ -1,17 +1,17 @@
 //! Runs in one thread.
 
-ghost use Rattle.std.specs.Prelude.{◌≡◌, ◌<◌, ℕ, List, IfOk, IfErr, OnOk, Some, slice_get};
+ghost use Rattle.std.specs.Prelude.{◌≡◌, ◌<◌, ℕ, List, IfOk, IfErr, OnOk, Some, length, map, slice_get};
 ghost use Rattle.bx_core.specs.Lists.{Each};
 ghost use Rattle.bx_core.specs.declared.entry.Entry.{Entry};
 ghost use Rattle.gw_script.specs.NamedPlaces.{Names};
 ghost use Rattle.gw_config.specs.SoundScripts.{IsSound};
 ghost use Rattle.gw_script.specs.declared.route_report.RouteReport.{RouteReport};
 ghost use Rattle.gw_ending.specs.Headline.{NotRefilled, Balances};
-ghost use Rattle.gw_ending.specs.Reports.{AreOrdered, EachTurned, RunsSegments, RunsRoutes, AreStartsOf, lines_of};
+ghost use Rattle.gw_ending.specs.Reports.{AreOrdered, RunsSegments, RunsRoutes, AreStartsOf, lines_of};
 ghost use Rattle.gw_opening.specs.Openings.{AreNewSites, HaveMails};
-ghost use Rattle.gw_route.specs.Turn.{turns_in};
 ghost use Rattle.gw_run.specs.Finals.{HasRun};
 ghost use Rattle.gw_run.specs.Ports.{IsNewMail};
+ghost use Rattle.gw_run.specs.Schedules.{AreSchedules, EachTurned, schedule_of};
 ghost use Rattle.gw_run.specs.Worlds.{Opens, HaveTurned, NoneShort};
 ghost use Rattle.gw_run.specs.declared.run_fault.RunFault.TheVariants.{Memory as WantOfMemory};
 
@@ -19,6 +19,7 @@ use crate::closing::close_sites;
 use crate::opening::sites_of;
 use crate::port::Site;
 use crate::run_fault::RunFault;
+use crate::schedule::{Schedule, schedules_of};
 use crate::world::make_all;
 use can_frame::Memory;
 use gw_ending::end_run;
@@ -33,16 +34,17 @@ fn make_bits_and_turns<R: Wait>(
     script: &Script,
     sites: &mut [Site],
     lanes: &mut [Lane],
-    turn: u32,
+    schedules: &[Schedule],
 ) -> Result<(), Memory>
     requires sound { IsSound script.now }
-    requires turn { 0 < turn }
+    requires schedules { AreSchedules schedules.now }
+    requires all { length schedules.now ≡ length script.now.routes }
     requires opens { Opens script.now sites.old lanes.old }
     ensures run { OnOk result (HasRun script.now sites.new lanes.new) }
-    ensures turned { OnOk result (HaveTurned turn script.now.bits lanes.new) }
+    ensures turned { OnOk result (HaveTurned schedules.now script.now.bits lanes.new) }
     ensures short { OnOk result (NoneShort sites.new) }
 {
-    make_all(rt, sites, lanes, u64::from(script.bits()), u64::from(turn))?;
+    make_all(rt, sites, lanes, schedules, u64::from(script.bits()))?;
     Ok(())
 }
 
@@ -59,10 +61,18 @@ fn run_routes<R: Wait>(
     requires sites { AreNewSites script.now sites.old }
     requires mails { HaveMails IsNewMail script.now sites.old }
     ensures run { IfOk result (λ lanes. HasRun script.now sites.new lanes.items) }
-    ensures turned { IfOk result (λ lanes. HaveTurned turn script.now.bits lanes.items) }
+    ensures turned { IfOk result (λ lanes. HaveTurned (map (schedule_of turn) script.now.routes) script.now.bits
+        lanes.items) }
 {
     let mut lanes = lanes_of(alloc, script, sites)?;
-    make_bits_and_turns(rt, script, sites, lanes.as_mut_slice(), turn)?;
+    let schedules = schedules_of(alloc, script, turn)?;
+    make_bits_and_turns(
+        rt,
+        script,
+        sites,
+        lanes.as_mut_slice(),
+        schedules.as_slice(),
+    )?;
     Ok(lanes)
 }
 
@@ -73,7 +83,7 @@ fn run<R: Wait>(rt: &R, alloc: Global, script: &Script, turn: u32) -> Result<Rep
     ensures segments { IfOk result (RunsSegments script.now) }
     ensures routes { IfOk result (RunsRoutes 3 script.now) }
     ensures names { IfOk result (Names script.now) }
-    ensures turns { IfOk result (EachTurned (turns_in turn script.now.bits)) }
+    ensures turns { IfOk result (EachTurned turn script.now) }
 {
     let mut sites = sites_of(alloc, script)?;
     let lanes = run_routes(rt, alloc, script, sites.as_mut_slice(), turn)?;
@@ -81,11 +91,12 @@ fn run<R: Wait>(rt: &R, alloc: Global, script: &Script, turn: u32) -> Result<Rep
     end_run(rt, alloc, script, closed, lanes)
 }
 
-/// Runs a script in this thread: for each of its bits, each segment in the order of the script makes one
-/// bit; and where the number of bits made is a multiple of `turn`, each route in the order of the script
-/// then makes one turn. Bits at which no controller needs its mailboxes may be simulated earlier, and turns at which
-/// nothing waits are only counted. Each route's `turns` in the report is the script's bits divided by `turn`, rounded
-/// down, up to 1,000,000.
+/// Runs a script in this thread: for each of its bits, each segment in the order of the script makes one bit; then the
+/// queues of the routes are filled; and where the number of bits made is a multiple of a route's `every`, or of `turn`
+/// where it has none, it makes turns, in the order of the script, until one is idle or waits, at most as many as its
+/// `burst`. Bits at which no controller needs its mailboxes may be simulated earlier, and turns at which nothing waits
+/// are only counted. Each route's `turns` in the report is at least the script's bits divided by that number, rounded
+/// down, and at most `burst` times that, both up to 1,000,000.
 ///
 /// Each controller has three transmit mailboxes and two receive FIFOs of three frames (RM0008, bxCAN, "Transmission
 /// handling" and "Reception handling").
@@ -113,7 +124,7 @@ pub fn run_inline<R: Wait>(
     ensures segments { IfOk result (RunsSegments script.now) }
     ensures routes { IfOk result (RunsRoutes 3 script.now) }
     ensures names { IfOk result (Names script.now) }
-    ensures turns { IfOk result (EachTurned (turns_in turn script.now.bits)) }
+    ensures turns { IfOk result (EachTurned turn script.now) }
     ensures err { IfErr result (λ fault. fault ≡ WantOfMemory) }
 {
     match run(rt, alloc, script, turn) {

@@ -7,6 +7,7 @@ mod lane;
 mod opening;
 mod port;
 mod run_fault;
+mod schedule;
 mod site;
 mod stretch;
 mod threaded;

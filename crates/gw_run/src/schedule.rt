@@ -1,7 +1,8 @@
 //! When the routes of a run in one thread make their turns.
 
 ghost use Rattle.std.specs.Prelude.{◌≡◌, ◌≢◌, ◌<◌, ◌≤◌, ◌%◌, ℕ, List, IfOk, Some, map, slice_get, true, false};
-ghost use Rattle.gw_run.specs.Schedules.{AreSchedules, IsSchedule, next_due, schedule_of};
+ghost use Rattle.gw_config.specs.SoundScripts.{IsSound};
+ghost use Rattle.gw_run.specs.Schedules.{AreSchedules, next_due, schedule_of};
 
 use gw_opening::push_one;
 use gw_script::{Route, Script};
@@ -61,7 +62,10 @@ pub(crate) fn schedules_of(
     script: &Script,
     turn: u32,
 ) -> Result<Vec<Schedule>, AllocError>
-    ensures { IfOk result (λ schedules. schedules.items ≡ map (schedule_of turn) script.now.routes) }
+    requires sound { IsSound script.now }
+    requires turn { 0 < turn }
+    ensures value { IfOk result (λ schedules. schedules.items ≡ map (schedule_of turn) script.now.routes) }
+    ensures sound { IfOk result (λ schedules. AreSchedules schedules.items) }
 {
     let mut schedules = Vec::new(alloc);
     for route in script.routes() {

@@ -1,13 +1,15 @@
 //! Stretches of bits at which each segment idles or is ahead, and no route has anything to do.
 
-ghost use Rattle.std.specs.Prelude.{◌≡◌, ◌<◌, ◌≤◌, ◌+◌, ℕ, true};
+ghost use Rattle.std.specs.Prelude.{◌≡◌, ◌<◌, ◌≤◌, ◌+◌, ℕ, true, length};
 ghost use Rattle.can_station.specs.Places.{AtPlaces};
 ghost use Rattle.gw_opening.specs.declared.lane.Lane.{Lane};
+ghost use Rattle.gw_run.specs.Schedules.{AreSchedules};
 ghost use Rattle.gw_run.specs.Sites.{SiteIdles};
 ghost use Rattle.gw_run.specs.Worlds.{AllAskedInVain, AllReach, AllWait, AreFar, HaveMade, HaveMadeUpTo, HaveTurned};
-ghost use Rattle.gw_run.specs.Worlds.{LaneIdles, LanesKeep, MayIdle, NoneShort, SitesKeep, WorldHolds};
+ghost use Rattle.gw_run.specs.Worlds.{LaneIdles, LanesKeep, MayIdle, NoneShort, SitesKeep, WorldHolds, idle_turns};
 
 use crate::port::Site;
+use crate::schedule::Schedule;
 use crate::site::{idle_on, idles_until};
 use gw_opening::Lane;
 
@@ -23,14 +25,18 @@ fn all_wait(lanes: &[Lane]) -> bool
     true
 }
 
-/// So many turns of each of these routes at which it has nothing to do.
-fn idle_lanes(lanes: &mut [Lane], more: u64)
+/// Counts the turns of each of these routes behind the ticks from `made` until `next`, at which it has nothing to do.
+fn idle_lanes(lanes: &mut [Lane], schedules: &[Schedule], made: u64, next: u64)
     requires asked { AllAskedInVain lanes.old }
     requires waits { AllWait lanes.old }
-    ensures { AtPlaces (λ k. LaneIdles more) lanes.old lanes.new }
+    requires schedules { AreSchedules schedules.now }
+    requires all { length lanes.old ≡ length schedules.now }
+    requires more { made ≤ next }
+    ensures { AtPlaces (λ k. LaneIdles (idle_turns schedules.now made next k)) lanes.old lanes.new }
 {
     for place in 0..lanes.len() {
-        lanes[place].hand.idle(more);
+        let every = u64::from(schedules[place].every);
+        lanes[place].hand.idle(next / every - made / every);
     }
 }
 
@@ -65,7 +71,7 @@ fn all_idle_until(sites: &[Site], last: u64) -> u64
 /// Passes over bits of all segments, as long as each idles or is ahead, at most until all have made `last`. Returns how
 /// many all have made then. Behind a bit that all have made, it passes over all bits at once up to the next one at which
 /// something may happen.
-fn idle_until(sites: &mut [Site], made: u64, last: u64) -> u64
+pub(crate) fn idle_until(sites: &mut [Site], made: u64, last: u64) -> u64
     requires may { MayIdle made sites.old }
     requires far { AreFar made sites.old }
     requires less { made ≤ last }
@@ -95,26 +101,27 @@ fn nothing_waits(lanes: &[Lane], idle: bool) -> bool
 }
 
 /// A stretch of bits at which each segment is ahead, or idles and no request waits there, and the turns behind them,
-/// where the last turns were idle and each route waits for a frame: so none of these turns has anything to do. How many
-/// bits are made then, and one is left to make; some segments may have made one more.
+/// where the last turns of all routes were idle and each route waits for a frame: so none of these turns has anything to
+/// do. How many bits are made then, and one is left to make; some segments may have made one more.
 pub(crate) fn stretch(
     sites: &mut [Site],
     lanes: &mut [Lane],
+    schedules: &[Schedule],
     idle: bool,
     bits: u64,
     made: u64,
-    turn: u64,
 ) -> u64
     requires world { WorldHolds sites.old lanes.old }
     requires made { HaveMade bits made sites.old }
     requires asked { idle ≡ true → AllAskedInVain lanes.old }
-    requires turned { HaveTurned turn made lanes.old }
+    requires schedules { AreSchedules schedules.now }
+    requires all { length lanes.old ≡ length schedules.now }
+    requires turned { HaveTurned schedules.now made lanes.old }
     requires still { made < bits }
-    requires turn { 0 < turn }
     ensures world { WorldHolds sites.new lanes.new }
     ensures made { HaveMadeUpTo bits (result + 1) sites.new }
     ensures far { AreFar result sites.new }
-    ensures turned { HaveTurned turn result lanes.new }
+    ensures turned { HaveTurned schedules.now result lanes.new }
     ensures short { NoneShort sites.old → NoneShort sites.new }
     ensures lanes { LanesKeep lanes.old lanes.new }
     ensures keeps { SitesKeep lanes.old sites.old sites.new }
@@ -125,6 +132,6 @@ pub(crate) fn stretch(
         return made;
     }
     let next = idle_until(sites, made, bits - 1);
-    idle_lanes(lanes, next / turn - made / turn);
+    idle_lanes(lanes, schedules, made, next);
     next
 }

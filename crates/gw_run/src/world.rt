@@ -1,20 +1,22 @@
 //! All segments and routes of a run.
 
-ghost use Rattle.std.specs.Prelude.{◌≡◌, ◌≢◌, ◌<◌, ◌≤◌, ◌+◌, ◌%◌, ℕ, true, false, List, IfOk, OnOk, Some, length};
+ghost use Rattle.std.specs.Prelude.{◌≡◌, ◌<◌, ◌≤◌, ◌+◌, ℕ, true, List, IfOk, OnOk, Some, length};
 ghost use Rattle.std.specs.Prelude.{slice_get};
 ghost use Rattle.can_station.specs.Places.{AtPlaces};
 ghost use Rattle.gw_opening.specs.declared.lane.Lane.{Lane};
 ghost use Rattle.gw_run.specs.Ports.{Site};
 ghost use Rattle.gw_run.specs.Sites.{SiteHolds, SiteMoves};
 ghost use Rattle.gw_run.specs.Lanes.{AskedInVain};
-ghost use Rattle.gw_run.specs.Worlds.{AllAskedInVain, AllHavePast, AreFar, Leads, LaneFills, LaneTurns};
-ghost use Rattle.gw_run.specs.Worlds.{LanesKeep, SitesKeep, WorldHolds};
-ghost use Rattle.gw_run.specs.Worlds.{SameSegments, HaveMade, HaveMadeUpTo, CountsTurn, HaveTurned, NoneShort};
+ghost use Rattle.gw_run.specs.Schedules.{AreSchedules, IsSchedule};
+ghost use Rattle.gw_run.specs.Worlds.{AllAskedInVain, AllHavePast, AreFar, CountsByIts, CountsTurns, Leads, LaneFills};
+ghost use Rattle.gw_run.specs.Worlds.{LaneTurns, LanesKeep, NoneTurns, SitesKeep, WorldHolds};
+ghost use Rattle.gw_run.specs.Worlds.{SameSegments, HaveMade, HaveMadeUpTo, HaveTurned, NoneShort};
 
-use crate::lane::turn_on;
+use crate::lane::turns_on;
 use crate::port::Site;
+use crate::schedule::{Schedule, first_due};
 use crate::site::bits_of;
-use crate::stretch::stretch;
+use crate::stretch::{idle_until, stretch};
 use can_frame::Memory;
 use gw_opening::Lane;
 use std::sync::Wait;
@@ -42,22 +44,63 @@ pub(crate) fn make_bits<R: Wait>(
     Ok(())
 }
 
-/// Fills the queue of a route and makes a turn of it: whether it had nothing to do. `Memory` where it was refused to the hand, or to the mailboxes at
-/// any time before.
-fn turn_of<R: Wait>(rt: &R, sites: &mut [Site], lane: &mut Lane) -> Result<bool, Memory>
-    requires { Leads sites.old lane.old }
+/// Fills the queue of a route behind the tick of this number, counted from 1, and makes its turns, if they are due.
+/// Returns whether they were due, and it had nothing to do. `Memory` where it was refused to the hand, or to the
+/// mailboxes at any time before.
+fn serve<R: Wait>(
+    rt: &R,
+    sites: &mut [Site],
+    lane: &mut Lane,
+    schedule: Schedule,
+    tick: u64,
+) -> Result<bool, Memory>
+    requires leads { Leads sites.old lane.old }
+    requires schedule { IsSchedule schedule }
     ensures turns { LaneTurns sites.old sites.new lane.old lane.new }
-    ensures counted { OnOk result (CountsTurn lane.old lane.new) }
+    ensures counted { OnOk result (CountsTurns schedule tick lane.old lane.new) }
     ensures idle { IfOk result (λ idle. idle ≡ true → AskedInVain lane.new.hand) }
     ensures short { OnOk result (NoneShort sites.old → NoneShort sites.new) }
 {
+    if !schedule.is_due(tick) {
+        lane.hand.fill(rt)?;
+        return Ok(false);
+    }
     let place = lane.target;
-    turn_on(
+    turns_on(
         rt,
         &mut lane.hand,
         &mut sites[place.site].ports[place.port],
         lane.number,
+        schedule.burst,
     )
+}
+
+/// Fills the queue of each route behind the tick of this number, counted from 1, and makes its turns, if they are due.
+/// Returns whether the turns of all routes were due, and none had anything to do. That one route makes its turns before
+/// the queue of another is filled changes nothing: neither knows of the other.
+pub(crate) fn serve_all<R: Wait>(
+    rt: &R,
+    sites: &mut [Site],
+    lanes: &mut [Lane],
+    schedules: &[Schedule],
+    tick: u64,
+) -> Result<bool, Memory>
+    requires world { WorldHolds sites.old lanes.old }
+    requires schedules { AreSchedules schedules.now }
+    requires all { length lanes.old ≡ length schedules.now }
+    ensures world { OnOk result (WorldHolds sites.new lanes.new) }
+    ensures counted { OnOk result (AtPlaces (CountsByIts schedules.now tick) lanes.old lanes.new) }
+    ensures idle { IfOk result (λ idle. idle ≡ true → AllAskedInVain lanes.new) }
+    ensures short { OnOk result (NoneShort sites.old → NoneShort sites.new) }
+    ensures segments { OnOk result (SameSegments sites.old sites.new) }
+    ensures lanes { OnOk result (LanesKeep lanes.old lanes.new) }
+    ensures keeps { OnOk result (SitesKeep lanes.old sites.old sites.new) }
+{
+    let mut idle = true;
+    for place in 0..lanes.len() {
+        idle &= serve(rt, sites, &mut lanes[place], schedules[place], tick)?;
+    }
+    Ok(idle)
 }
 
 /// Fills the queues of the routes, in their order, out of their FIFOs. `Memory` where it was refused to a hand.
@@ -71,70 +114,43 @@ fn fill_all<R: Wait>(rt: &R, lanes: &mut [Lane]) -> Result<(), Memory>
     Ok(())
 }
 
-/// Fills the queue of each route and makes a turn of it, in their order: whether none of them had anything to do. That one
-/// route makes its turn before the queue of another is filled changes nothing: neither knows of the other.
-pub(crate) fn make_turns<R: Wait>(
-    rt: &R,
-    sites: &mut [Site],
-    lanes: &mut [Lane],
-) -> Result<bool, Memory>
-    requires { WorldHolds sites.old lanes.old }
-    ensures world { OnOk result (WorldHolds sites.new lanes.new) }
-    ensures counted { OnOk result (AtPlaces (λ k. CountsTurn) lanes.old lanes.new) }
-    ensures idle { IfOk result (λ idle. idle ≡ true → AllAskedInVain lanes.new) }
-    ensures short { OnOk result (NoneShort sites.old → NoneShort sites.new) }
-    ensures segments { OnOk result (SameSegments sites.old sites.new) }
-    ensures lanes { OnOk result (LanesKeep lanes.old lanes.new) }
-    ensures keeps { OnOk result (SitesKeep lanes.old sites.old sites.new) }
-{
-    let mut idle = true;
-    for place in 0..lanes.len() {
-        idle &= turn_of(rt, sites, &mut lanes[place])?;
-    }
-    Ok(idle)
-}
-
-/// Whether so many bits are a multiple of this. Most runs make a turn behind each bit: then nothing is divided.
-fn is_multiple(made: u64, turn: u64) -> bool
-    requires { 0 < turn }
-    ensures yes { result ≡ true → made % turn ≡ 0 }
-    ensures no { result ≡ false → made % turn ≢ 0 }
-{
-    turn == 1 || made % turn == 0
-}
-
-/// This bit of each segment; then the queues of the routes are filled; then each route makes a turn where the bits made
-/// are a multiple of `turn`. Returns whether turns were made, and none of them had anything to do.
-fn step<R: Wait>(
+/// The bits of each segment until each has made so many of all that it has to make. Behind each bit but the last one
+/// the queues of the routes are filled, if one has a queue. No turns are made.
+fn make_until<R: Wait>(
     rt: &R,
     sites: &mut [Site],
     lanes: &mut [Lane],
     bits: u64,
-    bit: u64,
-    turn: u64,
-) -> Result<bool, Memory>
+    made: u64,
+    until: u64,
+) -> Result<(), Memory>
     requires world { WorldHolds sites.old lanes.old }
-    requires made { HaveMadeUpTo bits (bit + 1) sites.old }
-    requires far { AreFar bit sites.old }
-    requires turned { HaveTurned turn bit lanes.old }
-    requires still { bit < bits }
-    requires turn { 0 < turn }
+    requires made { HaveMadeUpTo bits (made + 1) sites.old }
+    requires far { AreFar made sites.old }
+    requires more { made < until }
+    requires until { until ≤ bits }
+    requires fits { bits ≤ 4294967295 }
     ensures world { OnOk result (WorldHolds sites.new lanes.new) }
-    ensures made { OnOk result (HaveMade bits (bit + 1) sites.new) }
-    ensures turned { OnOk result (HaveTurned turn (bit + 1) lanes.new) }
-    ensures filled { OnOk result ((bit + 1) % turn ≢ 0 → AtPlaces (λ k. LaneFills) lanes.old lanes.new) }
-    ensures idle { IfOk result (λ idle. idle ≡ true → AllAskedInVain lanes.new) }
+    ensures made { OnOk result (HaveMade bits until sites.new) }
+    ensures turned { OnOk result (NoneTurns lanes.old lanes.new) }
     ensures short { OnOk result (NoneShort sites.old → NoneShort sites.new) }
     ensures lanes { OnOk result (LanesKeep lanes.old lanes.new) }
     ensures keeps { OnOk result (SitesKeep lanes.old sites.old sites.new) }
 {
-    make_bits(rt, sites, bit + 1, bits)?;
-    if !is_multiple(bit + 1, turn) {
-        fill_all(rt, lanes)?;
-        return Ok(false);
+    if lanes.iter().all(|lane| lane.hand.queue.is_none()) {
+        return make_bits(rt, sites, until, bits);
     }
-    let idle = make_turns(rt, sites, lanes)?;
-    Ok(idle)
+    let mut made = made;
+    loop {
+        made += 1;
+        make_bits(rt, sites, made, bits)?;
+        if made >= until {
+            return Ok(());
+        }
+        fill_all(rt, lanes)?;
+        // while all segments idle, the FIFOs and so the queues stay as they are
+        made = idle_until(sites, made, until - 1);
+    }
 }
 
 /// All bits of all segments, with the turns of the routes between them.
@@ -142,16 +158,18 @@ pub(crate) fn make_all<R: Wait>(
     rt: &R,
     sites: &mut [Site],
     lanes: &mut [Lane],
+    schedules: &[Schedule],
     bits: u64,
-    turn: u64,
 ) -> Result<(), Memory>
     requires world { WorldHolds sites.old lanes.old }
     requires made { HaveMade bits 0 sites.old }
-    requires turned { HaveTurned turn 0 lanes.old }
-    requires turn { 0 < turn }
+    requires schedules { AreSchedules schedules.now }
+    requires all { length lanes.old ≡ length schedules.now }
+    requires turned { HaveTurned schedules.now 0 lanes.old }
+    requires fits { bits ≤ 4294967295 }
     ensures world { OnOk result (WorldHolds sites.new lanes.new) }
     ensures made { OnOk result (HaveMade bits bits sites.new) }
-    ensures turned { OnOk result (HaveTurned turn bits lanes.new) }
+    ensures turned { OnOk result (HaveTurned schedules.now bits lanes.new) }
     ensures short { OnOk result (NoneShort sites.old → NoneShort sites.new) }
     ensures lanes { OnOk result (LanesKeep lanes.old lanes.new) }
     ensures keeps { OnOk result (SitesKeep lanes.old sites.old sites.new) }
@@ -163,9 +181,11 @@ pub(crate) fn make_all<R: Wait>(
     let mut made = 0;
     let mut idle = false;
     while made < bits {
-        made = stretch(sites, lanes, idle, bits, made, turn);
-        idle = step(rt, sites, lanes, bits, made, turn)?;
-        made += 1;
+        made = stretch(sites, lanes, schedules, idle, bits, made);
+        let due = first_due(schedules, made, bits);
+        make_until(rt, sites, lanes, bits, made, due)?;
+        idle = serve_all(rt, sites, lanes, schedules, due)?;
+        made = due;
     }
     Ok(())
 }
