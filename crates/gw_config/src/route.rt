@@ -227,11 +227,12 @@ impl<'a> ReadsElement for RouteReader<'a> {
     ghost keeps = { λ s. IsRouteIn s.controllers.now };
 
     /// Returns the route that an element describes, behind those in front of it.
-    #[tactic(auto, unfolding(crate::specs::Routes::route_of))]
+    #[tactic(auto, unfolding(crate::specs::Routes::route_of, crate::specs::Objects::element_of, gw_fields::specs::Fields::object_of, gw_fields::specs::Names::new_name))]
     fn read(&self, alloc: Global, value: &Value, front: &[Route]) -> Result<Route, ScriptFault> {
-        let from = element_of(self.format.version, "routes", &FIELDS, value)?;
+        let format = self.format;
+        let from = element_of(format.version, "routes", &FIELDS, value)?;
         let name = new_name(from, "routes", front)?;
-        route_with(alloc, from, self.format, self.controllers, front, name)
+        route_with(alloc, from, format, self.controllers, front, name)
     }
 }
 

@@ -1,14 +1,10 @@
 -- Laws of how many turns routes made, and of memory that was not refused.
-use Rattle.std.proofs.Common.{◌≡◌, ◌≢◌, ℕ, zero, suc, min, ◌+◌, ◌*◌, ◌/◌, ◌%◌, ◌<◌, ◌≤◌, inl, inr, ◌⊎◌, if◌then◌else◌, false}
-use Rattle.std.proofs.Common.{List, [], ◌∷◌, slice_get, refl, sym, ap, arith, ◌∙◌}
-use Rattle.std.proofs.lemmas.Option.{slice_get_within}
-use Rattle.std.proofs.lemmas.Bool.{cases_lt, lt-ltb}
-use Rattle.std.proofs.Math.Nat.{div-eq_of_lt-le, div-add-mod, mod-lt, zero-div, mul-suc, suc-mul, mul_comm}
-use Rattle.std.proofs.Math.Nat.{mul-zero}
+use Rattle.std.proofs.Common.{◌≡◌, ℕ, zero, suc, ◌<◌, ◌≤◌, inl, inr, ◌⊎◌, false}
+use Rattle.std.proofs.Common.{List, [], ◌∷◌, Some, map, option_map, slice_get, refl, sym, ap, subst, arith, ◌∙◌}
+use Rattle.std.proofs.lemmas.Option.{slice_get-map, slice_get_within}
 use Rattle.bx_core.specs.PlainMail.{short_of}
 use Rattle.can_station.specs.Places.{AtPlaces}
-use Rattle.can_station.proofs.Places.{some_there}
-use Rattle.gw_route.specs.Turn.{next_turn, turns_in}
+use Rattle.can_station.proofs.Places.{same_some, some_there}
 use Rattle.gw_config.specs.Scripts.{ScriptValue}
 use Rattle.gw_opening.specs.declared.lane.Lane.{Lane}
 use Rattle.gw_opening.specs.declared.place.Place.{Place}
@@ -18,41 +14,14 @@ use Rattle.gw_run.proofs.Starts.{new_mail_at}
 use Rattle.gw_run.specs.Sites.{SiteMoves}
 use Rattle.gw_opening.specs.Places.{IsAt, PortChanges}
 use Rattle.gw_ending.specs.Finals.{turns_made, turns_reported}
-use Rattle.gw_ending.specs.Reports.{EachTurned}
 use Rattle.gw_script.specs.declared.report.Report.{Report}
 use Rattle.gw_script.specs.declared.route_report.RouteReport.{RouteReport}
-use Rattle.bx_core.specs.Lists.{Each}
-use Rattle.gw_run.specs.Worlds.{Opens, LaneTurns, CountsTurn, HaveTurned, NoneShort}
+use Rattle.gw_run.specs.Schedules.{AreSchedules, EachTurned, HasTurned, next_due, schedule_of}
+use Rattle.gw_run.specs.Worlds.{Opens, LaneTurns, CountsByIts, HaveTurned, NoneShort, NoneTurns}
+use Rattle.gw_run.specs.declared.schedule.Schedule.{Schedule}
+use Rattle.gw_run.proofs.Schedules.{turned_by, turned_first}
 use Rattle.gw_opening.proofs.Changes.{place_cases}
 use Rattle.gw_site.proofs.Pairs.{pair_at}
-
--- a turn is due behind this bit, so there is one multiple more
-due-quotient : (turn bit : ℕ) → 0 < turn → (bit + 1) % turn ≡ 0 → (bit + 1) / turn ≡ bit / turn + 1
-due-quotient turn bit some due = by_count ((bit + 1) / turn) (div-add-mod (bit + 1) turn)
-  where
-    by_count : (q : ℕ) → turn * q + (bit + 1) % turn ≡ bit + 1 → q ≡ bit / turn + 1
-    by_count zero e = absurd (let none : turn * 0 ≡ 0 = mul-zero turn in omega (arith, due, none, e))
-    by_count (suc k) e =
-        let more : turn * suc k ≡ k * turn + turn = mul-suc turn k ∙ ap (λ n. n + turn) (mul_comm turn k) in
-        let next : (k + 1) * turn ≡ k * turn + turn =
-        ap (λ n. n * turn) (let one : k + 1 ≡ suc k = omega arith in one) ∙ suc-mul k turn in
-        let is : bit / turn ≡ k = div-eq_of_lt-le turn (let low : k * turn ≤ bit = omega (arith, due, more, e, some) in
-        low) (let high : bit < (k + 1) * turn = omega (arith, due, more, next, e) in high) in
-        omega (arith, is)
-
--- none is due, so there are as many
-same-quotient : (turn bit : ℕ) → 0 < turn → (bit + 1) % turn ≢ 0 → (bit + 1) / turn ≡ bit / turn
-same-quotient turn bit some none =
-    by_rest ((bit + 1) / turn) ((bit + 1) % turn) refl (div-add-mod (bit + 1) turn) (mod-lt (bit + 1) some)
-  where
-    by_rest : (q r : ℕ) → (bit + 1) % turn ≡ r → turn * q + r ≡ bit + 1 → r < turn → q ≡ bit / turn
-    by_rest q zero is e lt = absurd (none is)
-    by_rest q (suc r) is e lt =
-        let same : turn * q ≡ q * turn = mul_comm turn q in
-        let next : (q + 1) * turn ≡ q * turn + turn =
-        ap (λ n. n * turn) (let one : q + 1 ≡ suc q = omega arith in one) ∙ suc-mul q turn in
-        sym (div-eq_of_lt-le turn (let low : q * turn ≤ bit = omega (arith, same, e) in low)
-        (let high : bit < (q + 1) * turn = omega (arith, same, next, e, lt) in high))
 
 cons_not_nil : (x : ℕ) (xs : List ℕ) → x ∷ xs ≡ [] → ⊥
 cons_not_nil x xs e = cc
@@ -63,57 +32,44 @@ first_same x y xs ys e = cc
 rest_same : (x y : ℕ) (xs ys : List ℕ) → x ∷ xs ≡ y ∷ ys → xs ≡ ys
 rest_same x y xs ys e = cc
 
--- below a million each turn counts
-one-more : (turns : ℕ) → turns < 1000000 → next_turn turns ≡ turns + 1
-one-more turns few = ap (λ b. if b then turns + 1 else turns) (lt-ltb turns 1000000 few)
+pub turned_on : (schedules : List Schedule) (made tick : ℕ) (old mid new : List Lane) → AreSchedules schedules →
+    made < tick → ((k : ℕ) (s : Schedule) → slice_get schedules k ≡ Some s → tick ≤ next_due s made) →
+    NoneTurns old mid → AtPlaces (CountsByIts schedules tick) mid new → HaveTurned schedules made old →
+    HaveTurned schedules tick new
+turned_on schedules made tick old mid new are more first none counts h k s lane is e =
+    let between = some_there mid k (let within = slice_get_within new k lane e in omega (arith, within, counts.size)) in
+    let before = some_there old k
+    (let within = slice_get_within mid k between.0 between.1 in omega (arith, within, none.size)) in
+    let by = counts.at k between.0 lane between.1 e s is in
+    turned_by s made tick between.0.hand.turns lane.hand.turns (are k s is).every more (first k s is) by.due by.not_due
+    (subst (HasTurned s made) (sym (none.at k before.0 between.0 before.1 between.1)) (h k s before.0 is before.1))
 
--- behind a million the count stays
-next_of-most : (turns : ℕ) → next_turn (min turns 1000000) ≡ min (turns + 1) 1000000
-next_of-most turns = elim (cases_lt turns 1000000) [
-  | inl less ↦ (let is : min turns 1000000 ≡ turns = omega (arith, less) in
-      let more : turns + 1 ≡ min (turns + 1) 1000000 = omega (arith, less) in
-      ap next_turn is ∙ one-more turns less ∙ more)
-  | inr all ↦ (let is : min turns 1000000 ≡ 1000000 = omega (arith, all) in
-      let more : 1000000 ≡ min (turns + 1) 1000000 = omega (arith, all) in
-      ap next_turn is ∙ more)
-]
+pub none_turned : (s : ScriptValue) (sites : List Site) (lanes : List Lane) (schedules : List Schedule) →
+    Opens s sites lanes → HaveTurned schedules 0 lanes
+none_turned s sites lanes schedules o k schedule lane is e =
+    subst (HasTurned schedule 0)
+    (sym (pair_at (λ j route. IsNewLane s j route) s.routes lanes k lane o.opens.each_lane e).2.turns_is)
+    (turned_first schedule)
 
--- as many are counted as there are multiples
-same-count : (m n : ℕ) → m ≡ n → min m 1000000 ≡ min n 1000000
-same-count m n e = ap (λ k. min k 1000000) e
-
-pub turned_not : (turn bit : ℕ) (lanes : List Lane) → 0 < turn → (bit + 1) % turn ≢ 0 → HaveTurned turn bit lanes →
-    HaveTurned turn (bit + 1) lanes
-turned_not turn bit lanes some none h k lane e =
-    h k lane e ∙ same-count _ _ (sym (same-quotient turn bit some none))
-
-pub turned_once : (turn bit : ℕ) (old new : List Lane) → 0 < turn → (bit + 1) % turn ≡ 0 →
-    AtPlaces (λ k. CountsTurn) old new → HaveTurned turn bit old → HaveTurned turn (bit + 1) new
-turned_once turn bit old new some due counts h k lane e =
-    let within = slice_get_within new k lane e in
-    let before = some_there old k (omega (arith, within, counts.size)) in
-    counts.at k before.0 lane before.1 e ∙ ap next_turn (h k before.0 before.1) ∙ next_of-most (bit / turn)
-    ∙ same-count _ _ (sym (due-quotient turn bit some due))
-
-pub none_turned : (s : ScriptValue) (sites : List Site) (lanes : List Lane) (turn : ℕ) → Opens s sites lanes →
-    HaveTurned turn 0 lanes
-none_turned s sites lanes turn o k lane e =
-    (pair_at (λ j route. IsNewLane s j route) s.routes lanes k lane o.opens.each_lane e).2.turns_is
-    ∙ same-count 0 _ (sym (zero-div turn))
+-- the turns in a report are those of the route at its place
+turns_at : (lanes : List Lane) (reports : List RouteReport) → turns_reported reports ≡ turns_made lanes → (k : ℕ)
+    (r : RouteReport) → slice_get reports k ≡ Some r → (lane : Lane) × (slice_get lanes k ≡ Some lane)
+    × (r.turns ≡ lane.hand.turns)
+turns_at lanes [] same k r e = absurd (cc e)
+turns_at [] (x ∷ reports) same k r e = absurd (cons_not_nil _ _ same)
+turns_at (lane ∷ lanes) (x ∷ reports) same zero r e =
+    (lane, refl, ap (λ (y : RouteReport). y.turns) (same_some r x (sym e)) ∙ first_same _ _ _ _ same)
+turns_at (lane ∷ lanes) (x ∷ reports) same (suc k) r e = turns_at lanes reports (rest_same _ _ _ _ same) k r e
 
 -- the reports have the turns that the routes made
-pub each_turned : (turn bits : ℕ) (lanes : List Lane) (report : Report) → HaveTurned turn bits lanes →
-    turns_reported report.routes.items ≡ turns_made lanes → EachTurned (turns_in turn bits) report
-each_turned turn bits lanes report have same = each lanes report.routes.items have same
-  where
-    each : (lanes : List Lane) (reports : List RouteReport) → HaveTurned turn bits lanes →
-        turns_reported reports ≡ turns_made lanes → Each (λ (r : RouteReport). r.turns ≡ turns_in turn bits) reports
-    each lanes [] have same = tt
-    each [] (r ∷ reports) have same = absurd (cons_not_nil _ _ same)
-    each (lane ∷ lanes) (r ∷ reports) have same = (
-      first_same _ _ _ _ same ∙ have 0 lane refl,
-      each lanes reports (λ k. have (suc k)) (rest_same _ _ _ _ same),
-    )
+pub each_turned : (turn : ℕ) (s : ScriptValue) (lanes : List Lane) (report : Report) →
+    HaveTurned (map (schedule_of turn) s.routes) s.bits lanes →
+    turns_reported report.routes.items ≡ turns_made lanes → EachTurned turn s report
+each_turned turn s lanes report have same k route r is e =
+    let at = turns_at lanes report.routes.items same k r e in
+    subst (HasTurned (schedule_of turn route) s.bits) (sym at.2)
+    (have k (schedule_of turn route) at.0
+    (slice_get-map (schedule_of turn) s.routes k ∙ ap (option_map (schedule_of turn)) is) at.1)
 
 -- a port of those behind a change of one: that one, or another
 port_before : (Change : Port → Port → Type 0) (old new : List Site) (there : Place)

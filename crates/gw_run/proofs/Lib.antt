@@ -9,4 +9,5 @@ pub mod Keeps
 pub mod Fills
 pub mod Finals
 pub mod Closes
+pub mod Schedules
 pub mod Stretches

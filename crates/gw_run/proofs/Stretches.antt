@@ -1,9 +1,7 @@
 -- Stretches of bits at which each segment idles or is ahead.
-use Rattle.std.proofs.Common.{◌≡◌, ◌&&◌, Bool, true, false, ℕ, ◌+◌, ◌-◌, ◌/◌}
+use Rattle.std.proofs.Common.{◌≡◌, ◌&&◌, Bool, true, false, ℕ, ◌+◌, ◌-◌, ◌/◌, min}
 use Rattle.std.proofs.Common.{◌<◌, ◌≤◌, Some, List, length, set, slice_get, refl, sym, ap, subst, inl, inr}
 use Rattle.std.proofs.Common.{arith, ◌∙◌}
-use Rattle.std.proofs.Math.Nat.{div-mul-le_self}
-use Rattle.std.proofs.lemmas.Nat.{le-div}
 use Rattle.std.proofs.lemmas.Bool.{cases_eq, cases_lt}
 use Rattle.std.proofs.lemmas.Option.{slice_get_within}
 use Rattle.bx_core.specs.PlainMail.{core_of}
@@ -18,8 +16,11 @@ use Rattle.gw_opening.specs.Places.{IsAt, slot_of}
 use Rattle.gw_run.specs.Ports.{Site}
 use Rattle.gw_run.specs.Sites.{Reaches, SiteIdles, SiteMoves}
 use Rattle.gw_run.specs.Worlds.{AreFar, HaveMade, HaveMadeUpTo, HaveTurned, LaneIdles, LaneKeeps, LanesKeep, Leads}
-use Rattle.gw_run.specs.Worlds.{MayIdle, WorldHolds}
+use Rattle.gw_run.specs.Worlds.{MayIdle, WorldHolds, idle_turns}
+use Rattle.gw_run.specs.Schedules.{AreSchedules, idle_bursts}
+use Rattle.gw_run.specs.declared.schedule.Schedule.{Schedule}
 use Rattle.gw_run.proofs.Ahead.{ahead_least, ahead_up, idles_not, idles_on}
+use Rattle.gw_run.proofs.Schedules.{turned_idly}
 
 -- of some segments that made so many bits, or fewer, none made more than as many
 pub made_up_to : (bits made most : ℕ) (sites : List Site) → made ≤ most → HaveMade bits made sites →
@@ -142,9 +143,10 @@ idles_keeps more old new h = record {
       subst (FromPlan planned) (sym h.hand_is) (planned_idled planned more (hand_value old.hand) p);
 }
 
-pub lanes_idled : (more : ℕ) (old new : List Lane) → AtPlaces (λ k. LaneIdles more) old new → LanesKeep old new
+pub lanes_idled : (more : ℕ → ℕ) (old new : List Lane) → AtPlaces (λ k. LaneIdles (more k)) old new →
+    LanesKeep old new
 lanes_idled more old new h =
-    record { at = λ k a b p q. idles_keeps more a b (h.at k a b p q); size = h.size }
+    record { at = λ k a b p q. idles_keeps (more k) a b (h.at k a b p q); size = h.size }
 
 leads_idled : (more : ℕ) (sites : List Site) (old new : Lane) → LaneIdles more old new → Leads sites old →
     Leads sites new
@@ -167,13 +169,13 @@ leads_idled more sites old new h l = record {
   log = subst LogsReleased (sym h.hand_is) l.log;
 }
 
-pub world_idled : (more : ℕ) (sites : List Site) (old new : List Lane) → AtPlaces (λ k. LaneIdles more) old new →
-    WorldHolds sites old → WorldHolds sites new
+pub world_idled : (more : ℕ → ℕ) (sites : List Site) (old new : List Lane) →
+    AtPlaces (λ k. LaneIdles (more k)) old new → WorldHolds sites old → WorldHolds sites new
 world_idled more sites old new h w = record {
   each_site = w.each_site;
   each_lane = λ k lane e.
       let before = before_of k lane e in
-      leads_idled more sites before.0 lane (h.at k before.0 lane before.1 e) (w.each_lane k before.0 before.1);
+      leads_idled (more k) sites before.0 lane (h.at k before.0 lane before.1 e) (w.each_lane k before.0 before.1);
   apart = λ i j a b ne ea eb targets numbers.
       let x = before_of i a ea in
       let y = before_of j b eb in
@@ -187,14 +189,13 @@ world_idled more sites old new h w = record {
     before_of k lane e =
         some_there old k (let within = slice_get_within new k lane e in omega (arith, within, h.size))
 
--- how many turns are made behind so many bits, and behind more
-fewer-turns : (turn made next : ℕ) → 0 < turn → made ≤ next → made / turn ≤ next / turn
-fewer-turns turn made next some less = le-div (made / turn) next turn some
-    (let low = div-mul-le_self made turn in omega (arith, low, less))
-
-pub idle_turned : (turn made next : ℕ) (old new : List Lane) → 0 < turn → made ≤ next →
-    AtPlaces (λ k. LaneIdles (next / turn - made / turn)) old new → HaveTurned turn made old → HaveTurned turn next new
-idle_turned turn made next old new some less idle h k lane e =
+pub idle_turned : (schedules : List Schedule) (made next : ℕ) (old new : List Lane) → AreSchedules schedules →
+    made ≤ next → AtPlaces (λ k. LaneIdles (idle_turns schedules made next k)) old new →
+    HaveTurned schedules made old → HaveTurned schedules next new
+idle_turned schedules made next old new are less idle h k s lane is e =
     let before = some_there old k (let within = slice_get_within new k lane e in omega (arith, within, idle.size)) in
-    let is = ap (λ v. v.turns) (idle.at k before.0 lane before.1 e).hand_is in
-    omega (arith, is, h k before.0 before.1, fewer-turns turn made next some less)
+    let turns = ap (λ v. v.turns) (idle.at k before.0 lane before.1 e).hand_is in
+    let more : idle_turns schedules made next k ≡ next / s.every - made / s.every =
+    ap (λ o. idle_bursts o made next) is in
+    turned_idly s made next before.0.hand.turns lane.hand.turns (are k s is) less
+    (turns ∙ ap (λ n. min (before.0.hand.turns + n) 1000000) more) (h k s before.0 is before.1)
