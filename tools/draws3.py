@@ -82,6 +82,7 @@ def written(draw, script):
             "frames": [written_frame(draw, frame, rate) for frame in talker["frames"]]}
         for talker in segment["talkers"]]} for segment in script["segments"]]
     result["controllers"] = [with_durations(draw, controller, ["on"], rate) for controller in script["controllers"]]
+    result["routes"] = [with_durations(draw, route, ["every"], rate) for route in script["routes"]]
     result["faults"] = [with_durations(draw, fault, ["bit", "until"], rate) for fault in script["faults"]]
     objects = [result, *result["segments"], *result["controllers"], *result["routes"], *result["faults"]]
     for part in draw.sample(objects, min(len(objects), draw.choice([0, 0, 1, 3]))):
@@ -155,6 +156,10 @@ def routes(draw, controllers):
             route["rewrite"] = [rewrite_entry(draw, entry) for entry in route["rewrite"]]
         if draw.random() < 0.5:
             route["queue"] = draw.choice([1, 2, 3, 16, 1024])
+        if draw.random() < 0.5:
+            route["every"] = draw.choice([1, 2, 3, 7, 50, draw.randint(1, 300), draw.choice([500, 4_999, 1_000_000])])
+        if draw.random() < 0.5:
+            route["burst"] = draw.choice([1, 2, 3, 8, 1000])
     return result
 
 

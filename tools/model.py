@@ -24,7 +24,8 @@ def plain(script):
             "segments": [{"name": segment["name"], "talkers": [plain_talker(t) for t in segment["talkers"]]}
                          for segment in script["segments"]],
             "controllers": [{"txfp": True} | controller for controller in script["controllers"]],
-            "routes": [route | {"rewrite": route.get("rewrite", []) if script["version"] == 2 else [], "queue": None}
+            "routes": [route | {"rewrite": route.get("rewrite", []) if script["version"] == 2 else [],
+                                "every": None, "burst": 1, "queue": None}
                        for route in script["routes"]],
             "faults": [fault | {"until": fault["bit"] + 1} for fault in script.get("faults", [])],
             "aborts": script.get("aborts", [])}
@@ -141,10 +142,10 @@ def rewritten(entries, frame):
 
 
 class Route:
-    def __init__(self, script, place, controllers):
+    def __init__(self, script, place, controllers, turn):
         route = script["routes"][place]
         self.name, self.fifo, self.rewrites = route["name"], route["fifo"], route["rewrite"]
-        self.queue = route["queue"]
+        self.every, self.burst, self.queue = route["every"] or turn, route["burst"], route["queue"]
         self.source, self.target = controllers[route["from"]], controllers[route["to"]]
         self.aborts = [(a["number"], a["turn"]) for a in script["aborts"] if a["route"] == self.name]
         self.turns, self.released, self.requested, self.hand = 0, 0, 0, deque()
@@ -165,16 +166,26 @@ class Route:
             self.take()
 
     def turn(self):
+        """One turn. Returns whether it aborted or requested something: else it was idle, or waits."""
         self.turns += 1
         if self.aborts and self.aborts[0][1] <= self.turns and self.aborts[0][0] <= self.requested:
             self.abort(self.aborts.pop(0)[0])
-            return
+            return True
         if self.queue is None and not self.hand and self.source.fifos[self.fifo]:
             self.take()
-        if self.hand and len(self.target.requests) < 3:
-            request = self.hand.popleft()
-            self.requested = request.number
-            self.target.put(request)
+        if not self.hand or len(self.target.requests) == 3:
+            return False
+        request = self.hand.popleft()
+        self.requested = request.number
+        self.target.put(request)
+        return True
+
+    def turns_behind(self, ticks):
+        """Its turns behind so many ticks, if they are due."""
+        if ticks % self.every == 0:
+            left = self.burst
+            while left > 0 and self.turn():
+                left -= 1
 
     def is_idle(self):
         """Whether it takes no frame and its turns request none: it has none, or all mailboxes are full."""
@@ -364,18 +375,17 @@ class Run:
     def __init__(self, script, turn=1, node=Node):
         script = plain(script)
         controllers = {c["name"]: Controller(c) for c in script["controllers"]}
-        self.bits, self.turn = script["bits"], turn
+        self.bits = script["bits"]
         self.segments = [Segment(script, segment, controllers, node) for segment in script["segments"]]
-        self.routes = [Route(script, place, controllers) for place in range(len(script["routes"]))]
+        self.routes = [Route(script, place, controllers, turn) for place in range(len(script["routes"]))]
 
     def make_bit(self, bit):
         for segment in self.segments:
             segment.make_bit(bit)
         for route in self.routes:
             route.fill()
-        if (bit + 1) % self.turn == 0:
-            for route in self.routes:
-                route.turn()
+        for route in self.routes:
+            route.turns_behind(bit + 1)
 
     def idle_until(self, bit):
         """The first bit from this one on that has to be made. Before it all segments are idle, no queue is filled, and
@@ -386,7 +396,7 @@ class Run:
             if not route.is_idle():
                 end = bit
             elif turns is not None:
-                end = min(end, (bit // self.turn + turns) * self.turn - 1)
+                end = min(end, (bit // route.every + turns) * route.every - 1)
         for segment in self.segments:
             if end > bit:
                 end = segment.idle_until(bit, end)
@@ -395,7 +405,7 @@ class Run:
     def leave_out(self, bit, end):
         """Counts the turns that come from this bit on and before `end`, and makes none of these bits."""
         for route in self.routes:
-            route.turns += end // self.turn - bit // self.turn
+            route.turns += end // route.every - bit // route.every
 
     def make_all(self):
         bit = 0

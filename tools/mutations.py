@@ -12,8 +12,8 @@ VALUES = [b"0", b"1", b"2", b"8", b"-1", b"1.0", b"1e3", b"1e400", b"18446744073
           b'3', b'"frame"', b'"at"', b'"every"', b'"until"', b'"comment"', b'"10ms"', b'"0us"', b'"999999999s"',
           b'"7FF#"', b'"1FFFFFFF#R8"', b'"800#"', b'"123:7F0"', b'"000"']
 FIELDS = ["comment", "$schema", "bitrate", "bits", "name", "on", "frame", "id", "data", "remote", "at", "every",
-          "times", "filters", "banks", "accept", "fifo", "rewrite", "from", "to", "queue", "node", "segment", "bit", "until",
-          "level", "x"]
+          "times", "filters", "banks", "accept", "fifo", "rewrite", "from", "to", "burst", "queue", "node", "segment",
+          "bit", "until", "level", "x"]
 
 
 def span(draw, text, most=40):

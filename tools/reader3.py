@@ -251,7 +251,8 @@ class Reader:
 
     def all_routes(self):
         fifos, into = set(), []
-        for place, route in enumerate(objects(self.script, "routes", 16, "name from fifo to rewrite queue")):
+        fields = "name from fifo to rewrite every burst queue"
+        for place, route in enumerate(objects(self.script, "routes", 16, fields)):
             self.routes.add(new_name(route, self.routes, "routes"))
             fifo = known(route, "from", self.controllers), whole(route, "fifo", 0, 1)
             into.append(known(route, "to", self.controllers))
@@ -259,6 +260,10 @@ class Reader:
                 for entry in objects(route, "rewrite", 32, "from to"):
                     text(entry, "from", re.compile(IDENTIFIER))
                     text(entry, "to", re.compile(IDENTIFIER))
+            if "every" in route:
+                self.duration(route, "every", 1, 1_000_000)
+            if "burst" in route:
+                whole(route, "burst", 1, 1000)
             if "queue" in route:
                 whole(route, "queue", 1, 1024)
             refuse_unless(fifo not in fifos, f"J7 FifoTwice {place}")

@@ -77,9 +77,11 @@ def plain_rewrite(entry):
     return identifier_of(entry["from"]) | {"new_id": new["id"], "new_ext": new["ext"]}
 
 
-def plain_route(route):
+def plain_route(route, rate):
     return {field: route[field] for field in ("name", "from", "fifo", "to")} | {
-        "rewrite": [plain_rewrite(entry) for entry in route.get("rewrite", [])], "queue": route.get("queue")}
+        "rewrite": [plain_rewrite(entry) for entry in route.get("rewrite", [])],
+        "every": bits_of(route["every"], rate) if "every" in route else None,
+        "burst": route.get("burst", 1), "queue": route.get("queue")}
 
 
 def plain_fault(fault, rate):
@@ -100,6 +102,6 @@ def plain(script):
                           "talkers": [plain_talker(talker, bits, rate) for talker in segment["talkers"]]}
                          for segment in script["segments"]],
             "controllers": [plain_controller(controller, rate) for controller in script["controllers"]],
-            "routes": [plain_route(route) for route in script["routes"]],
+            "routes": [plain_route(route, rate) for route in script["routes"]],
             "faults": [plain_fault(fault, rate) for fault in script.get("faults", [])],
             "aborts": script.get("aborts", [])}

@@ -11,7 +11,7 @@ use Rattle.bx_rx.specs.RxOut.{Outlet, none_given}
 use Rattle.gw_route.proofs.Matches.{matches-counted, matches-turns}
 use Rattle.gw_route.specs.Plans.{FromPlan}
 use Rattle.gw_route.specs.RouteHand.{HandValue, IsLinked, room_in}
-use Rattle.gw_route.specs.Turn.{Filled, HasNone, TurnMade, Turned, aborted_answer, counted, idled}
+use Rattle.gw_route.specs.Turn.{Filled, HasNone, IsFull, TurnMade, Turned, aborted_answer, counted, idled}
 use Rattle.gw_route.specs.Turn.{requested_answer, taken_out}
 use Rattle.gw_route.specs.Turn.Filled.{emptied, full, one, unqueued}
 use Rattle.gw_route.specs.Turn.Turned.{by_abort, by_request, idle}
@@ -47,22 +47,17 @@ has_none old new past later answer (by_abort abort ended asks first due) is = ab
     not_idle Gone e = cc e
     not_idle Later e = cc e
 
--- A hand's queue is full, or the FIFO gave nothing when it was asked last. It is so once the hand is filled,
-pub IsFull : HandValue → Type 0
-IsFull h = (size : ℕ) → h.queue ≡ Some size → (size ≤ length h.in_hand) ⊎ ((out : Outlet) × (h.out ≡ none_given out))
-
+-- a hand that is filled is full, or found the FIFO empty
 pub full_if_filled : (h filled : HandValue) → Filled h filled → IsFull filled
-unfolding IsFull
 full_if_filled h filled (unqueued none) size is = absurd (cc (none, is))
 full_if_filled h filled (full most some held) size is =
     let same : most ≡ size = (let both = sym some ∙ is in cc both) in inl (omega (arith, same, held))
 full_if_filled h filled (emptied most some less empty) size is = inr (h.out, refl)
 full_if_filled h filled (one most x some less then) size is = full_if_filled (taken_out h x) filled then size is
 
--- and behind an idle turn the FIFO gave nothing when it was asked last.
+-- behind an idle turn the FIFO gave nothing when it was asked last
 pub asked_in_vain : (after before : RoutePast → Type 0) (old new : HandValue) → IsLinked before old →
     TurnMade before after old new Idle → IsFull old → (out : Outlet) × (new.out ≡ none_given out)
-unfolding IsFull
 asked_in_vain after before old new l made filled =
     let acted = made l.0 l.1 (matches-counted old l.0 l.2) in
     let none = has_none (counted old) new l.0 acted.0 Idle acted.2 refl in

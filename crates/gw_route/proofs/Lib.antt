@@ -7,3 +7,4 @@ pub mod Plans
 pub mod Fills
 pub mod Idles
 pub mod Counts
+pub mod Bursts

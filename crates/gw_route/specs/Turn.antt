@@ -86,6 +86,11 @@ pub data Filled : HandValue → HandValue → Type 0 where
   one : {h filled : HandValue} (size : ℕ) (x : RxFrame) → h.queue ≡ Some size → length h.in_hand < size →
       Filled (taken_out h x) filled → Filled h filled
 
+-- a hand's queue is full, or the FIFO gave nothing when it was asked last: so it is once the hand is filled
+abbrev pub IsFull : HandValue → Type 0
+IsFull h = (size : ℕ) → h.queue ≡ Some size →
+    (size ≤ length h.in_hand) ⊎ ((out : outlet.Outlet) × (h.out ≡ outlet.none_given out))
+
 -- in its turn a hand has a frame to request: the first one in it, or, where it is empty and has no queue, the next one
 -- of the FIFO
 abbrev pub HasNext : HandValue → HandValue → Entry → List Entry → Type 0

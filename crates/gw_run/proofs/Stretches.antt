@@ -28,6 +28,13 @@ pub made_up_to : (bits made most : ℕ) (sites : List Site) → made ≤ most �
 made_up_to bits made most sites less h =
     record { of_bits = h.of_bits; ahead = λ i site e. (made, less, h.ahead i site e) }
 
+pub up_to_more : (bits most more : ℕ) (sites : List Site) → most ≤ more → HaveMadeUpTo bits most sites →
+    HaveMadeUpTo bits more sites
+up_to_more bits most more sites less h = record {
+  of_bits = h.of_bits;
+  ahead = λ i site e. (let a = h.ahead i site e in (a.0, omega (arith, a.1, less), a.2));
+}
+
 pub both_true : (a b : Bool) → (a && b) ≡ true → (a ≡ true) × (b ≡ true)
 both_true true b e = (refl, e)
 both_true false b e = absurd (cc e)

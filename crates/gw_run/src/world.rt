@@ -1,6 +1,6 @@
 //! All segments and routes of a run.
 
-ghost use Rattle.std.specs.Prelude.{◌≡◌, ◌<◌, ◌≤◌, ◌+◌, ℕ, true, List, IfOk, OnOk, Some, length};
+ghost use Rattle.std.specs.Prelude.{◌≡◌, ◌<◌, ◌≤◌, ◌+◌, ℕ, true, List, IfOk, OnOk, Some, false, length};
 ghost use Rattle.std.specs.Prelude.{slice_get};
 ghost use Rattle.can_station.specs.Places.{AtPlaces};
 ghost use Rattle.gw_opening.specs.declared.lane.Lane.{Lane};
@@ -8,8 +8,8 @@ ghost use Rattle.gw_run.specs.Ports.{Site};
 ghost use Rattle.gw_run.specs.Sites.{SiteHolds, SiteMoves};
 ghost use Rattle.gw_run.specs.Lanes.{AskedInVain};
 ghost use Rattle.gw_run.specs.Schedules.{AreSchedules, IsSchedule};
-ghost use Rattle.gw_run.specs.Worlds.{AllAskedInVain, AllHavePast, AreFar, CountsByIts, CountsTurns, Leads, LaneFills};
-ghost use Rattle.gw_run.specs.Worlds.{LaneTurns, LanesKeep, NoneTurns, SitesKeep, WorldHolds};
+ghost use Rattle.gw_run.specs.Worlds.{AllAskedInVain, AllHavePast, CountsByIts, CountsTurns, Leads, LaneFills};
+ghost use Rattle.gw_run.specs.Worlds.{AllFull, LaneTurns, LanesKeep, NoneQueues, NoneTurns, SitesKeep, WorldHolds};
 ghost use Rattle.gw_run.specs.Worlds.{SameSegments, HaveMade, HaveMadeUpTo, HaveTurned, NoneShort};
 
 use crate::lane::turns_on;
@@ -114,6 +114,18 @@ fn fill_all<R: Wait>(rt: &R, lanes: &mut [Lane]) -> Result<(), Memory>
     Ok(())
 }
 
+/// Whether one of these routes has a queue.
+fn one_queues(lanes: &[Lane]) -> bool
+    ensures { result ≡ false → NoneQueues lanes.now }
+{
+    for lane in lanes {
+        if lane.hand.queue.is_some() {
+            return true;
+        }
+    }
+    false
+}
+
 /// The bits of each segment until each has made so many of all that it has to make. Behind each bit but the last one
 /// the queues of the routes are filled, if one has a queue. No turns are made.
 fn make_until<R: Wait>(
@@ -126,18 +138,18 @@ fn make_until<R: Wait>(
 ) -> Result<(), Memory>
     requires world { WorldHolds sites.old lanes.old }
     requires made { HaveMadeUpTo bits (made + 1) sites.old }
-    requires far { AreFar made sites.old }
     requires more { made < until }
     requires until { until ≤ bits }
     requires fits { bits ≤ 4294967295 }
     ensures world { OnOk result (WorldHolds sites.new lanes.new) }
     ensures made { OnOk result (HaveMade bits until sites.new) }
     ensures turned { OnOk result (NoneTurns lanes.old lanes.new) }
+    ensures full { OnOk result (made + 1 < until → AllFull lanes.new) }
     ensures short { OnOk result (NoneShort sites.old → NoneShort sites.new) }
     ensures lanes { OnOk result (LanesKeep lanes.old lanes.new) }
     ensures keeps { OnOk result (SitesKeep lanes.old sites.old sites.new) }
 {
-    if lanes.iter().all(|lane| lane.hand.queue.is_none()) {
+    if !one_queues(lanes) {
         return make_bits(rt, sites, until, bits);
     }
     let mut made = made;

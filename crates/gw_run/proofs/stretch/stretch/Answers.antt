@@ -3,6 +3,7 @@ use Rattle.gw_run.proofs.Counted.{short_bits}
 use Rattle.gw_run.proofs.Stretches.{far_made, idle_made, idle_moves, idle_turned, lanes_idled, made_up_to}
 use Rattle.gw_run.proofs.Stretches.{world_idled}
 use Rattle.gw_run.proofs.Worlds.{world_bits}
+use Rattle.gw_run.specs.Worlds.{idle_turns}
 use Rattle.gw_run.proofs.stretch.stretch.Goals as goal
 
 pub returns-then-not-nothing_waits-clause-made : goal.returns-then-not-nothing_waits-clause-made
@@ -17,7 +18,7 @@ pub returns-clause-world : goal.returns-clause-world
 returns-clause-world c =
     let sites = c.idle_until-next.new.sites in
     let moves = idle_moves (c.idle_until-next.result + 1) c.args.sites.now sites c.idle_until-next.ensures.idle in
-    world_idled _ sites c.args.lanes.now c.idle_lanes.new.lanes c.idle_lanes.ensures
+    world_idled (idle_turns c.args.schedules.now c.args.made c.idle_until-next.result) sites c.args.lanes.now c.idle_lanes.new.lanes c.idle_lanes.ensures
     (world_bits c.args.sites.now sites c.args.lanes.now moves c.requires.world)
 
 pub returns-clause-made : goal.returns-clause-made
@@ -26,8 +27,8 @@ returns-clause-made c = idle_made c.args.bits c.args.made (c.idle_until-next.res
     c.idle_until-next.ensures.idle
 
 pub returns-clause-turned : goal.returns-clause-turned
-returns-clause-turned c = idle_turned c.args.turn c.args.made c.idle_until-next.result c.args.lanes.now
-    c.idle_lanes.new.lanes c.requires.turn c.idle_until-next.ensures.least c.idle_lanes.ensures c.requires.turned
+returns-clause-turned c = idle_turned c.args.schedules.now c.args.made c.idle_until-next.result c.args.lanes.now
+    c.idle_lanes.new.lanes c.requires.schedules c.idle_until-next.ensures.least c.idle_lanes.ensures c.requires.turned
 
 pub returns-clause-short : goal.returns-clause-short
 returns-clause-short c = short_bits c.args.sites.now c.idle_until-next.new.sites
@@ -35,7 +36,7 @@ returns-clause-short c = short_bits c.args.sites.now c.idle_until-next.new.sites
     c.idle_until-next.ensures.idle)
 
 pub returns-clause-lanes : goal.returns-clause-lanes
-returns-clause-lanes c = lanes_idled _ c.args.lanes.now c.idle_lanes.new.lanes c.idle_lanes.ensures
+returns-clause-lanes c = lanes_idled (idle_turns c.args.schedules.now c.args.made c.idle_until-next.result) c.args.lanes.now c.idle_lanes.new.lanes c.idle_lanes.ensures
 
 pub returns-then-not-nothing_waits-clause-far : goal.returns-then-not-nothing_waits-clause-far
 returns-then-not-nothing_waits-clause-far c = far_made c.args.bits c.args.made c.args.sites.now c.requires.made

@@ -1,8 +1,8 @@
 use Rattle.std.proofs.Common.{rules, ◌≡◌, arith, subst}
 use Rattle.std.proofs.lemmas.Result.{on_ok_weaker}
 use Rattle.gw_run.specs.Worlds.{HaveMade, HaveTurned}
-use Rattle.gw_run.proofs.Counted.{short_bits}
-use Rattle.gw_run.proofs.Passes.{lanes_start, lanes_on}
+use Rattle.gw_run.proofs.Counted.{short_bits, turned_on}
+use Rattle.gw_run.proofs.Passes.{lanes_start, lanes_on, made_turns}
 use Rattle.gw_run.proofs.Keeps.{sites-self, sites-on, sites_of_first}
 use Rattle.gw_run.proofs.Stretches.{made_up_to}
 use Rattle.gw_run.proofs.world.make_all.Goals as goal
@@ -29,19 +29,28 @@ loop-made-preserved g c =
     let sites = c.args.sites.now in
     let held = c.loop-made.invariant in
     let mid = c.stretch-made.ensures in
-    let step = c.in_ok-idle.ensures in
+    let until = c.in_ok-make_until.ensures in
+    let served = c.in_ok-idle.ensures in
+    let due = c.first_due-due in
     let lanes = lanes_on first c.loop-made.lanes c.stretch-made.new.lanes held.2 mid.lanes in
     let keeps = sites-on first sites c.loop-made.sites c.stretch-made.new.sites held.3
-    (sites_of_first first c.loop-made.lanes c.loop-made.sites c.stretch-made.new.sites held.2 mid.keeps) in (
-      step.world,
-      step.made,
-      lanes_on first c.stretch-made.new.lanes c.step.new.lanes lanes step.lanes,
-      sites-on first sites c.stretch-made.new.sites c.step.new.sites keeps
-          (sites_of_first first c.stretch-made.new.lanes c.stretch-made.new.sites c.step.new.sites lanes step.keeps),
-      step.turned,
-      (λ h. step.short (mid.short (held.5 h))),
-      search rules,
-      step.idle,
+    (sites_of_first first c.loop-made.lanes c.loop-made.sites c.stretch-made.new.sites held.2 mid.keeps) in
+    let lanes_until = lanes_on first c.stretch-made.new.lanes c.make_until.new.lanes lanes until.lanes in
+    let keeps_until = sites-on first sites c.stretch-made.new.sites c.make_until.new.sites keeps
+    (sites_of_first first c.stretch-made.new.lanes c.stretch-made.new.sites c.make_until.new.sites lanes until.keeps)
+    in (
+      served.world,
+      made_turns c.args.bits due.result c.make_until.new.sites c.serve_all.new.sites served.segments until.made,
+      lanes_on first c.make_until.new.lanes c.serve_all.new.lanes lanes_until served.lanes,
+      sites-on first sites c.make_until.new.sites c.serve_all.new.sites keeps_until
+          (sites_of_first first c.make_until.new.lanes c.make_until.new.sites c.serve_all.new.sites lanes_until
+          served.keeps),
+      turned_on c.args.schedules.now c.stretch-made.result due.result c.stretch-made.new.lanes c.make_until.new.lanes
+          c.serve_all.new.lanes c.requires.schedules due.ensures.later due.ensures.first until.turned served.counted
+          mid.turned,
+      (λ h. served.short (until.short (mid.short (held.5 h)))),
+      due.ensures.most,
+      served.idle,
     )
 
 pub returns-then-is_empty-clause-short : goal.returns-then-is_empty-clause-short
@@ -62,4 +71,4 @@ pub returns-clause-turned : goal.returns-clause-turned
 returns-clause-turned g c =
     let held = c.loop-made.invariant in
     let all : c.loop-made.made ≡ c.args.bits = omega (arith, c.loop-made-test.false, held.6) in
-    subst (λ n. HaveTurned c.args.turn n c.loop-made.lanes) all held.4
+    subst (λ n. HaveTurned c.args.schedules.now n c.loop-made.lanes) all held.4
