@@ -18,7 +18,7 @@ use std::alloc::{AllocError, Global};
 use std::convert::AsStr;
 
 /// The version that `--version` tells.
-const VERSION: &str = "0.4.0";
+const VERSION: &str = "0.5.0";
 
 /// The most bits that may lie between two turns of a route.
 const MOST_BITS: u32 = 1_000_000;

@@ -59,10 +59,6 @@ pub record IsSegmentRun (s : ScriptValue) (segment : ℕ) (record_of : Record) :
 abbrev pub RunsSegments : ScriptValue → Report → Type 0
 RunsSegments s report = Pairs (λ segment said. IsSegmentRun s segment) s.segments report.segments.items
 
--- each route made so many turns
-abbrev pub EachTurned : ℕ → Report → Type 0
-EachTurned count report = Each (λ (r : RouteReport). r.turns ≡ count) report.routes.items
-
 -- the lines of each segment
 abbrev pub lines_of : Report → List (List Event)
 lines_of report = map (λ (record_of : Record). record_of.events.items) report.segments.items

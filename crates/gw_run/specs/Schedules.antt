@@ -4,6 +4,7 @@ use Rattle.gw_config.specs.Routes.{RouteValue}
 use Rattle.gw_config.specs.Scripts.{ScriptValue}
 use Rattle.gw_script.specs.declared.report.Report.{Report}
 use Rattle.gw_script.specs.declared.route_report.RouteReport.{RouteReport}
+use Rattle.gw_route.specs.Turn.{turns_in}
 use Rattle.gw_run.specs.declared.schedule.Schedule.{Schedule}
 
 -- a route's own pace, where the run's `turn` stands for an `every` that is absent
@@ -25,7 +26,7 @@ next_due s ticks = (ticks / s.every + 1) * s.every
 -- A route made one to `burst` turns behind each of these ticks whose number is a multiple of `every`. They are counted
 -- up to a million.
 pub record HasTurned (s : Schedule) (ticks turns : ℕ) : Type 0 where
-  pub at_least : min (ticks / s.every) 1000000 ≤ turns
+  pub at_least : turns_in s.every ticks ≤ turns
   pub at_most : turns ≤ min (ticks / s.every * s.burst) 1000000
 
 -- how often turns are made behind the ticks from so many until so many

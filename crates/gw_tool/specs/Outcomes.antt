@@ -15,9 +15,9 @@ use Rattle.gw_script.specs.NamedPlaces.{Names}
 use Rattle.gw_run.specs.declared.run_fault.RunFault.{RunFault}
 use Rattle.gw_run.specs.declared.run_fault.RunFault.TheVariants as run_fault
 use Rattle.gw_ending.specs.Headline.{NotRefilled, Balances}
-use Rattle.gw_ending.specs.Reports.{AreOrdered, EachTurned, RunsSegments, RunsRoutes, AreStartsOf, lines_of}
+use Rattle.gw_ending.specs.Reports.{AreOrdered, RunsSegments, RunsRoutes, AreStartsOf, lines_of}
 use Rattle.gw_print.specs.CoreReports.{IsReport}
-use Rattle.gw_route.specs.Turn.{turns_in}
+use Rattle.gw_run.specs.Schedules.{EachTurned}
 use Rattle.gw_tool.specs.declared.failure.Failure.{Failure}
 use Rattle.gw_tool.specs.declared.failure.Failure.TheVariants as failure
 use Rattle.gw_command.specs.declared.task.Task.{Task}
@@ -57,11 +57,11 @@ pub record IsRunOf (s : ScriptValue) (report : Report) : Type 0 where
   -- each segment, node and route that it names is one of the script
   pub names : Names s report
 
--- what the task says of the turns in a report: in one thread each route makes one after every `turn` bits; in threads
--- their number is not determined
+-- what the task says of the turns in a report: in one thread each route makes them by its pace, or after every `turn`
+-- bits; in threads their number is not determined
 abbrev pub IsTurned : Task → ScriptValue → Report → Type 0
 IsTurned task.Core s report = ⊥
-IsTurned (task.Run turn) s report = EachTurned (turns_in turn s.bits) report
+IsTurned (task.Run turn) s report = EachTurned turn s report
 IsTurned (task.RunThreads threads slack) s report = Unit {0}
 
 -- the bytes are a script, and the text is that of a report on a run of it, as the task asks for

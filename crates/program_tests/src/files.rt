@@ -170,7 +170,7 @@ fn tells_its_version(rt: HostRuntime) {
     for word in ["--version", "-V"] {
         let run = run_of(&rt, ["bxgate", word].as_slice(), b"");
         assert_eq!(rt; run.status, 0);
-        assert_eq!(rt; run.output.as_slice(), b"bxgate 0.4.0\n".as_slice());
+        assert_eq!(rt; run.output.as_slice(), b"bxgate 0.5.0\n".as_slice());
         assert!(rt; run.faults.is_empty());
     }
 }
