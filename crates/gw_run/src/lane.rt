@@ -1,6 +1,6 @@
 //! A route's turns in one thread.
 
-ghost use Rattle.std.specs.Prelude.{◌≡◌, ◌+◌, ◌<◌, ◌≤◌, ◌×◌, ℕ, List, IfOk, OnOk, true, false, length, min};
+ghost use Rattle.std.specs.Prelude.{◌≡◌, ◌+◌, ◌<◌, ◌≤◌, ℕ, List, IfOk, OnOk, true, length, min};
 ghost use Rattle.bx_core.specs.PlainMail.{core_of, short_of};
 ghost use Rattle.bx_core.specs.Stands.{RouteStands};
 ghost use Rattle.gw_route.specs.Plans.{FromPlan};
