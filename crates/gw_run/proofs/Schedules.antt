@@ -1,14 +1,27 @@
 -- How many turns are due behind some ticks, and behind more.
+use Rattle.std.proofs.Common.{List, [], ◌∷◌, Option, Some, None, zero, map, unwrap_or, slice_get, subst}
+use Rattle.std.specs.Prelude.{IfSome}
 use Rattle.std.proofs.Common.{◌≡◌, ◌≢◌, ℕ, suc, min, ◌+◌, ◌-◌, ◌*◌, ◌/◌, ◌%◌, ◌<◌, ◌≤◌, inl, inr, sym, ap, arith, ◌∙◌}
 use Rattle.std.proofs.Math.Nat.{add-mul, div-add-mod, div-eq_of_lt-le, div-mul-le_self, le-mul_of_pos_right, mul_comm}
-use Rattle.std.proofs.Math.Nat.{suc-mul, zero-div}
+use Rattle.std.proofs.Math.Nat.{lt-div-mul-add, suc-mul, zero-div}
 use Rattle.std.proofs.lemmas.Bool.{cases_lt}
 use Rattle.std.proofs.lemmas.Nat.{le-div}
-use Rattle.gw_run.specs.Schedules.{HasTurned, IsSchedule, next_due}
+use Rattle.bx_core.specs.Lists.{Each}
+use Rattle.can_station.proofs.Places.{same_some}
+use Rattle.gw_config.specs.Controllers.{ControllerValue}
+use Rattle.gw_config.specs.Routes.{RouteValue}
+use Rattle.gw_config.specs.Scripts.{ScriptValue}
+use Rattle.gw_config.specs.SoundScripts.{IsRouteIn, IsSound}
+use Rattle.gw_run.specs.Schedules.{AreSchedules, HasTurned, IsSchedule, next_due, schedule_of}
 use Rattle.gw_run.specs.declared.schedule.Schedule.{Schedule}
 
 next_multiple : (q every : ℕ) → (q + 1) * every ≡ q * every + every
 next_multiple q every = ap (λ n. n * every) (let one : q + 1 ≡ suc q = omega arith in one) ∙ suc-mul q every
+
+-- the next turns are due behind a later tick
+pub due_later : (s : Schedule) (ticks : ℕ) → 0 < s.every → ticks < next_due s ticks
+due_later s ticks some =
+    omega (arith, lt-div-mul-add some, next_multiple (ticks / s.every) s.every)
 
 -- no turns are due behind a tick before the first one that is due
 quotient-before : (every made tick : ℕ) → made < tick → tick < (made / every + 1) * every →
@@ -82,6 +95,26 @@ turned_idly s made next old new ok less is h =
       at_least = omega (arith, h.at_least, fewer, is);
       at_most = omega (arith, h.at_most, all, some, is);
     }
+
+-- the schedules of a script's routes
+every_of : (turn : ℕ) (every : Option ℕ) → 0 < turn → IfSome every (λ ticks. (1 ≤ ticks) × (ticks ≤ 1000000)) →
+    0 < unwrap_or every turn
+every_of turn None some within = some
+every_of turn (Some ticks) some within = omega (arith, within.0)
+
+are_schedules_by : (turn : ℕ) (controllers : List ControllerValue) (routes : List RouteValue) → 0 < turn →
+    Each (IsRouteIn controllers) routes → AreSchedules (map (schedule_of turn) routes)
+are_schedules_by turn controllers [] some each k s e = absurd (cc e)
+are_schedules_by turn controllers (r ∷ rs) some each zero s e =
+    let pace = each.0.3 in
+    subst IsSchedule (same_some (schedule_of turn r) s e)
+    (record { every = every_of turn r.pace.every some pace.0; burst = pace.1 })
+are_schedules_by turn controllers (r ∷ rs) some each (suc k) s e =
+    are_schedules_by turn controllers rs some each.1 k s e
+
+pub are_schedules : (turn : ℕ) (s : ScriptValue) → 0 < turn → IsSound s →
+    AreSchedules (map (schedule_of turn) s.routes)
+are_schedules turn s some sound = are_schedules_by turn s.controllers s.routes some sound.routes
 
 -- behind no tick
 pub turned_first : (s : Schedule) → HasTurned s 0 0

@@ -1,18 +1,26 @@
 //! A route's turns in one thread.
 
-ghost use Rattle.std.specs.Prelude.{◌≡◌, ◌+◌, ◌<◌, ◌≤◌, ℕ, List, IfOk, OnOk, true, length, min};
+ghost use Rattle.std.specs.Prelude.{◌≡◌, ◌+◌, ◌<◌, ◌≤◌, ℕ, List, IfOk, OnOk, true, false, length, min};
 ghost use Rattle.bx_core.specs.PlainMail.{core_of, short_of};
 ghost use Rattle.bx_core.specs.Stands.{RouteStands};
 ghost use Rattle.gw_route.specs.Plans.{FromPlan};
 ghost use Rattle.gw_route.specs.RouteHand.{hand_value, IsLinked, IsTied, LogsReleased};
 ghost use Rattle.gw_route.specs.declared.route_abort.RouteAbort.{RouteAbort};
+ghost use Rattle.gw_route.specs.declared.turn_answer.TurnAnswer.TheVariants.{Idle};
 ghost use Rattle.gw_run.specs.Lanes.{AskedInVain, TurnLeaves};
 
 use crate::port::Port;
 use bx_core::PlainRoute;
 use can_frame::Memory;
-use gw_route::{RouteHand, TurnAnswer, make_burst};
+use gw_route::{Burst, RouteHand, TurnAnswer, make_burst};
 use std::sync::Wait;
+
+/// Whether a burst was one turn, at which the route had nothing to do.
+fn is_idle(burst: Burst) -> bool
+    ensures { result ≡ true → (burst.turns ≡ 1) × (burst.last ≡ Idle) }
+{
+    burst.turns == 1 && matches!(burst.last, TurnAnswer::Idle)
+}
 
 /// Fills the queue of a route, if it has one, and makes turns of it into the mailboxes of this controller until one is
 /// idle or waits, at most `most`. Returns whether it had nothing to do. `Memory` where it was refused to the hand, or to
@@ -47,5 +55,5 @@ pub(crate) fn turns_on<R: Wait>(
     if port.mail.short() {
         return Err(Memory);
     }
-    Ok(burst.turns == 1 && matches!(burst.last, TurnAnswer::Idle))
+    Ok(is_idle(burst))
 }

@@ -4,7 +4,6 @@ ghost use Rattle.std.specs.Prelude.{◌≡◌, ◌≢◌, ◌<◌, ◌≤◌, �
 ghost use Rattle.gw_config.specs.SoundScripts.{IsSound};
 ghost use Rattle.gw_run.specs.Schedules.{AreSchedules, next_due, schedule_of};
 
-use gw_opening::push_one;
 use gw_script::{Route, Script};
 use std::alloc::{AllocError, Global};
 
@@ -67,9 +66,10 @@ pub(crate) fn schedules_of(
     ensures value { IfOk result (λ schedules. schedules.items ≡ map (schedule_of turn) script.now.routes) }
     ensures sound { IfOk result (λ schedules. AreSchedules schedules.items) }
 {
-    let mut schedules = Vec::new(alloc);
-    for route in script.routes() {
-        push_one(&mut schedules, Schedule::of(route, turn))?;
+    let routes = script.routes();
+    let mut schedules = Vec::with_capacity(alloc, routes.len())?;
+    for route in routes {
+        schedules.push(Schedule::of(route, turn))?;
     }
     Ok(schedules)
 }

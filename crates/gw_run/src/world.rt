@@ -152,17 +152,15 @@ fn make_until<R: Wait>(
     if !one_queues(lanes) {
         return make_bits(rt, sites, until, bits);
     }
-    let mut made = made;
-    loop {
-        made += 1;
-        make_bits(rt, sites, made, bits)?;
-        if made >= until {
-            return Ok(());
-        }
+    let mut tick = made + 1;
+    make_bits(rt, sites, tick, bits)?;
+    while tick < until {
         fill_all(rt, lanes)?;
         // while all segments idle, the FIFOs and so the queues stay as they are
-        made = idle_until(sites, made, until - 1);
+        tick = idle_until(sites, tick, until - 1) + 1;
+        make_bits(rt, sites, tick, bits)?;
     }
+    Ok(())
 }
 
 /// All bits of all segments, with the turns of the routes between them.

@@ -11,7 +11,8 @@ returns-clause-idle g c is =
     let filled = hand_value c.fill.new.self in
     let linked = c.requires.linked in
     idled_in_vain _ c.args.most _ _ filled (hand_value c.make_burst.new.hand) c.in_ok-burst.burst
-    (linked.0, linked.1, c.fill.ensures.keeps.matches linked.0 linked.2) c.in_ok-burst.ensures.made ? ?
+    (linked.0, linked.1, c.fill.ensures.keeps.matches linked.0 linked.2) c.in_ok-burst.ensures.made
+    (c.is_idle.ensures is).0 (c.is_idle.ensures is).1
     (full_if_filled old filled c.in_ok-fill.ensures.filled)
 
 pub returns-clause-counted : goal.returns-clause-counted

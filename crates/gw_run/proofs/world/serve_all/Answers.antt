@@ -25,7 +25,7 @@ loop-place-init g c = (
 pub serve-requires-clause-schedule : goal.serve-requires-clause-schedule
 serve-requires-clause-schedule g c =
     c.requires.schedules c.loop-place.place _
-    (slice_get-get_or c.args.schedules.now c.loop-place.place c.index-schedules-place.result
+    (slice_get-get_or c.args.schedules.now c.loop-place.place (record { every = 0; burst = 0 })
     (omega (arith, c.loop-place-test.true, c.requires.all, c.loop-place.invariant.2.size)))
 
 pub loop-place-preserved : goal.loop-place-preserved
@@ -37,7 +37,7 @@ loop-place-preserved g c =
     let served = c.serve.ensures.turns in
     let found =
     slice_get-get_or lanes place c.index-lanes-place.result (omega (arith, c.loop-place-test.true)) in
-    let schedule = slice_get-get_or c.args.schedules.now place c.index-schedules-place.result
+    let schedule = slice_get-get_or c.args.schedules.now place (record { every = 0; burst = 0 })
     (omega (arith, c.loop-place-test.true, c.requires.all, held.2.size)) in (
       world_turn sites c.serve.new.sites lanes place _ c.serve.new.lane found served held.0,
       segments_turn c.args.sites.now sites c.serve.new.sites _ c.serve.new.lane served held.1,
