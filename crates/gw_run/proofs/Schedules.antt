@@ -21,7 +21,7 @@ next_multiple q every = ap (λ n. n * every) (let one : q + 1 ≡ suc q = omega 
 -- the next turns are due behind a later tick
 pub due_later : (s : Schedule) (ticks : ℕ) → 0 < s.every → ticks < next_due s ticks
 due_later s ticks some =
-    omega (arith, lt-div-mul-add some, next_multiple (ticks / s.every) s.every)
+    omega (arith, lt-div-mul-add {a = ticks} {b = s.every} some, next_multiple (ticks / s.every) s.every)
 
 -- no turns are due behind a tick before the first one that is due
 quotient-before : (every made tick : ℕ) → made < tick → tick < (made / every + 1) * every →

@@ -32,5 +32,5 @@ run_routes-requires-clause-mails g c =
 
 pub returns-clause-turns : goal.returns-clause-turns
 returns-clause-turns g c = IfOk-weaker c.end_run.result _ _
-    (λ report reported. each_turned c.args.turn c.args.script.now.bits c.in_ok-lanes.lanes.items report
+    (λ report reported. each_turned c.args.turn c.args.script.now c.in_ok-lanes.lanes.items report
     c.in_ok-lanes.ensures.turned reported) c.end_run.ensures.turns

@@ -1,6 +1,7 @@
 use Rattle.std.proofs.Common.{◌≡◌, ◌/◌, ◌-◌, get_or, arith, refl, sym, ap, ◌∙◌}
 use Rattle.std.proofs.lemmas.Option.{slice_get-get_or}
 use Rattle.can_station.proofs.Places.{places_step, places_end}
+use Rattle.gw_route.specs.RouteHand.{hand_value}
 use Rattle.gw_route.specs.Turn.{idled}
 use Rattle.gw_run.specs.Schedules.{idle_bursts}
 use Rattle.gw_run.specs.Worlds.{LaneIdles, idle_turns}
@@ -24,7 +25,8 @@ loop-place-preserved c =
     (slice_get-get_or c.loop-place.lanes c.loop-place.place c.index-lanes-place.result
     (omega (arith, c.loop-place-test.true)))
     (record {
-      hand_is = c.idle.ensures.value ∙ ap (λ n. idled n _) counted;
+      hand_is = c.idle.ensures.value
+          ∙ ap (λ n. idled n (hand_value (get_or c.loop-place.lanes place c.index-lanes-place.result).hand)) counted;
       source_is = refl;
       fifo_is = refl;
       target_is = refl;

@@ -15,6 +15,31 @@ returns-then-not-is_due-clause-turns g c =
     fills_alone c.args.sites.now c.args.lane.now c.fill.new.self c.fill.ensures.keeps c.fill.ensures.tied
     c.requires.leads
 
+pub returns-in_err-fill-clause-turns : goal.returns-in_err-fill-clause-turns
+returns-in_err-fill-clause-turns g c =
+    fills_alone c.args.sites.now c.args.lane.now c.fill.new.self c.fill.ensures.keeps c.fill.ensures.tied
+    c.requires.leads
+
+pub bounds-sites-place : goal.bounds-sites-place
+bounds-sites-place g c = slice_get_within c.args.sites.now c.args.lane.now.target.site c.requires.leads.to_is.site
+    c.requires.leads.to_is.site_is
+
+pub offset_bounds-sites-place : goal.offset_bounds-sites-place
+offset_bounds-sites-place g c =
+    let within = slice_get_within c.args.sites.now c.args.lane.now.target.site c.requires.leads.to_is.site
+    c.requires.leads.to_is.site_is in
+    search rules
+
+pub index_mut-requires : goal.index_mut-requires
+index_mut-requires g c =
+    let sites = c.args.sites.now in
+    let t = c.args.lane.now.target.site in
+    let q = c.args.lane.now.target.port in
+    let at = c.requires.leads.to_is in
+    let found = slice_get-get_or sites t c.index-sites-place.result (slice_get_within sites t at.site at.site_is) in
+    subst (λ (s : Site). q < length s.ports.items) (same_some at.site _ (sym at.site_is ∙ found))
+    (slice_get_within at.site.ports.items q c.requires.leads.to at.port_is)
+
 pub returns-then-not-is_due-clause-counted : goal.returns-then-not-is_due-clause-counted
 returns-then-not-is_due-clause-counted g c = record {
   due = λ due. absurd (c.is_due.ensures.no c.if-not-is_due.true due);

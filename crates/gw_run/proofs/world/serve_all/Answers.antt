@@ -1,10 +1,11 @@
-use Rattle.std.proofs.Common.{inl, inr, sym, subst, arith, ◌∙◌}
+use Rattle.std.proofs.Common.{inl, inr, get_or, sym, subst, arith, ◌∙◌}
 use Rattle.std.proofs.lemmas.Bool.{cases_lt}
 use Rattle.std.proofs.lemmas.Option.{slice_get-get_or, slice_get_within}
 use Rattle.can_station.proofs.Places.{places_start, places_step, places_end, same_some}
 use Rattle.gw_opening.specs.declared.lane.Lane.{Lane}
 use Rattle.gw_run.specs.Lanes.{AskedInVain}
 use Rattle.gw_run.specs.Worlds.{CountsByIts, CountsTurns}
+use Rattle.gw_run.specs.declared.schedule.Schedule.{Schedule}
 use Rattle.gw_run.proofs.Stretches.{both_true}
 use Rattle.gw_run.proofs.WorldTurns.{lane_cases, world_turn}
 use Rattle.gw_run.proofs.Passes.{segments_start, segments_turn, lanes_start, lanes_turn}
@@ -47,7 +48,8 @@ loop-place-preserved g c =
           (sites_turn lanes place _ c.serve.new.lane sites c.serve.new.sites found served)),
       places_step (CountsByIts c.args.schedules.now c.args.tick) c.args.lanes.now lanes place _ c.serve.new.lane
           (omega (arith, c.loop-place-test.true, held.4.size)) found
-          (λ s is. subst (λ x. CountsTurns x c.args.tick _ c.serve.new.lane) (same_some _ s (sym schedule ∙ is))
+          (λ s is. subst (λ (x : Schedule). CountsTurns x c.args.tick (get_or lanes place c.index-lanes-place.result)
+          c.serve.new.lane) (same_some _ s (sym schedule ∙ is))
           c.in_ok-idle.ensures.counted) held.4,
       (λ h. c.in_ok-idle.ensures.short (held.5 h)),
       λ is k lane less e.
