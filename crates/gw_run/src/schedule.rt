@@ -1,7 +1,6 @@
 //! When the routes of a run in one thread make their turns.
 
 ghost use Rattle.std.specs.Prelude.{◌≡◌, ◌≢◌, ◌<◌, ◌≤◌, ◌%◌, ℕ, List, IfOk, Some, map, slice_get, true, false};
-ghost use Rattle.gw_config.specs.SoundScripts.{IsSound};
 ghost use Rattle.gw_run.specs.Schedules.{AreSchedules, next_due, schedule_of};
 
 use gw_script::{Route, Script};
@@ -61,10 +60,7 @@ pub(crate) fn schedules_of(
     script: &Script,
     turn: u32,
 ) -> Result<Vec<Schedule>, AllocError>
-    requires sound { IsSound script.now }
-    requires turn { 0 < turn }
-    ensures value { IfOk result (λ schedules. schedules.items ≡ map (schedule_of turn) script.now.routes) }
-    ensures sound { IfOk result (λ schedules. AreSchedules schedules.items) }
+    ensures { IfOk result (λ schedules. schedules.items ≡ map (schedule_of turn) script.now.routes) }
 {
     let routes = script.routes();
     let mut schedules = Vec::with_capacity(alloc, routes.len())?;

@@ -1,5 +1,5 @@
 use Rattle.std.proofs.Common.{sym, subst, ◌∙◌}
-use Rattle.gw_run.specs.Worlds.{HaveMade}
+use Rattle.gw_run.specs.Worlds.{HaveMade, HaveTurned}
 use Rattle.gw_run.proofs.Counted.{none_turned, none_short}
 use Rattle.gw_run.proofs.Starts.{world_starts, none_made}
 use Rattle.gw_run.proofs.Finals.{has_run}
@@ -23,6 +23,10 @@ returns-clause-run g c =
 
 pub make_all-requires-clause-turned : goal.make_all-requires-clause-turned
 make_all-requires-clause-turned g c = none_turned c.args.script.now c.args.sites.now c.args.lanes.now _ c.requires.opens
+
+pub returns-clause-turned : goal.returns-clause-turned
+returns-clause-turned g c = subst (λ bits. HaveTurned c.args.schedules.now bits c.make_all.new.lanes)
+    (c.from.ensures ∙ c.bits.ensures) c.in_ok-make_all.ensures.turned
 
 pub returns-clause-short : goal.returns-clause-short
 returns-clause-short g c =

@@ -26,7 +26,7 @@ loop-tick-init g c =
 
 pub fill_all-requires : goal.fill_all-requires
 fill_all-requires g c =
-    record { linked = (all_have_past c.loop-tick.sites c.loop-tick.lanes c.loop-tick.invariant.world) }
+    all_have_past c.loop-tick.sites c.loop-tick.lanes c.loop-tick.invariant.world
 
 pub idle_until-tick-requires-clause-may : goal.idle_until-tick-requires-clause-may
 idle_until-tick-requires-clause-may g c i site e =

@@ -1,4 +1,4 @@
-use Rattle.std.proofs.Common.{◌≡◌, ◌<◌, Some, get_or, length, slice_get, refl, sym, ap, subst, arith, ◌∙◌}
+use Rattle.std.proofs.Common.{rules, ◌≡◌, ◌<◌, Some, get_or, length, slice_get, refl, sym, ap, subst, arith, ◌∙◌}
 use Rattle.std.proofs.lemmas.List.{length-set}
 use Rattle.std.proofs.lemmas.Option.{slice_get-get_or, slice_get_within}
 use Rattle.can_station.proofs.Places.{same_some, get_set_same, get_set_other}
@@ -37,8 +37,11 @@ index_mut-requires g c =
     let q = c.args.lane.now.target.port in
     let at = c.requires.leads.to_is in
     let found = slice_get-get_or sites t c.index-sites-place.result (slice_get_within sites t at.site at.site_is) in
-    subst (λ (s : Site). q < length s.ports.items) (same_some at.site _ (sym at.site_is ∙ found))
-    (slice_get_within at.site.ports.items q c.requires.leads.to at.port_is)
+    let site : Site = get_or sites t c.index-sites-place.result in
+    let inside : q < length site.ports.items =
+    subst (λ (s : Site). q < length s.ports.items) (same_some at.site site (sym at.site_is ∙ found))
+    (slice_get_within at.site.ports.items q c.requires.leads.to at.port_is) in
+    search rules
 
 pub returns-then-not-is_due-clause-counted : goal.returns-then-not-is_due-clause-counted
 returns-then-not-is_due-clause-counted g c = record {
