@@ -107,8 +107,8 @@ impl Route {
         self.pace
     }
 
-    /// Returns how many frames it holds at most between the FIFO and the mailboxes, 1 to 1,024, which it takes out of the
-    /// FIFO behind each bit; `None` where it takes a frame in its turn and holds one. In versions 1 and 2 it is `None`.
+    /// Returns how many frames it holds at most between the FIFO and the mailboxes, 1 to 1,024, which it takes out of
+    /// the FIFO behind each bit; `None` where it takes a frame in its turn and holds one, as in versions 1 and 2.
     pub fn queue(&self) -> Option<u32>
         ensures { result ≡ self.now.queue }
     {

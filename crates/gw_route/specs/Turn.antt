@@ -1,7 +1,7 @@
 -- One turn of a route: an abort that is due, or else a request of the first frame in the hand. And how a hand with a
 -- queue is filled before that.
-use Rattle.std.specs.Prelude.{◌≡◌, ℕ, ◌+◌, ◌/◌, ◌<◌, ◌≤◌, ◌↔◌, ◌⊎◌, min, nat_lt, if◌then◌else◌, Bool, true, false, List, []}
-use Rattle.std.specs.Prelude.{◌∷◌, ◌++◌, drop, length, remove, slice_get, Option, Some, None, Result, Ok, Err, IsErr}
+use Rattle.std.specs.Prelude.{◌≡◌, ℕ, ◌+◌, ◌/◌, ◌<◌, ◌≤◌, ◌↔◌, ◌⊎◌, min, nat_lt, if◌then◌else◌, Bool, true, false}
+use Rattle.std.specs.Prelude.{List, [], ◌∷◌, ◌++◌, drop, length, remove, slice_get, Option, Some, None, Result, Ok, Err, IsErr}
 use Rattle.can_frame.specs.Frames.{FrameValue}
 use Rattle.bx_core.specs.declared.entry.Entry.{Entry}
 use Rattle.bx_core.specs.declared.answer.Sent.{Sent}
@@ -134,8 +134,8 @@ aborted_answer Asked = AbortDone
 aborted_answer Gone = AbortDone
 aborted_answer Later = Waiting
 
--- What a turn does to the hand and on the route's side, by its answer: one call at most. It is idle only where nothing is
--- in the hand, and, without a queue, the FIFO was asked and gave nothing. A request is of the first frame in the hand,
+-- What a turn does to the hand and on the route's side, by its answer: one call at most. It is idle only where nothing
+-- is in the hand, and, without a queue, the FIFO was asked and gave nothing. A request is of the first frame in the hand,
 -- unchanged and under its number.
 pub data Turned : HandValue → HandValue → RoutePast → RoutePast → TurnAnswer → Type 0 where
   idle : {h next : HandValue} {past : RoutePast} → NoneIsDue h past → HasNone h next → Turned h next past past Idle

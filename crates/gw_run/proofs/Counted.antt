@@ -41,7 +41,8 @@ turned_on schedules made tick old mid new are more first none counts h k s lane 
     let before = some_there old k
     (let within = slice_get_within mid k between.0 between.1 in omega (arith, within, none.size)) in
     let by = counts.at k between.0 lane between.1 e s is in
-    turned_by s made tick between.0.hand.turns lane.hand.turns (are k s is).every more (first k s is) by.due (λ none. (by.not_due none).0)
+    turned_by s made tick between.0.hand.turns lane.hand.turns (are k s is).every more (first k s is) by.due
+    (λ none. (by.not_due none).0)
     (subst (HasTurned s made) (sym (none.at k before.0 between.0 before.1 between.1)) (h k s before.0 is before.1))
 
 pub none_turned : (s : ScriptValue) (sites : List Site) (lanes : List Lane) (schedules : List Schedule) →

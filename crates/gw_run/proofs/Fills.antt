@@ -1,5 +1,6 @@
 -- Filling the queues of routes keeps what joins segments and routes.
-use Rattle.std.proofs.Common.{◌≡◌, ◌≢◌, ℕ, ◌<◌, Some, None, List, length, slice_get, refl, sym, ap, subst, arith, ◌∙◌, ◌++◌}
+use Rattle.std.proofs.Common.{◌≡◌, ◌≢◌, ℕ, ◌<◌, Some, None, List, length, slice_get, refl, sym, ap, subst, arith}
+use Rattle.std.proofs.Common.{◌∙◌, ◌++◌}
 use Rattle.std.proofs.lemmas.Option.{slice_get_within}
 use Rattle.bx_core.specs.PlainMail.{core_of}
 use Rattle.bx_core.specs.Stands.{RouteStands, route_keeps-self}

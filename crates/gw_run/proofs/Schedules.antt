@@ -84,8 +84,8 @@ pub turned_idly : (s : Schedule) (made next old new : ℕ) → IsSchedule s → 
     new ≡ min (old + (next / s.every - made / s.every)) 1000000 → HasTurned s made old → HasTurned s next new
 turned_idly s made next old new ok less is h =
     let low = div-mul-le_self made s.every in
-    let fewer : made / s.every ≤ next / s.every = le-div (made / s.every) next s.every ok.every (omega (arith, low, less))
-    in
+    let fewer : made / s.every ≤ next / s.every =
+    le-div (made / s.every) next s.every ok.every (omega (arith, low, less)) in
     let more = next / s.every - made / s.every in
     let some : more ≤ more * s.burst = le-mul_of_pos_right more (omega (arith, ok.burst)) in
     let parts : next / s.every ≡ made / s.every + more = omega (arith, fewer) in

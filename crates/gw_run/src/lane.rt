@@ -23,8 +23,8 @@ fn is_idle(burst: Burst) -> bool
 }
 
 /// Fills the queue of a route, if it has one, and makes turns of it into the mailboxes of this controller until one is
-/// idle or waits, at most `most`. Returns whether it had nothing to do. `Memory` where it was refused to the hand, or to
-/// the mailboxes at any time before.
+/// idle or waits, at most `most`. Returns whether it had nothing to do. `Memory` where it was refused to the hand, or
+/// to the mailboxes at any time before.
 pub(crate) fn turns_on<R: Wait>(
     rt: &R,
     hand: &mut RouteHand,

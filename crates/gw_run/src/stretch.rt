@@ -69,8 +69,8 @@ fn all_idle_until(sites: &[Site], last: u64) -> u64
 }
 
 /// Passes over bits of all segments, as long as each idles or is ahead, at most until all have made `last`. Returns how
-/// many all have made then. Behind a bit that all have made, it passes over all bits at once up to the next one at which
-/// something may happen.
+/// many all have made then. Behind a bit that all have made, it passes over all bits at once up to the next one at
+/// which something may happen.
 pub(crate) fn idle_until(sites: &mut [Site], made: u64, last: u64) -> u64
     requires may { MayIdle made sites.old }
     requires far { AreFar made sites.old }
@@ -101,8 +101,8 @@ fn nothing_waits(lanes: &[Lane], idle: bool) -> bool
 }
 
 /// A stretch of bits at which each segment is ahead, or idles and no request waits there, and the turns behind them,
-/// where the last turns of all routes were idle and each route waits for a frame: so none of these turns has anything to
-/// do. How many bits are made then, and one is left to make; some segments may have made one more.
+/// where the last turns of all routes were idle and each route waits for a frame: so none of these turns has anything
+/// to do. Returns how many bits are made then, one is left to make at least; some segments may have made one more.
 pub(crate) fn stretch(
     sites: &mut [Site],
     lanes: &mut [Lane],

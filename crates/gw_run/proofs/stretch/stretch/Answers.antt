@@ -18,7 +18,8 @@ pub returns-clause-world : goal.returns-clause-world
 returns-clause-world c =
     let sites = c.idle_until-next.new.sites in
     let moves = idle_moves (c.idle_until-next.result + 1) c.args.sites.now sites c.idle_until-next.ensures.idle in
-    world_idled (idle_turns c.args.schedules.now c.args.made c.idle_until-next.result) sites c.args.lanes.now c.idle_lanes.new.lanes c.idle_lanes.ensures
+    world_idled (idle_turns c.args.schedules.now c.args.made c.idle_until-next.result) sites c.args.lanes.now
+    c.idle_lanes.new.lanes c.idle_lanes.ensures
     (world_bits c.args.sites.now sites c.args.lanes.now moves c.requires.world)
 
 pub returns-clause-made : goal.returns-clause-made
@@ -36,7 +37,8 @@ returns-clause-short c = short_bits c.args.sites.now c.idle_until-next.new.sites
     c.idle_until-next.ensures.idle)
 
 pub returns-clause-lanes : goal.returns-clause-lanes
-returns-clause-lanes c = lanes_idled (idle_turns c.args.schedules.now c.args.made c.idle_until-next.result) c.args.lanes.now c.idle_lanes.new.lanes c.idle_lanes.ensures
+returns-clause-lanes c = lanes_idled (idle_turns c.args.schedules.now c.args.made c.idle_until-next.result)
+    c.args.lanes.now c.idle_lanes.new.lanes c.idle_lanes.ensures
 
 pub returns-then-not-nothing_waits-clause-far : goal.returns-then-not-nothing_waits-clause-far
 returns-then-not-nothing_waits-clause-far c = far_made c.args.bits c.args.made c.args.sites.now c.requires.made

@@ -65,7 +65,8 @@ loop-place-preserved g c =
     )
 
 pub returns-clause-counted : goal.returns-clause-counted
-returns-clause-counted g c = places_end (CountsByIts c.args.schedules.now c.args.tick) c.args.lanes.now c.loop-place.lanes c.loop-place.place
+returns-clause-counted g c = places_end (CountsByIts c.args.schedules.now c.args.tick) c.args.lanes.now
+    c.loop-place.lanes c.loop-place.place
     (omega (arith, c.loop-place-test.false, c.loop-place.invariant.4.size)) c.loop-place.invariant.4
 
 pub returns-clause-idle : goal.returns-clause-idle
