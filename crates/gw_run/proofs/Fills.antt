@@ -132,6 +132,12 @@ all_full old new h k lane e =
     let before = some_there old k (let within = slice_get_within new k lane e in omega (arith, within, h.size)) in
     full_if_filled (hand_value before.0.hand) (hand_value lane.hand) (h.at k before.0 lane before.1 e).filled
 
+-- a route without a queue gets none
+pub none_queues : (old new : List Lane) → LanesKeep old new → NoneQueues old → NoneQueues new
+none_queues old new h none k lane e =
+    let before = some_there old k (let within = slice_get_within new k lane e in omega (arith, within, h.size)) in
+    (h.at k before.0 lane before.1 e).size_is ∙ none k before.0 before.1
+
 -- without a queue there is nothing to fill
 pub none_to_fill : (lanes : List Lane) → NoneQueues lanes → AllFull lanes
 none_to_fill lanes none k lane e size is = absurd (not_some size (sym (none k lane e) ∙ is))

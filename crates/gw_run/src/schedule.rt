@@ -46,9 +46,6 @@ impl Schedule {
         requires fits { ticks ≤ 4294967295 }
         ensures { result ≡ next_due self.now ticks }
     {
-        if self.every == 1 {
-            return ticks + 1;
-        }
         let every = u64::from(self.every);
         (ticks / every + 1) * every
     }
@@ -70,7 +67,8 @@ pub(crate) fn schedules_of(
     Ok(schedules)
 }
 
-/// Returns the number of the first tick behind so many at which one of these routes makes turns, at most `last`.
+/// Returns the number of the first tick behind so many at which one of these routes makes turns, at most `last`. Mostly
+/// one makes them behind each tick: then the others aren't looked at.
 pub(crate) fn first_due(schedules: &[Schedule], ticks: u64, last: u64) -> u64
     requires schedules { AreSchedules schedules.now }
     requires fits { ticks ≤ 4294967295 }
@@ -82,6 +80,9 @@ pub(crate) fn first_due(schedules: &[Schedule], ticks: u64, last: u64) -> u64
 {
     let mut first = last;
     for schedule in schedules {
+        if schedule.every == 1 {
+            return ticks + 1;
+        }
         first = first.min(schedule.next_due(ticks));
     }
     first

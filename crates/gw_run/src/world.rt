@@ -127,16 +127,18 @@ fn one_queues(lanes: &[Lane]) -> bool
 }
 
 /// The bits of each segment until each has made so many of all that it has to make. Behind each bit but the last one
-/// the queues of the routes are filled, if one has a queue. No turns are made.
+/// the queues of the routes are filled, if one has a queue: `queues`. No turns are made.
 fn make_until<R: Wait>(
     rt: &R,
     sites: &mut [Site],
     lanes: &mut [Lane],
+    queues: bool,
     bits: u64,
     made: u64,
     until: u64,
 ) -> Result<(), Memory>
     requires world { WorldHolds sites.old lanes.old }
+    requires queues { queues ≡ false → NoneQueues lanes.old }
     requires made { HaveMadeUpTo bits (made + 1) sites.old }
     requires more { made < until }
     requires until { until ≤ bits }
@@ -149,7 +151,7 @@ fn make_until<R: Wait>(
     ensures lanes { OnOk result (LanesKeep lanes.old lanes.new) }
     ensures keeps { OnOk result (SitesKeep lanes.old sites.old sites.new) }
 {
-    if !one_queues(lanes) {
+    if !queues {
         return make_bits(rt, sites, until, bits);
     }
     let mut tick = made + 1;
@@ -188,12 +190,13 @@ pub(crate) fn make_all<R: Wait>(
         // then no segment knows of another
         return make_bits(rt, sites, bits, bits);
     }
+    let queues = one_queues(lanes);
     let mut made = 0;
     let mut idle = false;
     while made < bits {
         made = stretch(sites, lanes, schedules, idle, bits, made);
         let due = first_due(schedules, made, bits);
-        make_until(rt, sites, lanes, bits, made, due)?;
+        make_until(rt, sites, lanes, queues, bits, made, due)?;
         idle = serve_all(rt, sites, lanes, schedules, due)?;
         made = due;
     }

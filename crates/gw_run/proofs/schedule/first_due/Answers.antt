@@ -28,6 +28,11 @@ loop-schedule-preserved c =
       ],
     )
 
+-- the next tick is no later than the first one at which any route's turns are due
+pub returns-then-schedule-eq1-clause-first : goal.returns-then-schedule-eq1-clause-first
+returns-then-schedule-eq1-clause-first c k s e =
+    let later = due_later s c.args.ticks (c.requires.schedules k s e).every in omega (arith, later)
+
 pub returns-clause-first : goal.returns-clause-first
 returns-clause-first c k s e = c.loop-schedule.invariant.2 k s
     (let within = slice_get_within c.args.schedules.now k s e in

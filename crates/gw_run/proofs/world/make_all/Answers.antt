@@ -2,6 +2,7 @@ use Rattle.std.proofs.Common.{rules, ◌≡◌, arith, subst}
 use Rattle.std.proofs.lemmas.Result.{on_ok_weaker}
 use Rattle.gw_run.specs.Worlds.{HaveMade, HaveTurned}
 use Rattle.gw_run.proofs.Counted.{short_bits, turned_on}
+use Rattle.gw_run.proofs.Fills.{none_queues}
 use Rattle.gw_run.proofs.Passes.{lanes_start, lanes_on, made_turns}
 use Rattle.gw_run.proofs.Keeps.{sites-self, sites-on, sites_of_first}
 use Rattle.gw_run.proofs.Stretches.{made_up_to}
@@ -20,7 +21,8 @@ loop-made-init g c = (
   c.requires.turned,
   (λ h. h),
   omega arith,
-  λ is. absurd (cc is),
+  (λ is. absurd (cc is)),
+  c.one_queues-queues.ensures,
 )
 
 pub loop-made-preserved : goal.loop-made-preserved
@@ -51,7 +53,14 @@ loop-made-preserved g c =
       (λ h. served.short (until.short (mid.short (held.5 h)))),
       due.ensures.most,
       served.idle,
+      λ none. none_queues c.make_until.new.lanes c.serve_all.new.lanes served.lanes
+          (none_queues c.stretch-made.new.lanes c.make_until.new.lanes until.lanes
+          (none_queues c.loop-made.lanes c.stretch-made.new.lanes mid.lanes (held.7 none))),
     )
+
+pub make_until-requires-clause-queues : goal.make_until-requires-clause-queues
+make_until-requires-clause-queues g c none =
+    none_queues c.loop-made.lanes c.stretch-made.new.lanes c.stretch-made.ensures.lanes (c.loop-made.invariant.7 none)
 
 pub returns-then-is_empty-clause-short : goal.returns-then-is_empty-clause-short
 returns-then-is_empty-clause-short g c = on_ok_weaker c.make_bits.result

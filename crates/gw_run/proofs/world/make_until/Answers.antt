@@ -83,27 +83,27 @@ pub make_bits-requires-clause-before : goal.make_bits-requires-clause-before
 make_bits-requires-clause-before g c = up_to_more c.args.bits (c.args.made + 1) c.args.until c.args.sites.now
     (omega (arith, c.requires.more)) c.requires.made
 
-pub returns-then-not-one_queues-clause-world : goal.returns-then-not-one_queues-clause-world
-returns-then-not-one_queues-clause-world g c = on_ok_weaker c.make_bits.result
+pub returns-then-not-queues-clause-world : goal.returns-then-not-queues-clause-world
+returns-then-not-queues-clause-world g c = on_ok_weaker c.make_bits.result
     (λ world. world c.args.lanes.now c.requires.world) c.make_bits.ensures.world
 
-pub returns-then-not-one_queues-clause-turned : goal.returns-then-not-one_queues-clause-turned
-returns-then-not-one_queues-clause-turned g c = on_ok_weaker c.make_bits.result
+pub returns-then-not-queues-clause-turned : goal.returns-then-not-queues-clause-turned
+returns-then-not-queues-clause-turned g c = on_ok_weaker c.make_bits.result
     (λ made. no_turns c.args.lanes.now) c.make_bits.ensures.made
 
-pub returns-then-not-one_queues-clause-full : goal.returns-then-not-one_queues-clause-full
-returns-then-not-one_queues-clause-full g c = on_ok_weaker c.make_bits.result
-    (λ made later. none_to_fill c.args.lanes.now (c.one_queues.ensures c.if-not-one_queues.true))
+pub returns-then-not-queues-clause-full : goal.returns-then-not-queues-clause-full
+returns-then-not-queues-clause-full g c = on_ok_weaker c.make_bits.result
+    (λ made later. none_to_fill c.args.lanes.now (c.requires.queues c.if-queues.false))
     c.make_bits.ensures.made
 
-pub returns-then-not-one_queues-clause-short : goal.returns-then-not-one_queues-clause-short
-returns-then-not-one_queues-clause-short g c = on_ok_weaker c.make_bits.result
+pub returns-then-not-queues-clause-short : goal.returns-then-not-queues-clause-short
+returns-then-not-queues-clause-short g c = on_ok_weaker c.make_bits.result
     (λ moves h. short_bits c.args.sites.now c.make_bits.new.sites moves h) c.make_bits.ensures.moves
 
-pub returns-then-not-one_queues-clause-lanes : goal.returns-then-not-one_queues-clause-lanes
-returns-then-not-one_queues-clause-lanes g c = on_ok_weaker c.make_bits.result
+pub returns-then-not-queues-clause-lanes : goal.returns-then-not-queues-clause-lanes
+returns-then-not-queues-clause-lanes g c = on_ok_weaker c.make_bits.result
     (λ made. lanes_start c.args.lanes.now) c.make_bits.ensures.made
 
-pub returns-then-not-one_queues-clause-keeps : goal.returns-then-not-one_queues-clause-keeps
-returns-then-not-one_queues-clause-keeps g c =
+pub returns-then-not-queues-clause-keeps : goal.returns-then-not-queues-clause-keeps
+returns-then-not-queues-clause-keeps g c =
     on_ok_weaker c.make_bits.result (λ keeps. keeps c.args.lanes.now) c.make_bits.ensures.keeps
