@@ -1,7 +1,7 @@
 //! A node of one segment.
 
 ghost use Rattle.std.specs.Prelude.{◌≡◌, ℕ, ◌+◌, ◌<◌, ◌≤◌, true, false, Bool, IsSome, IfSome, IfNone};
-ghost use Rattle.std.specs.Prelude.{length, min, take};
+ghost use Rattle.std.specs.Prelude.{List, length, min, take};
 ghost use Rattle.can_confinement.specs.Counters.{StandsAfter as CountersStandAfter, counts_of};
 ghost use Rattle.can_node.specs.Histories.{Past, no_past, IsHistory};
 ghost use Rattle.can_node.specs.SharedReceiver.{AllHear, Receives, Matches};
@@ -335,5 +335,23 @@ impl Node {
             return;
         }
         go_out(&mut self.state, levels);
+    }
+
+    /// Simulates this many bits of a frame that the node sends, with the levels that it drives next (`ahead`): what
+    /// `go_on_by` does with these levels.
+    pub fn go_ahead_by(&mut self, count: usize)
+        requires goes { (levels : List Bool) × MayGoOnBy true levels self.old × (length levels ≡ count) }
+        requires room { bit_of self.old + count ≤ u64.MAX }
+        ensures { (is_sender : Bool) (levels : List Bool) → length levels ≡ count → MayGoOnBy is_sender levels self.old
+            → GoesOnBy is_sender self.old levels self.new }
+    {
+        self.clock += count as u64;
+        if let State::Transmitting {
+            start: _start,
+            place,
+        } = &mut self.state
+        {
+            *place = place.saturating_add(count as u8);
+        }
     }
 }

@@ -8,8 +8,9 @@
 //! does; the contract says that this equals the same bits simulated one after another, of all nodes at a time
 //! (`AreUneventfulBits`).
 
-ghost use Rattle.std.specs.Prelude.{◌≡◌, ◌≤◌, ◌<◌, ◌+◌, ◌-◌, ◌++◌, true, Bool, List, Some, IfSome, length, slice_get};
-ghost use Rattle.can_segment.specs.DeferredState.{AreRecessive, AreUneventfulBits};
+ghost use Rattle.std.specs.Prelude.{◌≡◌, ◌≤◌, ◌<◌, ◌+◌, ◌-◌, ◌++◌, ◌≢◌, ℕ, true, Bool, List, Some, IfSome};
+ghost use Rattle.std.specs.Prelude.{length, slice_get};
+ghost use Rattle.can_segment.specs.DeferredState.{AllDeferred, AreRecessive, AreUneventfulBits};
 ghost use Rattle.can_station.specs.DeferredNodes.{ActiveWithin, HasRoom, MayGoBy, OthersStayOut};
 ghost use Rattle.can_station.specs.declared.member.Member.{Member};
 
@@ -17,9 +18,9 @@ use crate::deferred::Deferred;
 use crate::idle_burst::idle_burst;
 use crate::levels::Levels;
 use arrayvec::ArrayVec;
-use can_station::{Member, PlaceSet, all_stay_out, go_on_by};
+use can_station::{Member, PlaceSet, all_stay_out, go_ahead_by, go_on_by};
 
-/// How many bits are simulated at once, at most.
+/// How many bits are simulated at once, at most, where their levels are copied.
 const BURST: usize = 120;
 
 /// Returns this many recessive levels, at most `BURST`.
@@ -87,6 +88,38 @@ fn ahead_beside<'a>(
 }
 
 /// Simulates the next bits that the node at this place transmits in the stuffed region of its frame or behind the ACK
+/// slot, as far as the shared receiver follows them for all other nodes, which are deferred: at most `most`. Appends
+/// their levels, for which there is room.
+///
+/// The node counts its levels and does not read them. So this needs no copy of them, nor room for one, which
+/// `transmit_beside` clears at each call.
+fn transmit_alone(
+    levels: &mut Levels,
+    senders: &mut [Member],
+    place: usize,
+    deferred: &mut Deferred,
+    most: usize,
+)
+    requires there { place < length senders.old }
+    requires others_deferred { (k : ℕ) (m : Member) → slice_get senders.old k ≡ Some m → k ≢ place
+        → m.is_deferred ≡ true }
+    requires sender_room { HasRoom (u64.MAX + 1 - most) (length levels.old.items) senders.old }
+    requires level_room { length levels.old.items + most ≤ levels.old.capacity }
+    ensures { (sent : List Bool) × (length sent ≤ most) × (levels.new.items ≡ levels.old.items ++ sent)
+        × ((others : List Member) → AllDeferred others → AreUneventfulBits (length levels.old.items) sent deferred.old
+        deferred.new senders.old senders.new others others) }
+{
+    let made = levels.len() as u64;
+    let ahead = senders[place].ahead(made, most);
+    let count = deferred.shared_receiver.reads_along_by(ahead);
+    if count == 0 {
+        return;
+    }
+    levels.extend_from_slice(&ahead[..count]);
+    go_ahead_by(senders, place, count);
+}
+
+/// Simulates the next bits that the node at this place transmits in the stuffed region of its frame or behind the ACK
 /// slot, or recessive bits where there is no node, as far as the shared receiver follows them for the deferred nodes
 /// and all other active nodes continue without transmitting: at most `most`. Appends their levels, for which there is
 /// room.
@@ -124,6 +157,43 @@ fn transmit_beside(
     go_on_by(others, sent.as_slice(), active_others);
 }
 
+/// Simulates bits as `transmit_beside` does: by `transmit_alone` where the node at this place is the only active one,
+/// as it mostly is.
+fn transmit_next(
+    levels: &mut Levels,
+    senders: &mut [Member],
+    place: usize,
+    active: PlaceSet,
+    others: &mut [Member],
+    active_others: PlaceSet,
+    deferred: &mut Deferred,
+    most: usize,
+)
+    requires senders_within { ActiveWithin active senders.old }
+    requires others_within { ActiveWithin active_others others.old }
+    requires sender_room { HasRoom (u64.MAX + 1 - most) (length levels.old.items) senders.old }
+    requires room { HasRoom (u64.MAX + 1 - most) (length levels.old.items) others.old }
+    requires level_room { length levels.old.items + most ≤ levels.old.capacity }
+    ensures { (sent : List Bool) × (length sent ≤ most) × (levels.new.items ≡ levels.old.items ++ sent)
+        × AreUneventfulBits (length levels.old.items) sent deferred.old deferred.new senders.old senders.new others.old
+        others.new }
+{
+    if active.is_only(place) && active_others.is_empty() {
+        transmit_alone(levels, senders, place, deferred, most);
+        return;
+    }
+    transmit_beside(
+        levels,
+        senders,
+        place,
+        active,
+        others,
+        active_others,
+        deferred,
+        most,
+    );
+}
+
 /// Simulates many bits at once: those that one node transmits in the stuffed region of its frame or behind the ACK
 /// slot, while all others are deferred or continue without transmitting (in bus off, in a passive error flag, in what
 /// they wait for behind a frame, or in the stuffed region of what they receive by themselves); or those with which all
@@ -156,7 +226,7 @@ pub(crate) fn transmit_burst(
     let active_too = deferred.controllers;
     let talker = first_sender(talkers, active);
     if talker < talkers.len() {
-        transmit_beside(
+        transmit_next(
             levels,
             talkers,
             talker,
@@ -170,7 +240,7 @@ pub(crate) fn transmit_burst(
     }
     // there it is, or nowhere
     let controller = first_sender(controllers, active_too);
-    transmit_beside(
+    transmit_next(
         levels,
         controllers,
         controller,

@@ -1,7 +1,7 @@
 -- Sets of places, and loops over those at which nodes may be active.
 use Rattle.std.proofs.Common.{◌≡◌, ℕ, zero, suc, ◌*◌, ◌%◌, ◌^◌, ◌<◌, ◌&&◌, inl, inr, Bool, true, false}
 use Rattle.std.proofs.Common.{List, [], ◌∷◌, Some, length, set, slice_get, refl, sym, ap, subst, arith, w64, ◌∙◌}
-use Rattle.std.proofs.Common.{bit_and, bit_or}
+use Rattle.std.proofs.Common.{bit_and, bit_or, ◌≢◌}
 use Rattle.std.specs.Int.{bit_at, bit_not, trailing_zeros}
 use Rattle.std.specs.Int.Count.{trailing_of_zero}
 use Rattle.std.specs.List.{list_all}
@@ -14,7 +14,8 @@ use Rattle.std.proofs.lemmas.Option.{slice_get_within}
 use Rattle.can_station.specs.declared.member.Member.{Member}
 use Rattle.can_station.specs.declared.place_set.PlaceSet.{PlaceSet}
 use Rattle.can_station.specs.Places.{AtBoth, AtPlaces}
-use Rattle.can_station.proofs.Places.{AtBothBut, AtPlacesBut, same_some, some_there, get_set_same, get_set_other}
+use Rattle.can_station.proofs.Places.{AtBothBut, AtPlacesBut, get_set_other, get_set_same}
+use Rattle.can_station.proofs.Places.{same_some, same_step, some_there}
 use Rattle.can_station.specs.PlaceSets.{HasPlace, IsEmpty, IsFirst, IsWith, IsWithout}
 use Rattle.can_station.specs.DeferredNodes.{ActiveWithin, IfActive, IfActiveBoth}
 
@@ -117,6 +118,28 @@ but_start Step xs set h = record {
   made = λ k a b not p q. deferred_step (Step k) a b (same_some b a (sym q ∙ p)) (deferred_outside set xs k a h p not);
   same = λ k has. refl;
   size = refl;
+}
+
+-- where all nodes are deferred, none makes a step
+pub none_step : (Step : Member → Member → Type 0) (xs : List Member) →
+    ((k : ℕ) (m : Member) → slice_get xs k ≡ Some m → m.is_deferred ≡ true) → AtPlaces (λ k. IfActive Step) xs xs
+none_step Step xs deferred = record {
+  at = λ k a b p q. deferred_step Step a b (same_some b a (sym q ∙ p)) (deferred k a p);
+  size = refl;
+}
+
+-- where all nodes but one are deferred, only that one makes a step
+pub lone_step : (Step : Member → Member → Type 0) (xs : List Member) (i : ℕ) (a b : Member) → i < length xs →
+    ((k : ℕ) (m : Member) → slice_get xs k ≡ Some m → k ≢ i → m.is_deferred ≡ true) → slice_get xs i ≡ Some a →
+    IfActive Step a b → AtPlaces (λ k. IfActive Step) xs (set xs i b)
+lone_step Step xs i a b less deferred here step = record {
+  at = λ k c d p q. elim (cases_eq k i) [
+    | inl is ↦ same_step (λ k. IfActive Step) i k a b c d (sym is) (sym here ∙ ap (slice_get xs) (sym is) ∙ p)
+        (sym (get_set_same xs i b less) ∙ ap (slice_get (set xs i b)) (sym is) ∙ q) step
+    | inr other ↦ deferred_step Step c d (same_some d c (sym q ∙ get_set_other xs i k b other ∙ p))
+        (deferred k c p other)
+  ];
+  size = length-set xs i b;
 }
 
 pub both_start : {P : Type 0} (Step : ℕ → Member → Member → P → P → Type 0) (xs : List Member) (ps : List P)

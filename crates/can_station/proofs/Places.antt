@@ -79,7 +79,7 @@ pub places_as : {M : Type 0} (One Other : ℕ → M → M → Type 0) (old new :
 places_as One Other old new i too b =
     record { below = λ k a c h p q. too k a c (b.below k a c h p q); above = b.above; size = b.size }
 
-same_step : {M : Type 0} (Step : ℕ → M → M → Type 0) (i k : ℕ) (a b c d : M) → i ≡ k → Some a ≡ Some c →
+pub same_step : {M : Type 0} (Step : ℕ → M → M → Type 0) (i k : ℕ) (a b c d : M) → i ≡ k → Some a ≡ Some c →
     Some b ≡ Some d → Step i a b → Step k c d
 same_step Step i k a b c d ei ea eb step =
     let same_a : a ≡ c = cc ea in

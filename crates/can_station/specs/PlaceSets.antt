@@ -16,6 +16,11 @@ pub record IsFirst (place : ℕ) (set : PlaceSet) : Type 0 where
   pub has : HasPlace set place
   pub first : (k : ℕ) → HasPlace set k → place ≤ k
 
+-- this place is the only one of the set
+pub record IsOnly (place : ℕ) (set : PlaceSet) : Type 0 where
+  pub has : HasPlace set place
+  pub no_others : (k : ℕ) → HasPlace set k → k ≡ place
+
 -- the set with this place too
 pub record IsWith (place : ℕ) (old new : PlaceSet) : Type 0 where
   pub has : HasPlace new place

@@ -1,6 +1,6 @@
 //! Lists of nodes at uneventful bits.
 
-ghost use Rattle.std.specs.Prelude.{◌≡◌, ◌≤◌, ◌<◌, ◌+◌, ℕ, Bool, true, false, Some, length, slice_get, take};
+ghost use Rattle.std.specs.Prelude.{◌≡◌, ◌≢◌, ◌≤◌, ◌<◌, ◌+◌, ℕ, Bool, List, true, false, Some, length, slice_get, take};
 ghost use Rattle.can_node.specs.Node.{bit_of};
 ghost use Rattle.can_station.specs.Places.{AtPlaces};
 ghost use Rattle.can_station.specs.DeferredNodes.{AllGo, ActiveWithin, GoesAsItMay, HasRoom, IfActive, MayAllGo};
@@ -83,4 +83,19 @@ pub fn go_on_by(members: &mut [Member], levels: &[bool], active: PlaceSet)
     while let Some(place) = left.take_first() {
         members[place].go_on_by(levels);
     }
+}
+
+/// Lets the sender at this place continue with this many of the levels that it drives next in its frame. All other
+/// nodes are deferred.
+pub fn go_ahead_by(members: &mut [Member], place: usize, count: usize)
+    requires there { place < length members.old }
+    requires deferred { (k : ℕ) (m : Member) → slice_get members.old k ≡ Some m → k ≢ place → m.is_deferred ≡ true }
+    requires goes { (m : Member) → slice_get members.old place ≡ Some m
+        → (levels : List Bool) × (bit : ℕ) × MayGoBy true bit levels m × (length levels ≡ count) }
+    requires room { (m : Member) → slice_get members.old place ≡ Some m
+        → bit_of m.station.node + count ≤ u64.MAX }
+    ensures { (levels : List Bool) → length levels ≡ count
+        → AtPlaces (λ k. IfActive (GoesAsItMay levels)) members.old members.new }
+{
+    members[place].go_ahead_by(count);
 }

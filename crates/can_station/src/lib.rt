@@ -26,7 +26,7 @@ pub use crate::action::Action;
 pub use crate::current_faults::CurrentFaults;
 pub use crate::due_frame::DueFrame;
 pub use crate::event::{Event, EventKind, Label};
-pub use crate::going::{all_go_on, all_stay_out, go_on, go_on_by};
+pub use crate::going::{all_go_on, all_stay_out, go_ahead_by, go_on, go_on_by};
 pub use crate::member::Member;
 pub use crate::members::{
     driven_by_all, sample_controllers, sample_nodes, start_controllers, start_talkers,

@@ -1,7 +1,7 @@
 //! Sets of indices.
 
 ghost use Rattle.std.specs.Prelude.{◌≡◌, ◌≤◌, ◌<◌, ℕ, Some, IfNone, IfSome, true, false, length, slice_get};
-ghost use Rattle.can_station.specs.PlaceSets.{HasPlace, IsEmpty, IsFirst, IsWith, IsWithout};
+ghost use Rattle.can_station.specs.PlaceSets.{HasPlace, IsEmpty, IsFirst, IsOnly, IsWith, IsWithout};
 ghost use Rattle.can_station.specs.DeferredNodes.{ActiveWithin};
 
 use crate::member::Member;
@@ -77,5 +77,17 @@ impl PlaceSet {
         ensures some { IsEmpty self → result ≡ true }
     {
         self.bits == 0
+    }
+
+    /// Returns whether this index is the only one of the set.
+    pub fn is_only(self, place: usize) -> bool
+        ensures only { result ≡ true → IsOnly place self }
+        ensures all { IsOnly place self → result ≡ true }
+    {
+        let mut left = self;
+        match left.take_first() {
+            Some(first) => first == place && left.is_empty(),
+            None => false,
+        }
     }
 }

@@ -1,6 +1,6 @@
 //! Many uneventful bits of one node at once.
 
-ghost use Rattle.std.specs.Prelude.{◌≡◌, ◌<◌, ◌≤◌, ◌+◌, ℕ, Bool, true, false, length, min, take};
+ghost use Rattle.std.specs.Prelude.{◌≡◌, ◌<◌, ◌≤◌, ◌+◌, ℕ, Bool, true, false, List, length, min, take};
 ghost use Rattle.can_node.specs.Node.{bit_of};
 ghost use Rattle.can_node.specs.PlainBits.{EndsOut, count_ahead};
 ghost use Rattle.can_station.specs.DeferredNodes.{GoesAsItMay, MayGoBy};
@@ -54,5 +54,16 @@ impl Member {
             return;
         }
         self.station.node.go_on_by(levels);
+    }
+
+    /// Lets a node that sends a frame continue with this many of the levels that it drives next (`Node::go_ahead_by`).
+    pub(crate) fn go_ahead_by(&mut self, count: usize)
+        requires goes { (levels : List Bool) × (bit : ℕ) × MayGoBy true bit levels self.old
+            × (length levels ≡ count) }
+        requires room { bit_of self.old.station.node + count ≤ u64.MAX }
+        ensures active { self.new.is_deferred ≡ self.old.is_deferred }
+        ensures goes { (levels : List Bool) → length levels ≡ count → GoesAsItMay levels self.old self.new }
+    {
+        self.station.node.go_ahead_by(count);
     }
 }

@@ -52,6 +52,19 @@ fn send_on(node: &mut Node, levels: &[bool]) -> bool {
     false
 }
 
+/// The node goes ahead by this many of the levels that it drives next in a frame, if there are so many, and it has the
+/// bits left.
+fn go_ahead(node: &mut Node, count: usize) -> bool {
+    if count == 0 || count > 100 || node.bit() > 1000 {
+        return false;
+    }
+    if node.ahead(count).len() == count {
+        node.go_ahead_by(count);
+        return true;
+    }
+    false
+}
+
 /// The node goes on without sending with as many of these levels as it can, if it has the bits left: how many.
 fn stay_out(node: &mut Node, levels: &[bool]) -> usize {
     let count = node.stays_out(levels);
@@ -320,6 +333,29 @@ fn a_sender_makes_many_bits_at_once(rt: HostRuntime) {
     assert!(rt; send_on(&mut sender, &levels[..37]));
     assert_eq!(rt; sender.bit(), 50);
     assert!(rt; sender.ahead(64) == &levels[37..]);
+}
+
+#[test]
+fn a_sender_goes_ahead_as_it_does_bit_by_bit(rt: HostRuntime) {
+    let mut single = sender();
+    for (place, byte) in FRAME.as_bytes().iter().enumerate().take(41) {
+        let level = *byte == b'1';
+        let mut sender = sender();
+        assert_eq!(rt; go_ahead(&mut sender, place), place > 0);
+        assert_eq!(rt; sender.drive(), level);
+        assert_eq!(rt; sender.bit(), single.bit());
+        assert!(rt; sender.ahead(64) == single.ahead(64));
+        assert_eq!(rt; go_on(&mut single, level), Some(Outcome::Nothing));
+    }
+    // no further than up to the ACK slot, and behind that up to the last bit of EOF
+    let mut sender = sender();
+    assert!(rt; !go_ahead(&mut sender, 42));
+    assert!(rt; go_ahead(&mut sender, 41));
+    assert_eq!(rt; go_on(&mut sender, false), Some(Outcome::Nothing));
+    assert!(rt; !go_ahead(&mut sender, 8));
+    assert!(rt; go_ahead(&mut sender, 7));
+    assert_eq!(rt; sample(&mut sender, true), Some(Outcome::Completed));
+    assert_eq!(rt; sender.bit(), 61);
 }
 
 #[test]

@@ -4,7 +4,7 @@ use Rattle.can_segment.proofs.transmit_burst.transmit_burst.Goals as goal
 
 pub returns : goal.returns
 returns c =
-    let made = c.transmit_beside-2 in
+    let made = c.transmit_next-2 in
     let sent = made.ensures in (
       sent.0,
       sent.1,
