@@ -55,12 +55,12 @@ loop-made-preserved g c =
       served.idle,
       λ none. none_queues c.make_until.new.lanes c.serve_all.new.lanes served.lanes
           (none_queues c.stretch-made.new.lanes c.make_until.new.lanes until.lanes
-          (none_queues c.loop-made.lanes c.stretch-made.new.lanes mid.lanes (held.7 none))),
+          (none_queues c.loop-made.lanes c.stretch-made.new.lanes mid.lanes (held.8 none))),
     )
 
 pub make_until-requires-clause-queues : goal.make_until-requires-clause-queues
 make_until-requires-clause-queues g c none =
-    none_queues c.loop-made.lanes c.stretch-made.new.lanes c.stretch-made.ensures.lanes (c.loop-made.invariant.7 none)
+    none_queues c.loop-made.lanes c.stretch-made.new.lanes c.stretch-made.ensures.lanes (c.loop-made.invariant.8 none)
 
 pub returns-then-is_empty-clause-short : goal.returns-then-is_empty-clause-short
 returns-then-is_empty-clause-short g c = on_ok_weaker c.make_bits.result

@@ -93,7 +93,7 @@ returns-then-not-queues-clause-turned g c = on_ok_weaker c.make_bits.result
 
 pub returns-then-not-queues-clause-full : goal.returns-then-not-queues-clause-full
 returns-then-not-queues-clause-full g c = on_ok_weaker c.make_bits.result
-    (λ made later. none_to_fill c.args.lanes.now (c.requires.queues c.if-queues.false))
+    (λ made later. none_to_fill c.args.lanes.now (c.requires.queues c.if-not-queues.true))
     c.make_bits.ensures.made
 
 pub returns-then-not-queues-clause-short : goal.returns-then-not-queues-clause-short
