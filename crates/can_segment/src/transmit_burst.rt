@@ -47,6 +47,20 @@ fn first_sender(members: &[Member], active: PlaceSet) -> usize
     members.len()
 }
 
+/// Returns whether another active node of these than the one at this place transmits a frame, as during arbitration.
+fn another_sends(members: &[Member], active: PlaceSet, place: usize) -> bool
+    requires { ActiveWithin active members.now }
+{
+    let mut left = active;
+    while let Some(other) = left.take_first() {
+        let member = &members[other];
+        if other != place && !member.is_deferred && member.station.node.sends_from().is_some() {
+            return true;
+        }
+    }
+    false
+}
+
 /// Returns the levels that the node at this place drives next in a frame that it transmits, or recessive ones where
 /// there is no node: at most `most`.
 fn next_levels<'a>(senders: &'a [Member], place: usize, bit: u64, most: usize) -> &'a [bool]
@@ -158,7 +172,7 @@ fn transmit_beside(
 }
 
 /// Simulates bits as `transmit_beside` does: by `transmit_alone` where the node at this place is the only active one,
-/// as it mostly is.
+/// as it mostly is, and none where another one transmits too.
 fn transmit_next(
     levels: &mut Levels,
     senders: &mut [Member],
@@ -180,6 +194,10 @@ fn transmit_next(
 {
     if active.is_only(place) && active_others.is_empty() {
         transmit_alone(levels, senders, place, deferred, most);
+        return;
+    }
+    // none of these would stay out
+    if another_sends(senders, active, place) || another_sends(others, active_others, others.len()) {
         return;
     }
     transmit_beside(
