@@ -45,6 +45,13 @@ turned_on schedules made tick old mid new are more first none counts h k s lane 
     (λ none. (by.not_due none).0)
     (subst (HasTurned s made) (sym (none.at k before.0 between.0 before.1 between.1)) (h k s before.0 is before.1))
 
+-- no turn was made since
+pub turned_before : (schedules : List Schedule) (made : ℕ) (old new : List Lane) → NoneTurns old new →
+    HaveTurned schedules made old → HaveTurned schedules made new
+turned_before schedules made old new none h k s lane is e =
+    let before = some_there old k (let within = slice_get_within new k lane e in omega (arith, within, none.size)) in
+    subst (HasTurned s made) (sym (none.at k before.0 lane before.1 e)) (h k s before.0 is before.1)
+
 pub none_turned : (s : ScriptValue) (sites : List Site) (lanes : List Lane) (schedules : List Schedule) →
     Opens s sites lanes → HaveTurned schedules 0 lanes
 none_turned s sites lanes schedules o k schedule lane is e =

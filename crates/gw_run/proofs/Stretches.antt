@@ -9,14 +9,15 @@ use Rattle.bx_core.specs.Stands.{RouteStands}
 use Rattle.can_station.specs.Places.{AtPlaces}
 use Rattle.can_station.proofs.Places.{get_set_other, get_set_same, same_some, some_there}
 use Rattle.gw_route.specs.Plans.{FromPlan}
-use Rattle.gw_route.specs.RouteHand.{IsLinked, LogsReleased, hand_value}
+use Rattle.gw_route.specs.RouteHand.{HandValue, IsLinked, LogsReleased, hand_value}
+use Rattle.gw_route.specs.Turn.{WaitsForFrame, idled}
 use Rattle.gw_route.proofs.Idles.{linked_idled, planned_idled}
 use Rattle.gw_opening.specs.declared.lane.Lane.{Lane}
 use Rattle.gw_opening.specs.Places.{IsAt, slot_of}
 use Rattle.gw_run.specs.Ports.{Site}
 use Rattle.gw_run.specs.Sites.{Reaches, SiteIdles, SiteMoves}
 use Rattle.gw_run.specs.Worlds.{AreFar, HaveMade, HaveMadeUpTo, HaveTurned, LaneIdles, LaneKeeps, LanesKeep, Leads}
-use Rattle.gw_run.specs.Worlds.{MayIdle, WorldHolds, idle_turns}
+use Rattle.gw_run.specs.Worlds.{MayIdle, NoneHasToDo, WorldHolds, idle_turns}
 use Rattle.gw_run.specs.Schedules.{AreSchedules, idle_bursts}
 use Rattle.gw_run.specs.declared.schedule.Schedule.{Schedule}
 use Rattle.gw_run.proofs.Ahead.{ahead_least, ahead_up, idles_not, idles_on}
@@ -195,6 +196,28 @@ world_idled more sites old new h w = record {
     before_of : (k : ℕ) (lane : Lane) → slice_get new k ≡ Some lane → (b : Lane) × (slice_get old k ≡ Some b)
     before_of k lane e =
         some_there old k (let within = slice_get_within new k lane e in omega (arith, within, h.size))
+
+-- idle turns leave a route with nothing to do
+waits_idled : (more : ℕ) (h : HandValue) → WaitsForFrame h → WaitsForFrame (idled more h)
+waits_idled more h w = record { none_held = w.none_held; none_due = w.none_due }
+
+pub none_to_do : (more : ℕ → ℕ) (old new : List Lane) → AtPlaces (λ k. LaneIdles (more k)) old new →
+    NoneHasToDo old → NoneHasToDo new
+none_to_do more old new idle none = (
+  λ k lane e.
+      let before = before_of k lane e in
+      let is = (idle.at k before.0 lane before.1 e).hand_is in
+      let asked = none.0 k before.0 before.1 in
+      (asked.0, ap (λ (v : HandValue). v.out) is ∙ asked.1),
+  λ k lane e.
+      let before = before_of k lane e in
+      let is = (idle.at k before.0 lane before.1 e).hand_is in
+      subst WaitsForFrame (sym is) (waits_idled (more k) (hand_value before.0.hand) (none.1 k before.0 before.1)),
+)
+  where
+    before_of : (k : ℕ) (lane : Lane) → slice_get new k ≡ Some lane → (b : Lane) × (slice_get old k ≡ Some b)
+    before_of k lane e =
+        some_there old k (let within = slice_get_within new k lane e in omega (arith, within, idle.size))
 
 pub idle_turned : (schedules : List Schedule) (made next : ℕ) (old new : List Lane) → AreSchedules schedules →
     made ≤ next → AtPlaces (λ k. LaneIdles (idle_turns schedules made next k)) old new →

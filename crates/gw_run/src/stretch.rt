@@ -6,7 +6,8 @@ ghost use Rattle.gw_opening.specs.declared.lane.Lane.{Lane};
 ghost use Rattle.gw_run.specs.Schedules.{AreSchedules};
 ghost use Rattle.gw_run.specs.Sites.{SiteIdles};
 ghost use Rattle.gw_run.specs.Worlds.{AllAskedInVain, AllReach, AllWait, AreFar, HaveMade, HaveMadeUpTo, HaveTurned};
-ghost use Rattle.gw_run.specs.Worlds.{LaneIdles, LanesKeep, MayIdle, NoneShort, SitesKeep, WorldHolds, idle_turns};
+ghost use Rattle.gw_run.specs.Worlds.{LaneIdles, LanesKeep, MayIdle, NoneHasToDo, NoneShort, SitesKeep, WorldHolds};
+ghost use Rattle.gw_run.specs.Worlds.{idle_turns};
 
 use crate::port::Site;
 use crate::schedule::Schedule;
@@ -26,9 +27,8 @@ fn all_wait(lanes: &[Lane]) -> bool
 }
 
 /// Counts the turns of each of these routes behind the ticks from `made` until `next`, at which it has nothing to do.
-fn idle_lanes(lanes: &mut [Lane], schedules: &[Schedule], made: u64, next: u64)
-    requires asked { AllAskedInVain lanes.old }
-    requires waits { AllWait lanes.old }
+pub(crate) fn idle_lanes(lanes: &mut [Lane], schedules: &[Schedule], made: u64, next: u64)
+    requires waits { NoneHasToDo lanes.old }
     requires schedules { AreSchedules schedules.now }
     requires all { length lanes.old ≡ length schedules.now }
     requires more { made ≤ next }
@@ -93,27 +93,27 @@ pub(crate) fn idle_until(sites: &mut [Site], made: u64, last: u64) -> u64
 }
 
 /// Whether no turn has anything to do before a frame comes: the last turns were idle, and each route waits for one.
-fn nothing_waits(lanes: &[Lane], idle: bool) -> bool
-    ensures idle { result ≡ true → idle ≡ true }
-    ensures waits { result ≡ true → AllWait lanes.now }
+pub(crate) fn nothing_waits(lanes: &[Lane], idle: bool) -> bool
+    requires { idle ≡ true → AllAskedInVain lanes.now }
+    ensures { result ≡ true → NoneHasToDo lanes.now }
 {
     idle && all_wait(lanes)
 }
 
 /// A stretch of bits at which each segment is ahead, or idles and no request waits there, and the turns behind them,
-/// where the last turns of all routes were idle and each route waits for a frame: so none of these turns has anything
-/// to do. Returns how many bits are made then, one is left to make at least; some segments may have made one more.
+/// where `waits` says that the last turns of all routes were idle and each route waits for a frame: so none of these
+/// turns has anything to do. Returns how many bits are made then, one is left to make at least; some segments may have made one more.
 pub(crate) fn stretch(
     sites: &mut [Site],
     lanes: &mut [Lane],
     schedules: &[Schedule],
-    idle: bool,
+    waits: bool,
     bits: u64,
     made: u64,
 ) -> u64
     requires world { WorldHolds sites.old lanes.old }
     requires made { HaveMade bits made sites.old }
-    requires asked { idle ≡ true → AllAskedInVain lanes.old }
+    requires waits { waits ≡ true → NoneHasToDo lanes.old }
     requires schedules { AreSchedules schedules.now }
     requires all { length lanes.old ≡ length schedules.now }
     requires turned { HaveTurned schedules.now made lanes.old }
@@ -127,8 +127,9 @@ pub(crate) fn stretch(
     ensures keeps { SitesKeep lanes.old sites.old sites.new }
     ensures least { made ≤ result }
     ensures still { result < bits }
+    ensures waits { waits ≡ true → NoneHasToDo lanes.new }
 {
-    if !nothing_waits(lanes, idle) {
+    if !waits {
         return made;
     }
     let next = idle_until(sites, made, bits - 1);

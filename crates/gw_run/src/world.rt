@@ -7,16 +7,17 @@ ghost use Rattle.gw_opening.specs.declared.lane.Lane.{Lane};
 ghost use Rattle.gw_run.specs.Ports.{Site};
 ghost use Rattle.gw_run.specs.Sites.{SiteHolds, SiteMoves};
 ghost use Rattle.gw_run.specs.Lanes.{AskedInVain};
-ghost use Rattle.gw_run.specs.Schedules.{AreSchedules, IsSchedule};
+ghost use Rattle.gw_run.specs.Schedules.{AreSchedules, IsSchedule, next_due};
 ghost use Rattle.gw_run.specs.Worlds.{AllAskedInVain, AllHavePast, CountsByIts, CountsTurns, Leads, LaneFills};
-ghost use Rattle.gw_run.specs.Worlds.{AllFull, LaneTurns, LanesKeep, NoneQueues, NoneTurns, SitesKeep, WorldHolds};
+ghost use Rattle.gw_run.specs.Worlds.{AllFull, LaneTurns, LanesKeep, NoneHasToDo, NoneQueues, NoneTurns, SitesKeep};
+ghost use Rattle.gw_run.specs.Worlds.{WorldHolds};
 ghost use Rattle.gw_run.specs.Worlds.{SameSegments, HaveMade, HaveMadeUpTo, HaveTurned, NoneShort};
 
 use crate::lane::turns_on;
 use crate::port::Site;
 use crate::schedule::{Schedule, first_due};
 use crate::site::bits_of;
-use crate::stretch::{idle_until, stretch};
+use crate::stretch::{idle_lanes, idle_until, nothing_waits, stretch};
 use can_frame::Memory;
 use gw_opening::Lane;
 use std::sync::Wait;
@@ -147,6 +148,7 @@ fn make_until<R: Wait>(
     ensures made { OnOk result (HaveMade bits until sites.new) }
     ensures turned { OnOk result (NoneTurns lanes.old lanes.new) }
     ensures full { OnOk result (made + 1 < until → AllFull lanes.new) }
+    ensures same { OnOk result (queues ≡ false → lanes.new ≡ lanes.old) }
     ensures short { OnOk result (NoneShort sites.old → NoneShort sites.new) }
     ensures lanes { OnOk result (LanesKeep lanes.old lanes.new) }
     ensures keeps { OnOk result (SitesKeep lanes.old sites.old sites.new) }
@@ -163,6 +165,50 @@ fn make_until<R: Wait>(
         make_bits(rt, sites, tick, bits)?;
     }
     Ok(())
+}
+
+/// Returns how many events these segments have in all.
+fn count_events(sites: &[Site]) -> usize {
+    let mut count = 0_usize;
+    for site in sites {
+        count = count.wrapping_add(site.segment.record().events.len());
+    }
+    count
+}
+
+/// The turns of the routes that are due behind tick `due`, the first one behind `made` at which any are: where `waits`
+/// says that none has anything to do, they are only counted. Returns whether the turns of all routes were due, and none
+/// had anything to do.
+fn make_turns<R: Wait>(
+    rt: &R,
+    sites: &mut [Site],
+    lanes: &mut [Lane],
+    schedules: &[Schedule],
+    waits: bool,
+    made: u64,
+    due: u64,
+) -> Result<bool, Memory>
+    requires world { WorldHolds sites.old lanes.old }
+    requires schedules { AreSchedules schedules.now }
+    requires all { length lanes.old ≡ length schedules.now }
+    requires waits { waits ≡ true → NoneHasToDo lanes.old }
+    requires turned { HaveTurned schedules.now made lanes.old }
+    requires later { made < due }
+    requires first { (k : ℕ) (schedule : Schedule) → slice_get schedules.now k ≡ Some schedule
+        → due ≤ next_due schedule made }
+    ensures world { OnOk result (WorldHolds sites.new lanes.new) }
+    ensures turned { OnOk result (HaveTurned schedules.now due lanes.new) }
+    ensures idle { IfOk result (λ idle. idle ≡ true → AllAskedInVain lanes.new) }
+    ensures short { OnOk result (NoneShort sites.old → NoneShort sites.new) }
+    ensures segments { OnOk result (SameSegments sites.old sites.new) }
+    ensures lanes { OnOk result (LanesKeep lanes.old lanes.new) }
+    ensures keeps { OnOk result (SitesKeep lanes.old sites.old sites.new) }
+{
+    if waits {
+        idle_lanes(lanes, schedules, made, due);
+        return Ok(true);
+    }
+    serve_all(rt, sites, lanes, schedules, due)
 }
 
 /// All bits of all segments, with the turns of the routes between them.
@@ -194,10 +240,14 @@ pub(crate) fn make_all<R: Wait>(
     let mut made = 0;
     let mut idle = false;
     while made < bits {
-        made = stretch(sites, lanes, schedules, idle, bits, made);
+        let waits = nothing_waits(lanes, idle);
+        made = stretch(sites, lanes, schedules, waits, bits, made);
         let due = first_due(schedules, made, bits);
+        let events = count_events(sites);
         make_until(rt, sites, lanes, queues, bits, made, due)?;
-        idle = serve_all(rt, sites, lanes, schedules, due)?;
+        // without an event no frame came
+        let waits = waits && !queues && count_events(sites) == events;
+        idle = make_turns(rt, sites, lanes, schedules, waits, made, due)?;
         made = due;
     }
     Ok(())

@@ -1,13 +1,14 @@
 use Rattle.std.proofs.Common.{◌+◌, arith}
 use Rattle.gw_run.proofs.Counted.{short_bits}
+use Rattle.gw_run.proofs.Stretches.{none_to_do}
 use Rattle.gw_run.proofs.Stretches.{far_made, idle_made, idle_moves, idle_turned, lanes_idled, made_up_to}
 use Rattle.gw_run.proofs.Stretches.{world_idled}
 use Rattle.gw_run.proofs.Worlds.{world_bits}
 use Rattle.gw_run.specs.Worlds.{idle_turns}
 use Rattle.gw_run.proofs.stretch.stretch.Goals as goal
 
-pub returns-then-not-nothing_waits-clause-made : goal.returns-then-not-nothing_waits-clause-made
-returns-then-not-nothing_waits-clause-made c =
+pub returns-then-not-waits-clause-made : goal.returns-then-not-waits-clause-made
+returns-then-not-waits-clause-made c =
     made_up_to c.args.bits c.args.made (c.args.made + 1) c.args.sites.now (omega arith) c.requires.made
 
 pub idle_until-next-requires-clause-may : goal.idle_until-next-requires-clause-may
@@ -40,8 +41,13 @@ pub returns-clause-lanes : goal.returns-clause-lanes
 returns-clause-lanes c = lanes_idled (idle_turns c.args.schedules.now c.args.made c.idle_until-next.result)
     c.args.lanes.now c.idle_lanes.new.lanes c.idle_lanes.ensures
 
-pub returns-then-not-nothing_waits-clause-far : goal.returns-then-not-nothing_waits-clause-far
-returns-then-not-nothing_waits-clause-far c = far_made c.args.bits c.args.made c.args.sites.now c.requires.made
+pub returns-then-not-waits-clause-far : goal.returns-then-not-waits-clause-far
+returns-then-not-waits-clause-far c = far_made c.args.bits c.args.made c.args.sites.now c.requires.made
 
 pub idle_until-next-requires-clause-far : goal.idle_until-next-requires-clause-far
 idle_until-next-requires-clause-far c = far_made c.args.bits c.args.made c.args.sites.now c.requires.made
+
+pub returns-clause-waits : goal.returns-clause-waits
+returns-clause-waits c is =
+    none_to_do (idle_turns c.args.schedules.now c.args.made c.idle_until-next.result) c.args.lanes.now
+    c.idle_lanes.new.lanes c.idle_lanes.ensures (c.requires.waits is)

@@ -1,7 +1,7 @@
 use Rattle.std.proofs.Common.{rules, ◌≡◌, arith, subst}
 use Rattle.std.proofs.lemmas.Result.{on_ok_weaker}
 use Rattle.gw_run.specs.Worlds.{HaveMade, HaveTurned}
-use Rattle.gw_run.proofs.Counted.{short_bits, turned_on}
+use Rattle.gw_run.proofs.Counted.{short_bits, turned_before}
 use Rattle.gw_run.proofs.Fills.{none_queues}
 use Rattle.gw_run.proofs.Passes.{lanes_start, lanes_on, made_turns}
 use Rattle.gw_run.proofs.Keeps.{sites-self, sites-on, sites_of_first}
@@ -42,18 +42,16 @@ loop-made-preserved g c =
     (sites_of_first first c.stretch-made.new.lanes c.stretch-made.new.sites c.make_until.new.sites lanes until.keeps)
     in (
       served.world,
-      made_turns c.args.bits due.result c.make_until.new.sites c.serve_all.new.sites served.segments until.made,
-      lanes_on first c.make_until.new.lanes c.serve_all.new.lanes lanes_until served.lanes,
-      sites-on first sites c.make_until.new.sites c.serve_all.new.sites keeps_until
-          (sites_of_first first c.make_until.new.lanes c.make_until.new.sites c.serve_all.new.sites lanes_until
+      made_turns c.args.bits due.result c.make_until.new.sites c.make_turns.new.sites served.segments until.made,
+      lanes_on first c.make_until.new.lanes c.make_turns.new.lanes lanes_until served.lanes,
+      sites-on first sites c.make_until.new.sites c.make_turns.new.sites keeps_until
+          (sites_of_first first c.make_until.new.lanes c.make_until.new.sites c.make_turns.new.sites lanes_until
           served.keeps),
-      turned_on c.args.schedules.now c.stretch-made.result due.result c.stretch-made.new.lanes c.make_until.new.lanes
-          c.serve_all.new.lanes c.requires.schedules due.ensures.later due.ensures.first until.turned served.counted
-          mid.turned,
+      served.turned,
       (λ h. served.short (until.short (mid.short (held.5 h)))),
       due.ensures.most,
       served.idle,
-      λ none. none_queues c.make_until.new.lanes c.serve_all.new.lanes served.lanes
+      λ none. none_queues c.make_until.new.lanes c.make_turns.new.lanes served.lanes
           (none_queues c.stretch-made.new.lanes c.make_until.new.lanes until.lanes
           (none_queues c.loop-made.lanes c.stretch-made.new.lanes mid.lanes (held.8 none))),
     )
@@ -81,3 +79,8 @@ returns-clause-turned g c =
     let held = c.loop-made.invariant in
     let all : c.loop-made.made ≡ c.args.bits = omega (arith, c.loop-made-test.false, held.6) in
     subst (λ n. HaveTurned c.args.schedules.now n c.loop-made.lanes) all held.4
+
+pub make_turns-requires-clause-turned : goal.make_turns-requires-clause-turned
+make_turns-requires-clause-turned g c =
+    turned_before c.args.schedules.now c.stretch-made.result c.stretch-made.new.lanes c.make_until.new.lanes
+    c.in_ok-make_until.ensures.turned c.stretch-made.ensures.turned
