@@ -246,8 +246,8 @@ pub(crate) fn make_all<R: Wait>(
         let events = count_events(sites);
         make_until(rt, sites, lanes, queues, bits, made, due)?;
         // without an event no frame came
-        let waits = waits && !queues && count_events(sites) == events;
-        idle = make_turns(rt, sites, lanes, schedules, waits, made, due)?;
+        let quiet = waits && !queues && count_events(sites) == events;
+        idle = make_turns(rt, sites, lanes, schedules, quiet, made, due)?;
         made = due;
     }
     Ok(())
